@@ -1,0 +1,4 @@
+pub mod Verdicts
+pub mod Bits
+pub mod Classes
+pub mod Services

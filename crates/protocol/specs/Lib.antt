@@ -1,0 +1,5 @@
+pub mod Refusal
+pub mod Verdict
+pub mod DataClass
+pub mod MessageType
+pub mod Service

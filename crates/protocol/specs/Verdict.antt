@@ -1,0 +1,73 @@
+-- Verdicts: rules are judged in order, and the first one broken decides.
+-- In this order: tests; one rule; a list of rules; what a writer answers and leaves.
+use Prim.Native.Nat.{ℕ}
+use mathlib.Core.Bool.{Bool, true, false}
+use mathlib.Core.List.{List, [], _∷_}
+use lib.Dec.{ltb}
+use lib.ListN.{length}
+use Rattle.wire.specs.Runs.{over}
+use Rattle.protocol.specs.Refusal.{refusal, outputTooSmall}
+use Rattle.protocol.specs.declared.Verdict.{Verdict}
+use Rattle.protocol.specs.declared.Verdict.the-variants.{Fits, Fault}
+use Rattle.protocol.specs.declared.Written.{Written}
+use Rattle.protocol.specs.declared.Written.the-variants.{Length, Refused}
+
+-- ---- tests
+
+-- the first where the test holds, else the second
+abbrev pub pick : {A : Type 0} → Bool → A → A → A
+pick true a b = a
+pick false a b = b
+
+abbrev pub both : Bool → Bool → Bool
+both a b = pick a b false
+
+abbrev pub either : Bool → Bool → Bool
+either a b = pick a true b
+
+-- ---- one rule
+
+unfoldable pub faultIf : Bool → ℕ → ℕ → Verdict
+faultIf true n p = Fault (refusal n p)
+faultIf false n p = Fits
+
+unfoldable pub firstOf : Verdict → Verdict → Verdict
+firstOf Fits b = b
+firstOf (Fault r) b = Fault r
+
+-- ---- rules: broken, number, place; the first broken one decides
+
+pub record Rule : Type 0 where
+  pub broken : Bool
+  pub number : ℕ
+  pub place : ℕ
+
+abbrev pub rule : Bool → ℕ → ℕ → Rule
+rule b n p = record { broken = b; number = n; place = p }
+
+-- the verdict v, then the rules
+unfoldable pub judgeFrom : Verdict → List Rule → Verdict
+judgeFrom v [] = v
+judgeFrom v (r ∷ rs) = judgeFrom (firstOf v (faultIf (r .broken) (r .number) (r .place))) rs
+
+abbrev pub judge : List Rule → Verdict
+judge rs = judgeFrom Fits rs
+
+-- ---- what a writer answers, and what its output then holds
+
+pub record Writing : Type 0 where
+  pub answer : Written
+  pub output : List ℕ
+
+-- by the verdict, the bytes b given into the output s
+unfoldable pub given : Verdict → List ℕ → List ℕ → Writing
+given Fits b s = record { answer = Length (length b); output = over b s }
+given (Fault r) b s = record { answer = Refused r; output = s }
+
+-- a writer's judgement: of what it is to write, then of the room in the output s for the bytes b
+unfoldable pub withRoom : Verdict → List ℕ → List ℕ → Verdict
+withRoom v b s = firstOf v (faultIf (ltb (length s) (length b)) outputTooSmall (length b))
+
+-- what a writer of the bytes b does with the output s, where v judges what is to be written
+unfoldable pub writing : Verdict → List ℕ → List ℕ → Writing
+writing v b s = given (withRoom v b s) b s

@@ -1,0 +1,90 @@
+// What document 01 fixes for every payload and message: versions, refusals and verdicts here; data
+// classes, message types, and services with their CIDs in modules. No payload is known here.
+pub mod data_class;
+pub mod message_type;
+pub mod service;
+
+ghost use mathlib.Core.Path.{_≡_};
+ghost use Rattle.protocol.specs.Verdict.{firstOf, faultIf};
+
+// The version of the extensions: 1.00 or 2.00.
+pub enum Version {
+    V1,
+    V2,
+}
+
+// 01's refusal: a number of its table and a place, a byte offset where 01 says no other.
+pub struct Refusal {
+    pub number: u32,
+    pub place: usize,
+}
+
+// The numbers of 01's table.
+pub const TOO_SHORT: u32 = 1;
+
+pub const WRONG_LENGTH: u32 = 2;
+
+pub const UNKNOWN: u32 = 3;
+
+pub const WRONG_FRAGMENT: u32 = 4;
+
+pub const TOO_LONG: u32 = 5;
+
+pub const WRONG_OFFSET: u32 = 6;
+
+pub const PAST_END: u32 = 7;
+
+pub const WRONG_SIZE: u32 = 8;
+
+pub const OUTSIDE_TABLE: u32 = 9;
+
+pub const CONTRADICTION: u32 = 10;
+
+pub const OUTPUT_TOO_SMALL: u32 = 11;
+
+pub const WRONG_VERSION: u32 = 12;
+
+pub const ABOVE_HOST: u32 = 13;
+
+pub const VERSION_NOT_LISTED: u32 = 14;
+
+pub const WRONG_COUNT: u32 = 15;
+
+pub const WRONG_TRANSFER_SIZE: u32 = 16;
+
+// What a judge finds: all rules are kept, or the refusal of the first one broken.
+pub enum Verdict {
+    Fits,
+    Fault(Refusal),
+}
+
+// What a writer answers: how many bytes it put at the front of the output, or a refusal.
+pub enum Written {
+    Length(usize),
+    Refused(Refusal),
+}
+
+// The verdict so far, and one more rule.
+pub fn also(verdict: Verdict, broken: bool, number: u32, place: usize) -> Verdict
+    ensures { λ r. ⌜ r ≡ firstOf verdict (faultIf broken number place) ⌝ }
+{
+    match verdict {
+        Verdict::Fits => {
+            if broken {
+                return Verdict::Fault(Refusal { number, place });
+            }
+            Verdict::Fits
+        }
+        Verdict::Fault(refusal) => Verdict::Fault(refusal),
+    }
+}
+
+// The first verdict, and then the second.
+pub fn first(a: Verdict, b: Verdict) -> Verdict
+    ensures { λ r. ⌜ r ≡ firstOf a b ⌝ }
+{
+    match a {
+        Verdict::Fits => b,
+        Verdict::Fault(refusal) => Verdict::Fault(refusal),
+    }
+}
