@@ -2,8 +2,8 @@
 -- Assumes nothing.
 use mathlib.Core.Path.{_≡_, refl, sym, ap, _∙_, subst}
 use mathlib.Core.Logic.{_⊎_, inl, inr, ⊎-elim}
-use mathlib.Core.Bool.{Bool, true, false}
-use mathlib.Core.List.{List, [], _∷_}
+use mathlib.Core.Bool.{Bool, true, false, _&&_, _||_}
+use mathlib.Core.List.{List, [], _∷_, List·Memᴰ, List·Memᴰ·head, List·Memᴰ·tail}
 use Prim.Native.Nat.{ℕ, zero, suc, _+_, _-_, _*_, _/_, _%_, _^_, _≤_, _<_}
 use native.Mathlib.Nat.{one-mul, zero-mul}
 use native.Mathlib.Omega.{arith}
@@ -14,24 +14,24 @@ use lib.Bits.{bitAnd, and-zero-l}
 use lib.Count.{ones}
 use Rattle.protocol.specs.declared.Version.{Version}
 use Rattle.protocol.specs.declared.Version.the-variants.{V1, V2}
-use Rattle.protocol.specs.Verdict.{pick, both, either}
-use Rattle.protocol.specs.DataClass.{classBits, sumOfBits, maskOf, isBit, oneClass, oneClassOrNone}
+use Rattle.protocol.specs.DataClass.{classBits, sumOfBits, maskOf, isBit, oneClass, oneClassOrNone, IsClass}
+use Rattle.protocol.proofs.Tests.{or-cases, cases-or}
 use Rattle.protocol.proofs.Bits.{ones-none, ones-one, ones-power, and-power}
 
 -- a test passes at each number below n, and at each of a list
 allBelow : (ℕ → Bool) → ℕ → Bool
 allBelow f zero = true
-allBelow f (suc n) = both (f zero) (allBelow (λ k. f (suc k)) n)
+allBelow f (suc n) = f zero && allBelow (λ k. f (suc k)) n
 
 allOf : (ℕ → Bool) → List ℕ → Bool
 allOf f [] = true
-allOf f (k ∷ ks) = both (f k) (allOf f ks)
+allOf f (k ∷ ks) = f k && allOf f ks
 
-both-left : (a b : Bool) → T (both a b) → T a
+both-left : (a b : Bool) → T (a && b) → T a
 both-left true b t = tt
 both-left false b t = t
 
-both-right : (a b : Bool) → T (both a b) → T b
+both-right : (a b : Bool) → T (a && b) → T b
 both-right true b t = t
 both-right false b t = absurd t
 
@@ -47,7 +47,7 @@ below-at f (suc n) t (suc k) h = below-at (λ j. f (suc j)) n (both-right (f zer
 
 -- a digit of the mask below 32 is in the table, and each of the table is a digit of the mask
 digit : Version → ℕ → Bool
-digit v k = either (eqb (maskOf v / 2 ^ k % 2) 0) (isBit (classBits v) (2 ^ k))
+digit v k = eqb (maskOf v / 2 ^ k % 2) 0 || isBit (classBits v) (2 ^ k)
 
 masked : Version → ℕ → Bool
 masked v k = eqb (maskOf v / 2 ^ k % 2) 1
@@ -149,3 +149,27 @@ outside-one v c h = sym (not-none v c (λ e. h (ap (λ (x : ℕ). bitAnd x (mask
 pub masks : (maskOf V1 ≡ 0x807F003F) × (maskOf V2 ≡ 0x807F00FF)
 unfolding maskOf sumOfBits classBits
 masks = (refl, refl)
+
+-- ---- the tests in words of bits
+
+In : List ℕ → ℕ → Type 0
+In ks c = (k : ℕ) × (List·Memᴰ k ks × (c ≡ 2 ^ k))
+
+bit-in : (ks : List ℕ) (c : ℕ) → isBit ks c ≡ true → In ks c
+unfolding isBit In
+bit-in [] c e = let z : _≡_ {A = ℕ} 0 1 = cc in absurd (omega arith)
+bit-in (k ∷ ks) c e =
+    ⊎-elim (λ h. (k, (List·Memᴰ·head refl, eqb-true c (2 ^ k) h))) (λ h. let r = bit-in ks c h in (r .0, (List·Memᴰ·tail (r .1 .0), r .1 .1)))
+    (or-cases (eqb c (2 ^ k)) (isBit ks c) e)
+
+in-bit : (ks : List ℕ) (c k : ℕ) → List·Memᴰ k ks → c ≡ 2 ^ k → isBit ks c ≡ true
+unfolding isBit
+in-bit (x ∷ ks) c k (List·Memᴰ·head p) e = cases-or (eqb c (2 ^ x)) (isBit ks c) (inl (eq-eqb c (2 ^ x) (e ∙ ap (λ (j : ℕ). 2 ^ j) p)))
+in-bit (x ∷ ks) c k (List·Memᴰ·tail m) e = cases-or (eqb c (2 ^ x)) (isBit ks c) (inr (in-bit ks c k m e))
+
+pub class-said : (v : Version) (c : ℕ) → oneClass v c ≡ true → IsClass v c
+unfolding In
+class-said v c e = bit-in (classBits v) c e
+
+pub said-class : (v : Version) (c : ℕ) → IsClass v c → oneClass v c ≡ true
+said-class v c (k, (m, e)) = in-bit (classBits v) c k m e

@@ -3,15 +3,15 @@
 use mathlib.Core.Path.{_≡_, refl, sym, ap, _∙_}
 use mathlib.Core.Bool.{Bool, true, false}
 use mathlib.Core.List.{List, [], _∷_}
-use Prim.Native.Nat.{ℕ, zero, suc, _≤_}
+use Prim.Native.Nat.{ℕ, _≤_, _<_}
 use native.Mathlib.Omega.{arith}
-use borrow.Author.Tests.{ltb-false}
+use borrow.Author.Tests.{ltb-false, lt-ltb, le-ltb}
 use lib.Dec.{ltb}
-use lib.ListN.{length, getD, take}
+use lib.ListN.{length, take}
 use Rattle.wire.specs.Runs.{over}
 use Rattle.wire.proofs.Laws.{take-over}
-use Rattle.protocol.specs.Refusal.{outputTooSmall}
-use Rattle.protocol.specs.Verdict.{faultIf, firstOf, Rule, rule, judgeFrom, judge, given, withRoom, writing}
+use Rattle.protocol.specs.Refusal.{refusal, tooShort, wrongLength, outputTooSmall}
+use Rattle.protocol.specs.Verdict.{faultIf, firstOf, Rule, rule, judgeFrom, judge, Kept, exactLength, given, withRoom, writing}
 use Rattle.protocol.specs.declared.Refusal.{Refusal}
 use Rattle.protocol.specs.declared.Verdict.{Verdict}
 use Rattle.protocol.specs.declared.Verdict.the-variants.{Fits, Fault}
@@ -34,20 +34,50 @@ unfolding faultIf
 not-broken true n p e = let z : _≡_ {A = ℕ} 0 1 = cc in absurd (omega arith)
 not-broken false n p e = refl
 
-from-fits : (rs : List Rule) (v : Verdict) → judgeFrom v rs ≡ Fits → v ≡ Fits
+from-kept : (rs : List Rule) (v : Verdict) → judgeFrom v rs ≡ Fits → (v ≡ Fits) × Kept rs
 unfolding judgeFrom
-from-fits [] v e = e
-from-fits (r ∷ rs) v e = left-fits v _ (from-fits rs _ e)
+from-kept [] v e = (e, tt)
+from-kept (r ∷ rs) v e =
+    let k = from-kept rs (firstOf v (faultIf (r .broken) (r .number) (r .place))) e in
+    (left-fits v _ (k .0), (not-broken (r .broken) (r .number) (r .place) (right-fits v _ (k .0)), k .1))
 
-from-kept : (rs : List Rule) (v : Verdict) → judgeFrom v rs ≡ Fits → (k : ℕ) → getD rs k (rule false 0 0) .broken ≡ false
-unfolding judgeFrom
-from-kept [] v e k = refl
-from-kept (r ∷ rs) v e zero = not-broken (r .broken) (r .number) (r .place) (right-fits v _ (from-fits rs _ e))
-from-kept (r ∷ rs) v e (suc k) = from-kept rs _ e k
+-- ---- rules fit exactly where each is kept
 
--- where the rules are all kept, the k-th is
-pub kept : (rs : List Rule) → judge rs ≡ Fits → (k : ℕ) → getD rs k (rule false 0 0) .broken ≡ false
-kept rs e k = from-kept rs Fits e k
+pub fits-kept : (rs : List Rule) → judge rs ≡ Fits → Kept rs
+fits-kept rs e = from-kept rs Fits e .1
+
+pub kept-fits : (rs : List Rule) → Kept rs → judge rs ≡ Fits
+unfolding judgeFrom faultIf firstOf
+kept-fits [] k = refl
+kept-fits (r ∷ rs) k = rw (k .0) (kept-fits rs (k .1))
+
+-- a verdict and rules after it fit exactly where both do
+pub then-kept : (v : Verdict) (rs : List Rule) → firstOf v (judge rs) ≡ Fits → (v ≡ Fits) × Kept rs
+then-kept v rs e = (left-fits v (judge rs) e, fits-kept rs (right-fits v (judge rs) e))
+
+pub kept-then : (v : Verdict) (rs : List Rule) → v ≡ Fits → Kept rs → firstOf v (judge rs) ≡ Fits
+unfolding firstOf
+kept-then v rs e k = rw e (kept-fits rs k)
+
+-- a payload has its exact length exactly where the verdict fits
+pub exact-length : (fixed n : ℕ) → exactLength fixed n ≡ Fits → n ≡ fixed
+unfolding exactLength
+exact-length fixed n e =
+    let k = fits-kept (rule (ltb n fixed) tooShort n ∷ rule (ltb fixed n) wrongLength n ∷ []) e in
+    omega (arith, ltb-false n fixed (k .0), ltb-false fixed n (k .1 .0))
+
+pub length-exact : (fixed n : ℕ) → n ≡ fixed → exactLength fixed n ≡ Fits
+unfolding exactLength
+length-exact fixed n e = kept-fits _ (le-ltb n fixed (omega arith), (le-ltb fixed n (omega arith), tt))
+
+-- a payload that is shorter or longer is refused at its length
+pub length-short : (fixed n : ℕ) → n < fixed → exactLength fixed n ≡ Fault (refusal tooShort n)
+unfolding exactLength judgeFrom faultIf firstOf
+length-short fixed n h = rw (lt-ltb n fixed h)
+
+pub length-long : (fixed n : ℕ) → fixed < n → exactLength fixed n ≡ Fault (refusal wrongLength n)
+unfolding exactLength judgeFrom faultIf firstOf
+length-long fixed n h = let l : fixed ≤ n = omega arith in rw (le-ltb n fixed l, lt-ltb fixed n h)
 
 -- ---- writers
 

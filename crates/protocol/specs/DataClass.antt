@@ -1,11 +1,11 @@
 -- Data classes (document 01, "Payload layouts"): "bits 0 to 5, 16 to 22 and 31 at 1.00; also 40h and 80h at 2.00".
 -- In this order: the table; the tests of a field by the table. The masks 807F003Fh and 807F00FFh are the table's sums (proofs/Classes).
 use Prim.Native.Nat.{ℕ, _+_, _^_}
-use mathlib.Core.Bool.{Bool, true, false}
-use mathlib.Core.List.{List, [], _∷_, _++_}
+use mathlib.Core.Path.{_≡_}
+use mathlib.Core.Bool.{Bool, false, _||_}
+use mathlib.Core.List.{List, [], _∷_, _++_, List·Memᴰ}
 use lib.Bits.{bitAnd}
 use lib.Dec.{eqb}
-use Rattle.protocol.specs.Verdict.{either}
 use Rattle.protocol.specs.declared.Version.{Version}
 use Rattle.protocol.specs.declared.Version.the-variants.{V1, V2}
 
@@ -31,7 +31,7 @@ maskOf v = sumOfBits (classBits v)
 -- c is one of the bits
 unfoldable pub isBit : List ℕ → ℕ → Bool
 isBit [] c = false
-isBit (k ∷ ks) c = either (eqb c (2 ^ k)) (isBit ks c)
+isBit (k ∷ ks) c = eqb c (2 ^ k) || isBit ks c
 
 -- every bit of c is a class
 abbrev pub onlyClasses : Version → ℕ → Bool
@@ -41,4 +41,8 @@ abbrev pub oneClass : Version → ℕ → Bool
 oneClass v c = isBit (classBits v) c
 
 abbrev pub oneClassOrNone : Version → ℕ → Bool
-oneClassOrNone v c = either (eqb c 0) (oneClass v c)
+oneClassOrNone v c = eqb c 0 || oneClass v c
+
+-- the same in words: c is 2 to the power of one of the table's bits
+abbrev pub IsClass : Version → ℕ → Type 0
+IsClass v c = (k : ℕ) × (List·Memᴰ k (classBits v) × (c ≡ 2 ^ k))

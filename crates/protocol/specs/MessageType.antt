@@ -1,9 +1,8 @@
 -- Message types (document 01, "Messages and fragments"): the whole ones and the fragmented ones.
 use Prim.Native.Nat.{ℕ}
-use mathlib.Core.Bool.{Bool, false}
+use mathlib.Core.Bool.{Bool, false, _||_}
 use mathlib.Core.List.{List, [], _∷_}
 use lib.Dec.{eqb}
-use Rattle.protocol.specs.Verdict.{either}
 
 abbrev pub OPEN : ℕ
 OPEN = 1
@@ -34,7 +33,7 @@ INDICATE-STATUS = 0x80000007
 
 abbrev pub isIn : List ℕ → ℕ → Bool
 isIn [] n = false
-isIn (k ∷ ks) n = either (eqb n k) (isIn ks n)
+isIn (k ∷ ks) n = eqb n k || isIn ks n
 
 unfoldable pub isWhole : ℕ → Bool
 isWhole = isIn (OPEN ∷ CLOSE ∷ HOST-ERROR ∷ OPEN-DONE ∷ CLOSE-DONE ∷ FUNCTION-ERROR ∷ [])

@@ -1,12 +1,11 @@
 -- Known services and their CIDs (document 01, "Known services"): "service ids are 16 bytes in printed order".
 -- In this order: the ids as printed; an id as four words; the CIDs of each service; what a service and a CID stand for.
 use Prim.Native.Nat.{ℕ, _+_}
-use mathlib.Core.Bool.{Bool}
+use mathlib.Core.Bool.{Bool, cond, _&&_}
 use mathlib.Core.List.{List, [], _∷_, _++_}
 use lib.Dec.{eqb}
 use Rattle.wire.specs.Numbers.{u32At, digits}
 use Rattle.protocol.specs.Refusal.{refusal, unknown}
-use Rattle.protocol.specs.Verdict.{pick, both}
 use Rattle.protocol.specs.declared.service.ServiceId.{ServiceId}
 use Rattle.protocol.specs.declared.service.Kind.{Kind}
 use Rattle.protocol.specs.declared.service.Kind.the-variants.{RegisterState, PacketService, SignalState, DeviceServices, VersionInfo}
@@ -34,8 +33,7 @@ unfoldable pub idBytes : ServiceId → List ℕ
 idBytes i = digits 4 (i .word0) ++ (digits 4 (i .word1) ++ (digits 4 (i .word2) ++ digits 4 (i .word3)))
 
 unfoldable pub sameId : ServiceId → ServiceId → Bool
-sameId a b =
-    both (eqb (a .word0) (b .word0)) (both (eqb (a .word1) (b .word1)) (both (eqb (a .word2) (b .word2)) (eqb (a .word3) (b .word3))))
+sameId a b = eqb (a .word0) (b .word0) && (eqb (a .word1) (b .word1) && (eqb (a .word2) (b .word2) && eqb (a .word3) (b .word3)))
 
 -- ---- the CIDs of each service, and the payload that each carries
 
@@ -56,10 +54,10 @@ extensionsCids = row 15 VersionInfo ∷ []
 
 unfoldable pub among : ℕ → List Row → Carried
 among cid [] = Refused (refusal unknown 36)
-among cid (r ∷ rs) = pick (eqb cid (r .cid)) (Payload (r .kind)) (among cid rs)
+among cid (r ∷ rs) = cond (eqb cid (r .cid)) (Payload (r .kind)) (among cid rs)
 
 unfoldable pub kindOf : ServiceId → ℕ → Carried
 kindOf id cid =
-    pick (sameId id (idAt basicConnect 0)) (among cid basicConnectCids)
-    (pick (sameId id (idAt extensions 0)) (among cid extensionsCids)
+    cond (sameId id (idAt basicConnect 0)) (among cid basicConnectCids)
+    (cond (sameId id (idAt extensions 0)) (among cid extensionsCids)
     (Refused (refusal unknown 20)))

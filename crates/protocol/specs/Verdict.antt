@@ -1,29 +1,17 @@
 -- Verdicts: rules are judged in order, and the first one broken decides.
--- In this order: tests; one rule; a list of rules; what a writer answers and leaves.
+-- In this order: one rule; a list of rules; a payload's length; what a writer answers and leaves.
 use Prim.Native.Nat.{ℕ}
+use mathlib.Core.Path.{_≡_}
 use mathlib.Core.Bool.{Bool, true, false}
 use mathlib.Core.List.{List, [], _∷_}
 use lib.Dec.{ltb}
 use lib.ListN.{length}
 use Rattle.wire.specs.Runs.{over}
-use Rattle.protocol.specs.Refusal.{refusal, outputTooSmall}
+use Rattle.protocol.specs.Refusal.{refusal, tooShort, wrongLength, tooLong, outputTooSmall}
 use Rattle.protocol.specs.declared.Verdict.{Verdict}
 use Rattle.protocol.specs.declared.Verdict.the-variants.{Fits, Fault}
 use Rattle.protocol.specs.declared.Written.{Written}
 use Rattle.protocol.specs.declared.Written.the-variants.{Length, Refused}
-
--- ---- tests
-
--- the first where the test holds, else the second
-abbrev pub pick : {A : Type 0} → Bool → A → A → A
-pick true a b = a
-pick false a b = b
-
-abbrev pub both : Bool → Bool → Bool
-both a b = pick a b false
-
-abbrev pub either : Bool → Bool → Bool
-either a b = pick a true b
 
 -- ---- one rule
 
@@ -52,6 +40,21 @@ judgeFrom v (r ∷ rs) = judgeFrom (firstOf v (faultIf (r .broken) (r .number) (
 
 abbrev pub judge : List Rule → Verdict
 judge rs = judgeFrom Fits rs
+
+-- each rule is kept
+abbrev pub Kept : List Rule → Type 0
+Kept [] = Unit
+Kept (r ∷ rs) = (r .broken ≡ false) × Kept rs
+
+-- ---- a payload's length: "length (1, 2, then 5)"
+
+-- n bytes given where the length is exactly `fixed`
+unfoldable pub exactLength : ℕ → ℕ → Verdict
+exactLength fixed n = judge (rule (ltb n fixed) tooShort n ∷ rule (ltb fixed n) wrongLength n ∷ [])
+
+-- n bytes given where texts or lists follow a fixed part
+unfoldable pub openLength : ℕ → ℕ → Verdict
+openLength fixed n = judge (rule (ltb n fixed) tooShort n ∷ rule (ltb 4096 n) tooLong 0 ∷ [])
 
 -- ---- what a writer answers, and what its output then holds
 

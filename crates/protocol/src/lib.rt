@@ -5,7 +5,7 @@ pub mod message_type;
 pub mod service;
 
 ghost use mathlib.Core.Path.{_≡_};
-ghost use Rattle.protocol.specs.Verdict.{firstOf, faultIf};
+ghost use Rattle.protocol.specs.Verdict.{firstOf, faultIf, exactLength, openLength};
 
 // The version of the extensions: 1.00 or 2.00.
 pub enum Version {
@@ -52,6 +52,9 @@ pub const WRONG_COUNT: u32 = 15;
 
 pub const WRONG_TRANSFER_SIZE: u32 = 16;
 
+// The most information bytes of a message.
+pub const MOST_INFORMATION: usize = 4096;
+
 // What a judge finds: all rules are kept, or the refusal of the first one broken.
 pub enum Verdict {
     Fits,
@@ -87,4 +90,20 @@ pub fn first(a: Verdict, b: Verdict) -> Verdict
         Verdict::Fits => b,
         Verdict::Fault(refusal) => Verdict::Fault(refusal),
     }
+}
+
+// The verdict on n bytes of a payload whose length is exactly `fixed`.
+pub fn judge_exact_length(fixed: usize, n: usize) -> Verdict
+    ensures { λ r. ⌜ r ≡ exactLength fixed n ⌝ }
+{
+    let short = also(Verdict::Fits, n < fixed, TOO_SHORT, n);
+    also(short, fixed < n, WRONG_LENGTH, n)
+}
+
+// The verdict on n bytes of a payload with a fixed part and texts or lists after it.
+pub fn judge_open_length(fixed: usize, n: usize) -> Verdict
+    ensures { λ r. ⌜ r ≡ openLength fixed n ⌝ }
+{
+    let short = also(Verdict::Fits, n < fixed, TOO_SHORT, n);
+    also(short, MOST_INFORMATION < n, TOO_LONG, 0)
 }
