@@ -173,3 +173,10 @@ class-said v c e = bit-in (classBits v) c e
 
 pub said-class : (v : Version) (c : ℕ) → IsClass v c → oneClass v c ≡ true
 said-class v c (k, (m, e)) = in-bit (classBits v) c k m e
+
+pub none-or-class : (v : Version) (c : ℕ) → oneClassOrNone v c ≡ true → (c ≡ 0) ⊎ IsClass v c
+none-or-class v c e = ⊎-elim (λ h. inl (eqb-true c 0 h)) (λ h. inr (class-said v c h)) (or-cases (eqb c 0) (oneClass v c) e)
+
+pub class-or-none : (v : Version) (c : ℕ) → (c ≡ 0) ⊎ IsClass v c → oneClassOrNone v c ≡ true
+class-or-none v c (inl e) = cases-or (eqb c 0) (oneClass v c) (inl (eq-eqb c 0 e))
+class-or-none v c (inr h) = cases-or (eqb c 0) (oneClass v c) (inr (said-class v c h))

@@ -5,6 +5,8 @@ use mathlib.Core.Logic.{_⊎_, inl, inr}
 use mathlib.Core.Bool.{Bool, true, false, not, _&&_, _||_}
 use Prim.Native.Nat.{ℕ}
 use native.Mathlib.Omega.{arith}
+use borrow.Author.Tests.{eqb-true, eq-eqb}
+use lib.Dec.{eqb}
 
 pub or-cases : (a b : Bool) → (a || b) ≡ true → (a ≡ true) ⊎ (b ≡ true)
 or-cases true b e = inl refl
@@ -30,3 +32,10 @@ not-kept false e = let z : _≡_ {A = ℕ} 0 1 = cc in absurd (omega arith)
 
 pub kept-not : (a : Bool) → a ≡ true → not a ≡ false
 kept-not a e = rw e
+
+-- a number that has to be another is
+pub equal-kept : (a b : ℕ) → not (eqb a b) ≡ false → a ≡ b
+equal-kept a b e = eqb-true a b (not-kept (eqb a b) e)
+
+pub kept-equal : (a b : ℕ) → a ≡ b → not (eqb a b) ≡ false
+kept-equal a b e = kept-not (eqb a b) (eq-eqb a b e)

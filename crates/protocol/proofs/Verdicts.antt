@@ -8,8 +8,8 @@ use native.Mathlib.Omega.{arith}
 use borrow.Author.Tests.{ltb-false, lt-ltb, le-ltb}
 use lib.Dec.{ltb}
 use lib.ListN.{length, take}
-use Rattle.wire.specs.Runs.{over}
-use Rattle.wire.proofs.Laws.{take-over}
+use lib.Seq.{sets}
+use Rattle.wire.proofs.Laws.{sets-over, take-over}
 use Rattle.protocol.specs.Refusal.{refusal, tooShort, wrongLength, outputTooSmall}
 use Rattle.protocol.specs.Verdict.{faultIf, firstOf, Rule, rule, judgeFrom, judge, Kept, exactLength, given, withRoom, writing}
 use Rattle.protocol.specs.declared.Refusal.{Refusal}
@@ -91,6 +91,27 @@ pub was-fit : (v : Verdict) (b s : List ℕ) → withRoom v b s ≡ Fits → v �
 unfolding withRoom
 was-fit v b s e = left-fits v _ e
 
+-- the code's judgement of the room, with the bytes' length n
+room : (v : Verdict) (b s : List ℕ) (n : ℕ) → length b ≡ n → firstOf v (faultIf (ltb (length s) n) outputTooSmall n) ≡ withRoom v b s
+unfolding withRoom
+room v b s n e = rw e
+
+-- a writer that judges the room and then stores the bytes does what `writing` says
+pub wrote : (v : Verdict) (b s : List ℕ) (n : ℕ) {t : List ℕ} → length b ≡ n → firstOf v (faultIf (ltb (length s) n) outputTooSmall n) ≡ Fits
+    → t ≡ sets s 0 b → (Length n ≡ writing v b s .answer) × (t ≡ writing v b s .output)
+unfolding writing given
+wrote v b s n e f p =
+    let w : withRoom v b s ≡ Fits = sym (room v b s n e) ∙ f in
+    (rw (w, e), rw w (p ∙ sets-over b s (has-room v b s w)))
+
+pub refused : (v : Verdict) (b s : List ℕ) (n : ℕ) (r : Refusal) → length b ≡ n
+    → firstOf v (faultIf (ltb (length s) n) outputTooSmall n) ≡ Fault r
+    → (Refused r ≡ writing v b s .answer) × (s ≡ writing v b s .output)
+unfolding writing given
+refused v b s n r e f =
+    let w : withRoom v b s ≡ Fault r = sym (room v b s n e) ∙ f in
+    (rw w, rw w)
+
 -- the answer tells the judgement: a length is that of the bytes, which stand at the front
 pub told-length : (d : Verdict) (b s : List ℕ) (n : ℕ) → given d b s .answer ≡ Length n → (d ≡ Fits) × (length b ≡ n)
 unfolding given
@@ -107,3 +128,8 @@ unfolding writing given
 written-front v b s n e =
     let t = told-length (withRoom v b s) b s n e in
     rw (t .0) (take-over b s n (t .1))
+
+-- what was written was judged to fit
+pub written-fits : (v : Verdict) (b s : List ℕ) (n : ℕ) → writing v b s .answer ≡ Length n → v ≡ Fits
+unfolding writing
+written-fits v b s n e = was-fit v b s (told-length (withRoom v b s) b s n e .0)

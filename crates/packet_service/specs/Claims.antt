@@ -1,0 +1,45 @@
+-- What is claimed of the PACKET_SERVICE payload beside the promises: the rules in words of fields, and the width of each field.
+use Prim.Native.Nat.{ℕ, _≤_, _<_, _^_}
+use mathlib.Core.Path.{_≡_}
+use mathlib.Core.Logic.{_⊎_}
+use mathlib.Core.List.{List}
+use lib.ListN.{length}
+use Rattle.wire.specs.Numbers.{u32At}
+use Rattle.protocol.specs.DataClass.{IsClass}
+use Rattle.protocol.specs.declared.Version.{Version}
+use Rattle.protocol.specs.declared.Version.the-variants.{V1, V2}
+use Rattle.packet_service.specs.declared.PacketForm.{PacketForm}
+use Rattle.packet_service.specs.declared.PacketForm.the-variants.{V1 as Form1, V2 as Form2}
+use Rattle.packet_service.specs.declared.PacketService.{PacketService}
+use Rattle.packet_service.specs.PacketService.{lengthOf}
+
+-- ---- the rules in words of fields
+
+-- at 2.00 the range is 0 to 3, the class 0 unless the state is 2, and the range 0 unless the class is 40h or 80h
+pub record LaterFits (state class range : ℕ) : Type 0 where
+  pub small : range ≤ 3
+  pub attached : (class ≡ 0) ⊎ (state ≡ 2)
+  pub ranged : (range ≡ 0) ⊎ ((class ≡ 0x40) ⊎ (class ≡ 0x80))
+
+abbrev pub FormFits : Version → List ℕ → Type 0
+FormFits V1 s = Unit
+FormFits V2 s = LaterFits (u32At s 4) (u32At s 8) (u32At s 28)
+
+pub record Acceptable (v : Version) (s : List ℕ) : Type 0 where
+  pub long : length s ≡ lengthOf v
+  pub state : u32At s 4 ≤ 4
+  pub class : (u32At s 8 ≡ 0) ⊎ IsClass v (u32At s 8)
+  pub form : FormFits v s
+
+-- ---- each field is of its width
+
+abbrev pub FormSized : PacketForm → Type 0
+FormSized (Form1 class) = class < 2 ^ 32
+FormSized (Form2 class range) = (class < 2 ^ 32) × (range < 2 ^ 32)
+
+pub record Sized (p : PacketService) : Type 0 where
+  pub error : p .«nw_error» < 2 ^ 32
+  pub state : p .«packet_service_state» < 2 ^ 32
+  pub up : p .«uplink_speed» < 2 ^ 64
+  pub down : p .«downlink_speed» < 2 ^ 64
+  pub form : FormSized (p .form)

@@ -1,0 +1,2 @@
+pub mod PacketService
+pub mod Claims
