@@ -1,0 +1,2 @@
+pub mod VersionInfo
+pub mod Claims
