@@ -1,0 +1,137 @@
+-- Laws of ASCII text, each in the form that a loop asks for.
+-- Assumes nothing.
+use mathlib.Core.Path.{_≡_, refl, sym, ap, _∙_}
+use mathlib.Core.Bool.{true, false, not}
+use mathlib.Core.List.{List, [], _∷_, _++_, append-assoc}
+use Prim.Native.Nat.{ℕ, zero, suc, _+_, _*_, _-_, _/_, _%_, _^_, _≤_, _<_}
+use native.Mathlib.Nat.{pow-suc}
+use native.Mathlib.Numerals.{add-one}
+use native.Mathlib.Omega.{arith}
+use borrow.Author.Tests.{lt-ltb, le-ltb, eq-eqb, ne-eqb}
+use lib.Dec.{eqb}
+use lib.ListN.{length, length-append, length-set, getD, set, take, drop, drop-of-length-le}
+use lib.Seq.{sets, set-split, drop-at, drop-cons, length-take-le}
+use Rattle.wire.proofs.Laws.{sets-append}
+use Rattle.ascii.specs.Ascii.{decimalIn, hexDigit, hexValue, hexRun, unhexed, agreement, through}
+
+-- ---- decimal: digits stored from the last one on
+
+drop-set-same : (l : List ℕ) (j a : ℕ) → j < length l → drop j (set l j a) ≡ a ∷ drop (suc j) l
+drop-set-same l j a h = ap (drop j) (set-split l j a h) ∙ drop-at (take j l) (a ∷ drop (suc j) l) j (length-take-le j l (omega arith))
+
+-- the digits of `rest`, at most i of them, and those stored from i on are the whole text
+abbrev pub Stage : List ℕ → ℕ → ℕ → List ℕ → Type 0
+Stage all i rest bytes = (1 ≤ i) × (i ≤ 20) × (length bytes ≡ 20) × (rest < 10 ^ i) × (decimalIn i rest ++ drop i bytes ≡ all)
+
+longer : (k n : ℕ) → 10 ≤ n → decimalIn (suc k) n ≡ decimalIn k (n / 10) ++ ((48 + n % 10) ∷ [])
+unfolding decimalIn
+longer k n l = rw (le-ltb n 10 l)
+
+pub stage-more : (i rest : ℕ) (bytes all : List ℕ) → Stage all i rest bytes → 10 ≤ rest
+    → Stage all (i - 1) (rest / 10) (set bytes (i - 1) (48 + rest % 10))
+stage-more zero rest bytes all h l = absurd (omega arith)
+stage-more (suc zero) rest bytes all h l = absurd (omega arith)
+stage-more (suc (suc j)) rest bytes all h l =
+    let e : suc (suc j) - 1 ≡ suc j = omega arith in
+    let d = 48 + rest % 10 in
+    rw e
+    (omega arith,
+    omega arith,
+    length-set bytes (suc j) d ∙ h .2,
+    omega (arith, pow-suc 10 (suc j)),
+    ap (λ (x : List ℕ). decimalIn (suc j) (rest / 10) ++ x) (drop-set-same bytes (suc j) d (omega (arith, h .2)))
+    ∙ sym (append-assoc (decimalIn (suc j) (rest / 10)) (d ∷ []) (drop (suc (suc j)) bytes))
+    ∙ ap (λ (x : List ℕ). x ++ drop (suc (suc j)) bytes) (sym (longer (suc j) rest l))
+    ∙ h .4)
+
+pub stage-last : (i rest : ℕ) (bytes all : List ℕ) → Stage all i rest bytes → rest < 10 → drop (i - 1) (set bytes (i - 1) (48 + rest)) ≡ all
+unfolding decimalIn
+stage-last zero rest bytes all h l = absurd (omega arith)
+stage-last (suc j) rest bytes all h l =
+    let e : suc j - 1 ≡ j = omega arith in
+    rw e (drop-set-same bytes j (48 + rest) (omega (arith, h .2)) ∙ (rw (lt-ltb rest 10 l) at (h .4)))
+
+-- ---- hexadecimal
+
+-- the digits that s begins with, counted one by one
+pub run-more : (s : List ℕ) (i : ℕ) → i < length s → (hexDigit (getD s i 0) ≡ 16 → ⊥) → i + hexRun (drop i s) ≡ hexRun s
+    → i + 1 + hexRun (drop (i + 1) s) ≡ hexRun s
+unfolding hexRun
+run-more s i h n e =
+    let more : hexRun (drop i s) ≡ suc (hexRun (drop (suc i) s)) = rw (drop-cons s i 0 h, ne-eqb (hexDigit (getD s i 0)) 16 n) in
+    rw (add-one i) (omega (arith, more))
+
+pub run-stop : (s : List ℕ) (i : ℕ) → i < length s → hexDigit (getD s i 0) ≡ 16 → i + hexRun (drop i s) ≡ hexRun s → i ≡ hexRun s
+unfolding hexRun
+run-stop s i h n e =
+    let none : hexRun (drop i s) ≡ 0 = rw (drop-cons s i 0 h, eq-eqb (hexDigit (getD s i 0)) 16 n) in
+    omega arith
+
+pub run-end : (s : List ℕ) (i : ℕ) → length s ≤ i → i + hexRun (drop i s) ≡ hexRun s → i ≡ hexRun s
+unfolding hexRun
+run-end s i h e = let none : hexRun (drop i s) ≡ 0 = rw (drop-of-length-le s h) in omega arith
+
+pub length-unhexed : (n : ℕ) (s : List ℕ) → length (unhexed n s) ≡ n
+unfolding unhexed
+length-unhexed zero s = refl
+length-unhexed (suc n) s =
+    length-append (unhexed n s) ((16 * hexValue (getD s (2 * n) 0) + hexValue (getD s (2 * n + 1) 0)) ∷ []) ∙ omega (arith, length-unhexed n s)
+
+-- one byte more is spelled
+pub unhex-more : (n : ℕ) (s o : List ℕ) {o₁ o₂ : List ℕ} {high low : ℕ} → o₁ ≡ sets o 0 (unhexed n s)
+    → high ≡ hexValue (getD s (2 * n) 0) → low ≡ hexValue (getD s (2 * n + 1) 0) → o₂ ≡ set o₁ n (16 * high + low)
+    → o₂ ≡ sets o 0 (unhexed (n + 1) s)
+unfolding unhexed
+unhex-more n s o p h l q =
+    let b = 16 * hexValue (getD s (2 * n) 0) + hexValue (getD s (2 * n + 1) 0) in
+    let a : sets o 0 (unhexed n s ++ (b ∷ [])) ≡ sets (sets o 0 (unhexed n s)) (0 + length (unhexed n s)) (b ∷ []) = sets-append (unhexed n s) (b ∷ []) o 0 in
+    let z : 0 + length (unhexed n s) ≡ n = omega (arith, length-unhexed n s) in
+    q ∙ rw (p, h, l, add-one n, a, z)
+
+-- ---- how far a text goes
+
+none-left : (w : List ℕ) → agreement [] w ≡ 0
+unfolding agreement
+none-left [] = refl
+none-left (x ∷ w) = refl
+
+pub agree-more : (s w : List ℕ) (i : ℕ) → i < length s → i < length w → getD s i 0 ≡ getD w i 0
+    → i + agreement (drop i s) (drop i w) ≡ agreement s w → i + 1 + agreement (drop (i + 1) s) (drop (i + 1) w) ≡ agreement s w
+unfolding agreement
+agree-more s w i h k n e =
+    let more : agreement (drop i s) (drop i w) ≡ suc (agreement (drop (suc i) s) (drop (suc i) w)) =
+    rw (drop-cons s i 0 h, drop-cons w i 0 k, eq-eqb (getD s i 0) (getD w i 0) n) in
+    rw (add-one i) (omega (arith, more))
+
+pub agree-stop : (s w : List ℕ) (i : ℕ) → i < length s → i < length w → (getD s i 0 ≡ getD w i 0 → ⊥)
+    → i + agreement (drop i s) (drop i w) ≡ agreement s w → i ≡ agreement s w
+unfolding agreement
+agree-stop s w i h k n e =
+    let none : agreement (drop i s) (drop i w) ≡ 0 = rw (drop-cons s i 0 h, drop-cons w i 0 k, ne-eqb (getD s i 0) (getD w i 0) n) in
+    omega arith
+
+pub agree-short : (s w : List ℕ) (i : ℕ) → length s ≤ i → i + agreement (drop i s) (drop i w) ≡ agreement s w → i ≡ agreement s w
+agree-short s w i h e =
+    let none : agreement (drop i s) (drop i w) ≡ 0 = rw (drop-of-length-le s h) (none-left (drop i w)) in
+    omega arith
+
+pub agree-end : (s w : List ℕ) (i : ℕ) → length w ≤ i → i + agreement (drop i s) (drop i w) ≡ agreement s w → i ≡ agreement s w
+unfolding agreement
+agree-end s w i h e = let none : agreement (drop i s) (drop i w) ≡ 0 = rw (drop-of-length-le w h) in omega arith
+
+pub through-more : (s : List ℕ) (x i : ℕ) → i < length s → (getD s i 0 ≡ x → ⊥) → i + through (drop i s) x ≡ through s x
+    → i + 1 + through (drop (i + 1) s) x ≡ through s x
+unfolding through
+through-more s x i h n e =
+    let more : through (drop i s) x ≡ suc (through (drop (suc i) s) x) = rw (drop-cons s i 0 h, ne-eqb (getD s i 0) x n) in
+    rw (add-one i) (omega (arith, more))
+
+pub through-stop : (s : List ℕ) (x i : ℕ) → i < length s → getD s i 0 ≡ x → i + through (drop i s) x ≡ through s x → i + 1 ≡ through s x
+unfolding through
+through-stop s x i h n e =
+    let one : through (drop i s) x ≡ 1 = rw (drop-cons s i 0 h, eq-eqb (getD s i 0) x n) in
+    omega arith
+
+pub through-end : (s : List ℕ) (x i : ℕ) → length s ≤ i → i + through (drop i s) x ≡ through s x → i ≡ through s x
+unfolding through
+through-end s x i h e = let none : through (drop i s) x ≡ 0 = rw (drop-of-length-le s h) in omega arith
