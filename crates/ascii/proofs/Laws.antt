@@ -1,18 +1,23 @@
 -- Laws of ASCII text, each in the form that a loop asks for.
 -- Assumes nothing.
 use mathlib.Core.Path.{_≡_, refl, sym, ap, _∙_}
-use mathlib.Core.Bool.{true, false, not}
+use mathlib.Core.Bool.{Bool, true, false, cond, not}
 use mathlib.Core.List.{List, [], _∷_, _++_, append-assoc}
 use Prim.Native.Nat.{ℕ, zero, suc, _+_, _*_, _-_, _/_, _%_, _^_, _≤_, _<_}
 use native.Mathlib.Nat.{pow-suc}
 use native.Mathlib.Numerals.{add-one}
 use native.Mathlib.Omega.{arith}
 use borrow.Author.Tests.{lt-ltb, le-ltb, eq-eqb, ne-eqb}
-use lib.Dec.{eqb}
+use lib.Dec.{ltb, eqb}
 use lib.ListN.{length, length-append, length-set, getD, set, take, drop, drop-of-length-le}
 use lib.Seq.{sets, set-split, drop-at, drop-cons, length-take-le}
 use Rattle.wire.proofs.Laws.{sets-append}
-use Rattle.ascii.specs.Ascii.{decimalIn, hexDigit, hexValue, hexRun, unhexed, agreement, through}
+use Rattle.ascii.specs.Ascii.{decimalIn, valueFrom, hexDigit, isHex, hexValue, hexRun, unhexed, agreement, through}
+
+-- what holds of both sides of a test holds of what it picks
+by-test : {A : Type 0} (P : A → Type 0) (t : Bool) {a b : A} → P a → P b → P (cond t a b)
+by-test P true p q = p
+by-test P false p q = q
 
 -- ---- decimal: digits stored from the last one on
 
@@ -34,15 +39,16 @@ stage-more (suc zero) rest bytes all h l = absurd (omega arith)
 stage-more (suc (suc j)) rest bytes all h l =
     let e : suc (suc j) - 1 ≡ suc j = omega arith in
     let d = 48 + rest % 10 in
-    rw e
-    (omega arith,
-    omega arith,
-    length-set bytes (suc j) d ∙ h .2,
-    omega (arith, pow-suc 10 (suc j)),
-    ap (λ (x : List ℕ). decimalIn (suc j) (rest / 10) ++ x) (drop-set-same bytes (suc j) d (omega (arith, h .2)))
-    ∙ sym (append-assoc (decimalIn (suc j) (rest / 10)) (d ∷ []) (drop (suc (suc j)) bytes))
-    ∙ ap (λ (x : List ℕ). x ++ drop (suc (suc j)) bytes) (sym (longer (suc j) rest l))
-    ∙ h .4)
+    rw e (
+      omega arith,
+      omega arith,
+      length-set bytes (suc j) d ∙ h .2,
+      omega (arith, pow-suc 10 (suc j)),
+      ap (λ (x : List ℕ). decimalIn (suc j) (rest / 10) ++ x) (drop-set-same bytes (suc j) d (omega (arith, h .2)))
+          ∙ sym (append-assoc (decimalIn (suc j) (rest / 10)) (d ∷ []) (drop (suc (suc j)) bytes))
+          ∙ ap (λ (x : List ℕ). x ++ drop (suc (suc j)) bytes) (sym (longer (suc j) rest l))
+          ∙ h .4,
+    )
 
 pub stage-last : (i rest : ℕ) (bytes all : List ℕ) → Stage all i rest bytes → rest < 10 → drop (i - 1) (set bytes (i - 1) (48 + rest)) ≡ all
 unfolding decimalIn
@@ -50,6 +56,27 @@ stage-last zero rest bytes all h l = absurd (omega arith)
 stage-last (suc j) rest bytes all h l =
     let e : suc j - 1 ≡ j = omega arith in
     rw e (drop-set-same bytes j (48 + rest) (omega (arith, h .2)) ∙ (rw (lt-ltb rest 10 l) at (h .4)))
+
+-- a number of at most k digits has no more
+pub length-decimal : (k n : ℕ) → length (decimalIn k n) ≤ k
+unfolding decimalIn
+length-decimal zero n = omega arith
+length-decimal (suc k) n =
+    by-test (λ (x : List ℕ). length x ≤ suc k) (ltb n 10) (omega arith)
+    (omega (arith, length-append (decimalIn k (n / 10)) ((48 + n % 10) ∷ []), length-decimal k (n / 10)))
+
+value-more : (a d : ℕ) (s : List ℕ) → valueFrom a (s ++ (d ∷ [])) ≡ 10 * valueFrom a s + (d - 48)
+unfolding valueFrom
+value-more a d [] = refl
+value-more a d (x ∷ s) = value-more (10 * a + (x - 48)) d s
+
+-- the digits of n spell n
+pub decimal-spells : (k n : ℕ) → n < 10 ^ k → valueFrom 0 (decimalIn k n) ≡ n
+unfolding decimalIn valueFrom
+decimal-spells zero n h = omega arith
+decimal-spells (suc k) n h =
+    by-test (λ (x : List ℕ). valueFrom 0 x ≡ n) (ltb n 10) (omega arith)
+    (value-more 0 (48 + n % 10) (decimalIn k (n / 10)) ∙ omega (arith, decimal-spells k (n / 10) (omega (arith, pow-suc 10 k))))
 
 -- ---- hexadecimal
 
@@ -90,7 +117,7 @@ unhex-more n s o p h l q =
 
 -- ---- how far a text goes
 
-none-left : (w : List ℕ) → agreement [] w ≡ 0
+pub none-left : (w : List ℕ) → agreement [] w ≡ 0
 unfolding agreement
 none-left [] = refl
 none-left (x ∷ w) = refl
@@ -119,6 +146,13 @@ pub agree-end : (s w : List ℕ) (i : ℕ) → length w ≤ i → i + agreement 
 unfolding agreement
 agree-end s w i h e = let none : agreement (drop i s) (drop i w) ≡ 0 = rw (drop-of-length-le w h) in omega arith
 
+-- an agreement is no longer than the word
+pub agreement-le : (s w : List ℕ) → agreement s w ≤ length w
+unfolding agreement
+agreement-le s [] = omega arith
+agreement-le [] (x ∷ w) = omega arith
+agreement-le (b ∷ s) (x ∷ w) = by-test (λ (k : ℕ). k ≤ suc (length w)) (eqb b x) (omega (arith, agreement-le s w)) (omega arith)
+
 pub through-more : (s : List ℕ) (x i : ℕ) → i < length s → (getD s i 0 ≡ x → ⊥) → i + through (drop i s) x ≡ through s x
     → i + 1 + through (drop (i + 1) s) x ≡ through s x
 unfolding through
@@ -135,3 +169,20 @@ through-stop s x i h n e =
 pub through-end : (s : List ℕ) (x i : ℕ) → length s ≤ i → i + through (drop i s) x ≡ through s x → i ≡ through s x
 unfolding through
 through-end s x i h e = let none : through (drop i s) x ≡ 0 = rw (drop-of-length-le s h) in omega arith
+
+-- a text that is not empty goes on
+pub through-some : (s : List ℕ) (x : ℕ) → 0 < length s → 0 < through s x
+unfolding through
+through-some [] x h = absurd (omega arith)
+through-some (b ∷ s) x h = by-test (λ (k : ℕ). 0 < k) (eqb b x) (omega arith) (omega arith)
+
+pub through-le : (s : List ℕ) (x : ℕ) → through s x ≤ length s
+unfolding through
+through-le [] x = omega arith
+through-le (b ∷ s) x = by-test (λ (k : ℕ). k ≤ suc (length s)) (eqb b x) (omega arith) (omega (arith, through-le s x))
+
+-- a run of digits is no longer than the text
+pub run-le : (s : List ℕ) → hexRun s ≤ length s
+unfolding hexRun
+run-le [] = omega arith
+run-le (b ∷ s) = by-test (λ (k : ℕ). k ≤ suc (length s)) (isHex b) (omega (arith, run-le s)) (omega arith)

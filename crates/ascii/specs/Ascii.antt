@@ -23,6 +23,11 @@ decimalIn (suc k) n = cond (ltb n 10) ((48 + n) ∷ []) (decimalIn k (n / 10) ++
 abbrev pub decimal : ℕ → List ℕ
 decimal n = decimalIn 20 n
 
+-- the number that decimal digits spell, behind the number a
+unfoldable pub valueFrom : ℕ → List ℕ → ℕ
+valueFrom a [] = a
+valueFrom a (d ∷ s) = valueFrom (10 * a + (d - 48)) s
+
 -- ---- hexadecimal, of either case
 
 abbrev pub digitIn : ℕ → ℕ → ℕ → ℕ → ℕ → ℕ

@@ -83,6 +83,16 @@ pub fn agree(s: &[u8], word: &[u8]) -> usize
     i
 }
 
+// The same from a place of s on.
+pub fn agree_at(s: &[u8], at: usize, word: &[u8]) -> usize
+    ensures { λ r. ⌜ r ≡ agreement (drop at (now (s .entry))) (now (word .entry)) ⌝ }
+{
+    if s.len() < at {
+        return 0;
+    }
+    agree(&s[at..], word)
+}
+
 // How many bytes s has up to the first b, with it; all of them where there is none.
 pub fn length_through(s: &[u8], b: u8) -> usize
     ensures { λ r. ⌜ r ≡ through (now (s .entry)) b ⌝ }

@@ -33,9 +33,11 @@ said-fields : (s : List ℕ) → Acceptable s → Kept (rules (recordAt s))
 unfolding rules recordAt
 said-fields s a = (
   kept-equal (u16At s 0) 0x0100 (a .mbim),
-  (kept-not (isExtension (u16At s 2))
-  (cases-or (eqb (u16At s 2) 0x0100) (eqb (u16At s 2) 0x0200) (⊎-map (eq-eqb (u16At s 2) 0x0100) (eq-eqb (u16At s 2) 0x0200) (a .extension))),
-  tt),
+  (
+    kept-not (isExtension (u16At s 2))
+        (cases-or (eqb (u16At s 2) 0x0100) (eqb (u16At s 2) 0x0200) (⊎-map (eq-eqb (u16At s 2) 0x0100) (eq-eqb (u16At s 2) 0x0200) (a .extension))),
+    tt,
+  ),
 )
 
 shows : (d : Verdict) (i j : VersionInfo) → shown d i ≡ Info j → (d ≡ Fits) × (i ≡ j)

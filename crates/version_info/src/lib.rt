@@ -25,11 +25,15 @@ pub enum VersionInfoRead {
 }
 
 pub const MBIM_1_0: u16 = 0x0100;
+
 pub const EXTENSIONS_1_0: u16 = 0x0100;
+
 pub const EXTENSIONS_2_0: u16 = 0x0200;
 
 const BCD_MBIM_VERSION: usize = 0;
+
 const BCD_MBIM_EXTENDED_VERSION: usize = 2;
+
 const LENGTH: usize = 4;
 
 pub fn read(payload: &[u8]) -> VersionInfoRead

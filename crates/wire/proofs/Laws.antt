@@ -7,8 +7,8 @@ use Prim.Native.Nat.{ℕ, zero, suc, _+_, _*_, _/_, _%_, _^_, _-_, _≤_, _<_}
 use native.Mathlib.Nat.{zero-add, add-zero, add-suc, suc-add}
 use native.Mathlib.Numerals.{add-one}
 use native.Mathlib.Omega.{arith}
-use lib.ListN.{length, getD, set, take, drop, List·getD-eq-default, length-append, replicate, replicate-append-replicate}
-use lib.Seq.{sets, length-sets, sets-eq, set-out, getD-set-other, length-take-le, take-suc, take-length, take-at, drop-at}
+use lib.ListN.{length, getD, set, take, drop, List·getD-eq-default, length-append, length-drop, replicate, replicate-append-replicate}
+use lib.Seq.{sets, length-sets, sets-eq, set-out, getD-set-other, length-take-le, take-suc, take-all, take-length, take-at, drop-at}
 use Rattle.wire.specs.Numbers.{num, digits}
 use Rattle.wire.specs.Runs.{fitted, over}
 
@@ -23,6 +23,10 @@ num-out (suc n) s at h = omega (arith, num-out n s (suc at) (omega arith), List�
 pub sets-out : (vs s : List ℕ) (at : ℕ) → length s ≤ at → sets s at vs ≡ s
 sets-out [] s at h = refl
 sets-out (v ∷ vs) s at h = rw (set-out s at v h) (sets-out vs s (suc at) (omega arith))
+
+-- a part of a slice that goes to the end is what is left behind its start
+pub take-rest : (at : ℕ) (s : List ℕ) → take (length s - at) (drop at s) ≡ drop at s
+take-rest at s = take-all (length s - at) (drop at s) (rw (length-drop at s) (omega arith))
 
 -- ---- a number and its bytes
 

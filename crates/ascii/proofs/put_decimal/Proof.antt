@@ -4,10 +4,9 @@ use mathlib.Core.Path.{_≡_, refl, sym, ap, _∙_}
 use mathlib.Core.List.{List}
 use Prim.Native.Nat.{ℕ, _≤_, _-_}
 use native.Mathlib.Omega.{arith}
-use lib.ListN.{length, take, drop, length-drop}
-use lib.Seq.{sets, take-all}
-use Rattle.wire.specs.Runs.{fitted}
-use Rattle.wire.proofs.Laws.{fitted-all}
+use lib.ListN.{length, take, drop}
+use lib.Seq.{sets}
+use Rattle.wire.proofs.Laws.{fitted-all, take-rest}
 use Rattle.ascii.specs.Ascii.{decimal}
 use Rattle.ascii.proofs.put_decimal.Statement.{statement}
 use Rattle.ascii.proofs.put_decimal.Tie as tie
@@ -23,7 +22,7 @@ returns c =
     let b = c .before .before .before .before .before .before .before .digits-of .result .bytes in
     let f = c .before .before .before .before .before .before .before .digits-of .result .from in
     let t : take (length b - f) (drop f b) ≡ decimal (c .before .before .before .before .before .before .before .before .before .args .n) =
-    take-all (length b - f) (drop f b) (rw (length-drop f b) (omega arith)) ∙ c .before .before .before .before .before .before .before .digits-of .ensures .0 in
+    take-rest f b ∙ c .before .before .before .before .before .before .before .digits-of .ensures .0 in
     (ap length t, c .before .before .put-run .ensures ∙ ap (sets (c .before .before .before .before .before .before .before .before .before .args .out .now) (c .before .before .before .before .before .before .before .before .before .args .at)) (fitted-all (take (length b - f) (drop f b)) ∙ t))
 
 pub put-decimal-spec : {M : Type 1} → statement M
