@@ -164,7 +164,8 @@ run-past n at room s t l h =
     let e : room + (n - room) ≡ n = omega arith in
     ap (λ (j : ℕ). sets s at (fitted j t)) (sym e) ∙ past (n - room) at room s t h
 
-fitted-take : (n : ℕ) (t : List ℕ) → n ≤ length t → fitted n t ≡ take n t
+-- a run that its text fills
+pub fitted-take : (n : ℕ) (t : List ℕ) → n ≤ length t → fitted n t ≡ take n t
 unfolding fitted
 fitted-take zero t h = refl
 fitted-take (suc n) t h = rw (fitted-take n t (omega arith), take-suc t n 0 h)

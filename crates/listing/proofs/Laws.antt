@@ -1,0 +1,83 @@
+-- Texts put one behind another, the payload that digits spell, and a line's part of a chunk.
+-- Assumes nothing.
+use mathlib.Core.Path.{_≡_, sym, ap, _∙_}
+use mathlib.Core.List.{List, [], _++_}
+use Prim.Native.Nat.{ℕ, _+_, _-_, _/_, _≤_, _<_}
+use native.Mathlib.Numerals.{add-one}
+use native.Mathlib.Omega.{arith}
+use lib.ListN.{length, length-append, length-drop, set, take, drop, drop-of-length-le}
+use lib.Seq.{sets, length-take-le}
+use Rattle.wire.specs.Runs.{over, fitted}
+use Rattle.wire.proofs.Laws.{sets-append, sets-over, take-over, take-rest, fitted-take}
+use Rattle.ascii.specs.Ascii.{decimal, unhexed, through}
+use Rattle.ascii.proofs.Laws.{length-decimal, length-unhexed, through-le, through-some}
+use Rattle.listing.specs.Lines.{lineLength, lineBytes}
+use Rattle.listing.specs.Rows.{Put, field}
+
+-- a text and the one behind it
+pub put-then : {s s₁ s₂ : List ℕ} {at n₁ n₂ : ℕ} {x y : List ℕ} → Put s at x s₁ n₁ → Put s₁ n₁ y s₂ n₂ → Put s at (x ++ y) s₂ n₂
+put-then {s} {s₁} {s₂} {at} {n₁} {n₂} {x} {y} p q = record {
+  stored = q .stored ∙ (λ i. sets (p .stored i) (p .ends i) y) ∙ sym (sets-append x y s at);
+  ends = q .ends ∙ omega (arith, p .ends, length-append x y);
+}
+
+-- a tab and the digits behind it
+pub put-digits : (value : ℕ) (s : List ℕ) (at : ℕ) {s₁ s₂ : List ℕ} {n : ℕ} → s₁ ≡ set s at 9 → s₂ ≡ sets s₁ (at + 1) (decimal value)
+    → n ≡ length (decimal value) → Put s at (field value) s₂ (at + 1 + n)
+unfolding field
+put-digits value s at {s₁} p q e = record {
+  stored = q ∙ (λ i. sets (p i) (add-one at i) (decimal value));
+  ends = omega (arith, e);
+}
+
+pub short-digits : (value n : ℕ) → n ≡ length (decimal value) → n ≤ 20
+short-digits value n e = omega (arith, length-decimal 20 value)
+
+-- a text put at the front of an output that has room for it
+pub put-over : {s t : List ℕ} {text : List ℕ} {n : ℕ} → Put s 0 text t n → n ≤ length s → (n ≡ length text) × (t ≡ over text s)
+put-over {s} {t} {text} {n} p h =
+    let e : n ≡ length text = omega (arith, p .ends) in
+    (e, p .stored ∙ sets-over text s (omega arith))
+
+-- ---- the payload that the digits of a line spell
+
+part-length : (line : List ℕ) (from n : ℕ) → from + n ≤ length line → length (take n (drop from line)) ≡ n
+part-length line from n h = length-take-le n (drop from line) (rw (length-drop from line) (omega arith))
+
+pub spelled-front : (line : List ℕ) (from n : ℕ) (p : List ℕ) {q : List ℕ} → from + n ≤ length line → n ≤ 16384 → 8192 ≡ length p
+    → q ≡ sets p 0 (unhexed (length (take (from + n - from) (drop from line)) / 2) (take (from + n - from) (drop from line)))
+    → take (n / 2) q ≡ unhexed (n / 2) (take n (drop from line))
+spelled-front line from n p h l e g =
+    let m : from + n - from ≡ n = omega arith in
+    let d = take n (drop from line) in
+    let x : length d ≡ n = part-length line from n h in
+    let f : unhexed (length d / 2) d ≡ unhexed (n / 2) d = ap (λ (k : ℕ). unhexed (k / 2) d) x in
+    let y : length (unhexed (n / 2) d) ≡ n / 2 = length-unhexed (n / 2) d in
+    ap (take (n / 2)) ((rw m at g) ∙ ap (sets p 0) f ∙ sets-over (unhexed (n / 2) d) p (omega arith)) ∙ take-over (unhexed (n / 2) d) p (n / 2) y
+
+-- ---- a line's part of a chunk
+
+pub line-length : (chunk : List ℕ) (from : ℕ) {n : ℕ} → n ≡ through (take (length chunk - from) (drop from chunk)) 10 → n ≡ lineLength chunk from
+unfolding lineLength
+line-length chunk from e = e ∙ ap (λ (x : List ℕ). through x 10) (take-rest from chunk)
+
+pub line-le : (chunk : List ℕ) (from : ℕ) → from < length chunk → from + lineLength chunk from ≤ length chunk
+unfolding lineLength
+line-le chunk from h = omega (arith, through-le (drop from chunk) 10, length-drop from chunk)
+
+pub line-some : (chunk : List ℕ) (from : ℕ) → from < length chunk → 0 < lineLength chunk from
+unfolding lineLength
+line-some chunk from h = through-some (drop from chunk) 10 (rw (length-drop from chunk) (omega arith))
+
+pub line-put : (chunk : List ℕ) (from n : ℕ) → from < length chunk → n ≡ lineLength chunk from
+    → fitted n (take (length chunk - from) (drop from chunk)) ≡ lineBytes chunk from
+unfolding lineBytes
+line-put chunk from n h e =
+    ap (fitted n) (take-rest from chunk)
+    ∙ fitted-take n (drop from chunk) (rw (length-drop from chunk) (omega (arith, line-le chunk from h)))
+    ∙ ap (λ (k : ℕ). take k (drop from chunk)) e
+
+-- from the end of a chunk on there is nothing
+pub line-none : (chunk : List ℕ) (from : ℕ) → length chunk ≤ from → lineBytes chunk from ≡ []
+unfolding lineBytes lineLength through
+line-none chunk from h = rw (drop-of-length-le chunk h)

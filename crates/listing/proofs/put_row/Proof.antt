@@ -1,0 +1,20 @@
+-- The name, the number and the line feed, one behind the other.
+use borrow.Author.Needs.{needs}
+use native.Mathlib.Omega.{arith}
+use Rattle.listing.specs.Rows.{row}
+use Rattle.listing.proofs.Laws.{put-then}
+use Rattle.listing.proofs.put_row.Statement.{statement}
+use Rattle.listing.proofs.put_row.Tie as tie
+
+put-field-requires : tie.Need-put-field-requires
+put-field-requires c κs = omega (arith, c .before .before .before .put-text .ensures .ends)
+
+put-text-requires-2 : tie.Need-put-text-requires-2
+put-text-requires-2 c κs = omega (arith, c .before .before .before .before .before .before .before .before .put-text .ensures .ends, c .before .before .before .before .put-field .ensures .1)
+
+returns : tie.Need-returns
+unfolding row
+returns c = (put-then (c .before .before .before .before .before .before .before .before .before .before .before .put-text .ensures) (put-then (c .before .before .before .before .before .before .before .put-field .ensures .0) (c .before .before .put-text2 .ensures)), omega (arith, c .before .before .before .before .before .before .before .before .before .before .before .put-text .ensures .ends, c .before .before .before .before .before .before .before .put-field .ensures .1, c .before .before .put-text2 .ensures .ends))
+
+pub put-row-spec : {M : Type 1} → statement M
+put-row-spec = tie.close (tie.spec (λ c. search needs) put-field-requires (λ c. search needs) put-text-requires-2 (λ c. search needs) returns)

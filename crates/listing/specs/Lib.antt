@@ -1,0 +1,4 @@
+pub mod Rows
+pub mod Request
+pub mod Lines
+pub mod Listing

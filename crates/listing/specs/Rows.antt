@@ -1,0 +1,42 @@
+-- The rows of a listing (document 01, "Cases worked out"): "fields parted by one tab, each line ended by a line feed".
+-- In this order: the rows; what a function that puts text leaves.
+use Prim.Native.Nat.{ℕ, _+_}
+use mathlib.Core.Path.{_≡_}
+use mathlib.Core.List.{List, [], _∷_, _++_}
+use lib.ListN.{length}
+use lib.Seq.{sets}
+use Rattle.protocol.specs.declared.Refusal.{Refusal}
+use Rattle.ascii.specs.Ascii.{ascii, decimal}
+
+-- ---- the rows
+
+abbrev pub tab : ℕ
+tab = 9
+
+abbrev pub lineFeed : ℕ
+lineFeed = 10
+
+unfoldable pub header : List ℕ
+header = ascii "field\tvalue\n"
+
+-- a tab and a number
+unfoldable pub field : ℕ → List ℕ
+field value = tab ∷ decimal value
+
+unfoldable pub row : List ℕ → ℕ → List ℕ
+row name value = name ++ (field value ++ (lineFeed ∷ []))
+
+-- "a refusal is one line: refused, number, place"
+unfoldable pub refusedLine : Refusal → List ℕ
+refusedLine r = ascii "refused" ++ (field (r .number) ++ (field (r .place) ++ (lineFeed ∷ [])))
+
+-- a line that has not the form of a request, with the column
+unfoldable pub badLine : ℕ → List ℕ
+badLine column = row (ascii "bad line") column
+
+-- ---- what a function that puts text leaves
+
+-- the output s became t with the text at a place of it, and `next` is the place behind the text
+pub record Put (s : List ℕ) (at : ℕ) (text t : List ℕ) (next : ℕ) : Type 0 where
+  pub stored : t ≡ sets s at text
+  pub ends : next ≡ at + length text

@@ -1,0 +1,159 @@
+// One request line: kind, tab, version, tab, the payload in hexadecimal, line feed.
+use ascii::agree_at;
+use ascii::hex_run;
+use protocol::Version;
+use wire::byte_at;
+ghost use mathlib.Core.Path.{_≡_};
+ghost use Prim.Native.Nat.{_+_, _≤_, max};
+ghost use lib.ListN.{length, take, drop};
+ghost use Rattle.ascii.specs.Ascii.{hexRun};
+ghost use Rattle.listing.specs.Request.{word, alsoWord, reachFrom, kindWords, versionWords, kindOf, kindLength, versionOf, digitsAt, payloadAt, requestOf};
+
+// What a listing can be asked of.
+pub enum ListingKind {
+    PacketService,
+    Version,
+}
+
+pub enum Request {
+    // The payload's digits stand in the line from `from` on.
+    Payload {
+        kind: ListingKind,
+        version: Version,
+        from: usize,
+        digits: usize,
+    },
+    // The first column where no good line can go on or end.
+    BadLine(usize),
+}
+
+// The word of a table that stands in the line, or the column up to which one could.
+pub enum Reached {
+    Word(u32),
+    Column(usize),
+}
+
+const LINE_FEED: u8 = 10;
+// The most digits of a line: those of 8,192 bytes.
+const MOST_DIGITS: usize = 16384;
+
+pub fn request_of(line: &[u8]) -> Request
+    ensures { λ r. ⌜ r ≡ requestOf (now (line .entry)) ⌝ }
+{
+    match kind_at(line) {
+        Reached::Column(column) => Request::BadLine(column),
+        Reached::Word(number) => {
+            let kind = kind_of(number);
+            let at = kind_length(kind);
+            match version_at(line, at) {
+                Reached::Column(column) => Request::BadLine(column),
+                Reached::Word(number) => payload_at(line, kind, version_of(number), at + 5),
+            }
+        }
+    }
+}
+
+// The rest of a line whose payload begins at `from`.
+fn payload_at(line: &[u8], kind: ListingKind, version: Version, from: usize) -> Request
+    requires { ⌜ from ≤ 64 ⌝ }
+    ensures { λ r. ⌜ r ≡ payloadAt (now (line .entry)) kind version from ⌝ }
+{
+    let digits = digits_at(line, from);
+    let end = from + digits;
+    if digits % 2 == 1 {
+        return Request::BadLine(end);
+    }
+    if byte_at(line, end) != LINE_FEED {
+        return Request::BadLine(end);
+    }
+    if line.len() != end + 1 {
+        return Request::BadLine(end + 1);
+    }
+    Request::Payload {
+        kind,
+        version,
+        from,
+        digits,
+    }
+}
+
+// How many digits stand from `from` on, up to the most of a line.
+fn digits_at(line: &[u8], from: usize) -> usize
+    requires { ⌜ from ≤ 64 ⌝ }
+    ensures { λ r. ⌜ r ≡ digitsAt (now (line .entry)) from ⌝ }
+{
+    if line.len() < from {
+        return 0;
+    }
+    let most = from + MOST_DIGITS;
+    if line.len() < most {
+        return hex_run(&line[from..]);
+    }
+    hex_run(&line[from..most])
+}
+
+fn kind_at(line: &[u8]) -> Reached
+    ensures { λ r. ⌜ r ≡ reachFrom (Reached.Column 0) (now (line .entry)) 0 kindWords ⌝ }
+{
+    let packet = also_word(Reached::Column(0), line, 0, b"packet_service\t", 0);
+    also_word(packet, line, 0, b"version\t", 1)
+}
+
+fn kind_of(number: u32) -> ListingKind
+    ensures { λ r. ⌜ r ≡ kindOf number ⌝ }
+{
+    if number == 0 {
+        return ListingKind::PacketService;
+    }
+    ListingKind::Version
+}
+
+// The length of a kind's word, with its tab.
+fn kind_length(kind: ListingKind) -> usize
+    ensures { λ r. ⌜ (r ≡ kindLength kind) × (r ≤ 16) ⌝ }
+{
+    match kind {
+        ListingKind::PacketService => 15,
+        ListingKind::Version => 8,
+    }
+}
+
+fn version_at(line: &[u8], at: usize) -> Reached
+    requires { ⌜ at ≤ 16 ⌝ }
+    ensures { λ r. ⌜ r ≡ reachFrom (Reached.Column at) (now (line .entry)) at versionWords ⌝ }
+{
+    let first = also_word(Reached::Column(at), line, at, b"1.00\t", 0);
+    also_word(first, line, at, b"2.00\t", 1)
+}
+
+fn version_of(number: u32) -> Version
+    ensures { λ r. ⌜ r ≡ versionOf number ⌝ }
+{
+    if number == 0 {
+        return Version::V1;
+    }
+    Version::V2
+}
+
+// What is reached so far, and one more word of the table.
+fn also_word(reached: Reached, line: &[u8], at: usize, text: &[u8], number: u32) -> Reached
+    requires { ⌜ (at ≤ 16) × (length (now text) ≤ 16) ⌝ }
+    ensures { λ r. ⌜ r ≡ alsoWord reached (now (line .entry)) at (word (now (text .entry)) number) ⌝ }
+{
+    match reached {
+        Reached::Word(k) => Reached::Word(k),
+        Reached::Column(column) => {
+            let n = agree_at(line, at, text);
+            if n == text.len() {
+                return Reached::Word(number);
+            }
+            Reached::Column(larger(column, at + n))
+        }
+    }
+}
+
+fn larger(a: usize, b: usize) -> usize
+    ensures { λ r. ⌜ r ≡ max a b ⌝ }
+{
+    if a < b { b } else { a }
+}
