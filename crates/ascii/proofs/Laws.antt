@@ -15,7 +15,7 @@ use Rattle.wire.proofs.Laws.{sets-append}
 use Rattle.ascii.specs.Ascii.{decimalIn, valueFrom, hexDigit, isHex, hexValue, hexRun, unhexed, agreement, through}
 
 -- what holds of both sides of a test holds of what it picks
-by-test : {A : Type 0} (P : A → Type 0) (t : Bool) {a b : A} → P a → P b → P (cond t a b)
+pub by-test : {A : Type 0} (P : A → Type 0) (t : Bool) {a b : A} → P a → P b → P (cond t a b)
 by-test P true p q = p
 by-test P false p q = q
 

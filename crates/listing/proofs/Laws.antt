@@ -5,13 +5,16 @@ use mathlib.Core.List.{List, [], _++_}
 use Prim.Native.Nat.{ℕ, _+_, _-_, _/_, _≤_, _<_}
 use native.Mathlib.Numerals.{add-one}
 use native.Mathlib.Omega.{arith}
+use borrow.Author.Tests.{lt-leb}
+use lib.Dec.{leb}
 use lib.ListN.{length, length-append, length-drop, set, take, drop, drop-of-length-le}
 use lib.Seq.{sets, length-take-le}
 use Rattle.wire.specs.Runs.{over, fitted}
 use Rattle.wire.proofs.Laws.{sets-append, sets-over, take-over, take-rest, fitted-take}
 use Rattle.ascii.specs.Ascii.{decimal, unhexed, through}
-use Rattle.ascii.proofs.Laws.{length-decimal, length-unhexed, through-le, through-some}
-use Rattle.listing.specs.Lines.{lineLength, lineBytes}
+use Rattle.ascii.proofs.Laws.{by-test, length-decimal, length-unhexed, through-le, through-some}
+use Rattle.listing.specs.Lines.{lineLength, lineBytes, collectOf}
+use Rattle.listing.specs.declared.lines.Collected.{Collected}
 use Rattle.listing.specs.Rows.{Put, field}
 
 -- a text and the one behind it
@@ -81,3 +84,13 @@ line-put chunk from n h e =
 pub line-none : (chunk : List ℕ) (from : ℕ) → length chunk ≤ from → lineBytes chunk from ≡ []
 unfolding lineBytes lineLength through
 line-none chunk from h = rw (drop-of-length-le chunk h)
+
+-- collecting goes on in the chunk, and keeps no more than there is room for
+pub collect-next : (chunk : List ℕ) (from have : ℕ) → from < length chunk → from < collectOf chunk from have .next
+unfolding collectOf
+collect-next chunk from have h = rw (lt-leb (length chunk) from h) (omega (arith, line-some chunk from h))
+
+pub collect-have : (chunk : List ℕ) (from have : ℕ) → collectOf chunk from have .have ≤ 16640
+unfolding collectOf
+collect-have chunk from have =
+    by-test (λ (c : Collected). c .have ≤ 16640) (leb (length chunk) from) (omega arith) (omega arith)
