@@ -1,15 +1,15 @@
 -- A pair is accepted exactly where it is absent or lies behind the fixed part, aligned and inside the payload; a pair that a writer
 -- places is accepted; the bytes put there are read back. Fixed part, limit and kind are parameters.
 -- Assumes nothing.
-use mathlib.Core.Path.{_≡_, refl, sym, ap}
+use mathlib.Core.Path.{_≡_, refl}
 use mathlib.Core.Logic.{_↔_, _⊎_, inl, inr}
-use mathlib.Core.Bool.{Bool, true, false, not, _&&_}
+use mathlib.Core.Bool.{Bool, true, false}
 use mathlib.Core.List.{List, [], _∷_, _++_}
 use Prim.Native.Nat.{ℕ, zero, suc, _+_, _%_, _≤_, _<_}
 use native.Mathlib.Omega.{arith}
 use borrow.Author.Tests.{le-ltb, lt-ltb, ltb-false, eq-eqb, ne-eqb, eqb-true, eqb-false}
 use lib.Dec.{ltb, eqb}
-use lib.ListN.{length, take, drop}
+use lib.ListN.{length}
 use Rattle.wire.specs.Runs.{fitted}
 use Rattle.wire.proofs.Laws.{text-at}
 use Rattle.protocol.specs.Refusal.{refusal, wrongOffset}
@@ -32,6 +32,10 @@ even-said ListKind size e = tt
 said-even : (kind : PairKind) (size : ℕ) → Even kind size → oddFor kind size ≡ false
 said-even Text size e = kept-equal (size % 2) 0 e
 said-even ListKind size e = refl
+
+zero-even : (kind : PairKind) → Even kind 0
+zero-even Text = refl
+zero-even ListKind = tt
 
 -- a size that fits is within its limit, and even for text
 pub size-said : (kind : PairKind) (limit size : ℕ) → unfit kind limit size ≡ false → (size ≤ limit) × Even kind size
@@ -86,15 +90,18 @@ module _ (kind : PairKind) (fixed limit place n : ℕ) (p : Range) where
   pub fits-exactly : (verdictOf kind fixed limit place n p ≡ Fits) ↔ PairFits kind fixed limit n p
   fits-exactly = (fits-said, said-fits)
 
+-- an absent pair fits
+pub absent-fits : (kind : PairKind) (fixed limit place n : ℕ) → verdictOf kind fixed limit place n (range 0 0) ≡ Fits
+absent-fits kind fixed limit place n =
+    said-fits kind fixed limit place n (range 0 0) (record { small = omega arith; even = zero-even kind; safe = inl (record { nowhere = refl; empty = refl }) })
+
 -- ---- a pair that a writer places
 
 module _ (kind : PairKind) (fixed limit place n base : ℕ) where
   -- is accepted behind the fixed part
   pub placed-fits : (size : ℕ) → unfit kind limit size ≡ false → fixed ≤ base → base % 4 ≡ 0 → base + size ≤ n
       → verdictOf kind fixed limit place n (placed base size) ≡ Fits
-  placed-fits zero u f a e =
-      let z = size-said kind limit 0 u in
-      said-fits kind fixed limit place n (placed base 0) (record { small = z .0; even = z .1; safe = inl (record { nowhere = refl; empty = refl }) })
+  placed-fits zero u f a e = absent-fits kind fixed limit place n
   placed-fits (suc m) u f a e =
       let z = size-said kind limit (suc m) u in
       let i : Inside fixed n (range base (suc m)) = record { some = omega arith; behind = f; aligned = a; within = e } in

@@ -1,5 +1,4 @@
 -- By the size.
-use borrow.Author.Needs.{needs}
 use borrow.Author.Tests.{eq-eqb, ne-eqb}
 use Rattle.pairs.proofs.is_inside_fixed_part.Statement.{statement}
 use Rattle.pairs.proofs.is_inside_fixed_part.Tie as tie
