@@ -10,7 +10,7 @@ use native.Mathlib.Omega.{arith}
 use borrow.Author.Tests.{eqb-true, eqb-false, eq-eqb, ne-eqb, leb-true, leb-false, le-leb, lt-leb}
 use lib.Dec.{T, eqb, leb, eqb→eq}
 use lib.Pow.{pow-pos}
-use lib.Bits.{bitAnd, and-zero-l}
+use lib.Bits.{bitAnd, and-step, and-zero-l, and-le-r}
 use lib.Count.{ones}
 use Rattle.protocol.specs.declared.Version.{Version}
 use Rattle.protocol.specs.declared.Version.the-variants.{V1, V2}
@@ -149,6 +149,26 @@ outside-one v c h = sym (not-none v c (λ e. h (ap (λ (x : ℕ). bitAnd x (mask
 pub masks : (maskOf V1 ≡ 0x807F003F) × (maskOf V2 ≡ 0x807F00FF)
 unfolding maskOf sumOfBits classBits
 masks = (refl, refl)
+
+-- ---- what is only classes at 1.00 is so at 2.00
+
+-- each of the d lowest digits of m is one of n
+covered : ℕ → ℕ → ℕ → Bool
+covered zero m n = true
+covered (suc d) m n = leb (m % 2) (n % 2) && covered d (m / 2) (n / 2)
+
+-- a field under a mask is under one that covers it
+under : (d c m n : ℕ) → c < 2 ^ d → T (covered d m n) → bitAnd c m ≡ c → bitAnd c n ≡ c
+unfolding covered
+under zero c m n b t e = let z : c ≡ 0 = omega arith in ap (λ (x : ℕ). bitAnd x n) z ∙ and-zero-l n ∙ sym z
+under (suc d) c m n b t e =
+    let here : leb (m % 2) (n % 2) ≡ true = is-true _ (both-left (leb (m % 2) (n % 2)) _ t) in
+    let rest = under d (c / 2) (m / 2) (n / 2) (omega arith) (both-right (leb (m % 2) (n % 2)) _ t) (omega (arith, and-step c m)) in
+    omega (arith, and-step c m, and-step c n, rest, leb-true (m % 2) (n % 2) here)
+
+pub later-classes : (c : ℕ) → bitAnd c (maskOf V1) ≡ c → bitAnd c (maskOf V2) ≡ c
+unfolding covered maskOf sumOfBits classBits
+later-classes c e = under 32 c (maskOf V1) (maskOf V2) (omega (arith, and-le-r c (maskOf V1))) tt e
 
 -- ---- the tests in words of bits
 

@@ -26,6 +26,13 @@ cases-and a b (inl e) = rw e
 cases-and true b (inr e) = e
 cases-and false b (inr e) = refl
 
+pub or-none : (a b : Bool) → (a || b) ≡ false → (a ≡ false) × (b ≡ false)
+or-none true b e = let z : _≡_ {A = ℕ} 0 1 = cc in absurd (omega arith)
+or-none false b e = (refl, e)
+
+pub none-or : (a b : Bool) → a ≡ false → b ≡ false → (a || b) ≡ false
+none-or a b p q = rw (p, q)
+
 pub not-kept : (a : Bool) → not a ≡ false → a ≡ true
 not-kept true e = refl
 not-kept false e = let z : _≡_ {A = ℕ} 0 1 = cc in absurd (omega arith)

@@ -10,8 +10,8 @@ use lib.Dec.{ltb}
 use lib.ListN.{length, take}
 use lib.Seq.{sets}
 use Rattle.wire.proofs.Laws.{sets-over, take-over}
-use Rattle.protocol.specs.Refusal.{refusal, tooShort, wrongLength, outputTooSmall}
-use Rattle.protocol.specs.Verdict.{faultIf, firstOf, Rule, rule, judgeFrom, judge, Kept, exactLength, given, withRoom, writing}
+use Rattle.protocol.specs.Refusal.{refusal, tooShort, wrongLength, tooLong, outputTooSmall}
+use Rattle.protocol.specs.Verdict.{faultIf, firstOf, Rule, rule, judgeFrom, judge, Kept, exactLength, openLength, given, withRoom, writing}
 use Rattle.protocol.specs.declared.Refusal.{Refusal}
 use Rattle.protocol.specs.declared.Verdict.{Verdict}
 use Rattle.protocol.specs.declared.Verdict.the-variants.{Fits, Fault}
@@ -78,6 +78,21 @@ length-short fixed n h = rw (lt-ltb n fixed h)
 pub length-long : (fixed n : ℕ) → fixed < n → exactLength fixed n ≡ Fault (refusal wrongLength n)
 unfolding exactLength judgeFrom faultIf firstOf
 length-long fixed n h = let l : fixed ≤ n = omega arith in rw (le-ltb n fixed l, lt-ltb fixed n h)
+
+-- a payload with a fixed part has a length that fits exactly where it has the fixed part and is at most 4,096 bytes long
+pub open-length : (fixed n : ℕ) → openLength fixed n ≡ Fits → (fixed ≤ n) × (n ≤ 4096)
+unfolding openLength
+open-length fixed n e =
+    let k = fits-kept (rule (ltb n fixed) tooShort n ∷ rule (ltb 4096 n) tooLong 0 ∷ []) e in
+    (ltb-false n fixed (k .0), ltb-false 4096 n (k .1 .0))
+
+pub length-open : (fixed n : ℕ) → fixed ≤ n → n ≤ 4096 → openLength fixed n ≡ Fits
+unfolding openLength
+length-open fixed n h k = kept-fits _ (le-ltb n fixed h, (le-ltb 4096 n k, tt))
+
+pub open-short : (fixed n : ℕ) → n < fixed → openLength fixed n ≡ Fault (refusal tooShort n)
+unfolding openLength judgeFrom faultIf firstOf
+open-short fixed n h = rw (lt-ltb n fixed h)
 
 -- ---- writers
 

@@ -1,0 +1,111 @@
+-- Laws of what is gathered over the numbers 0 to n - 1, each in the form that a loop asks for.
+-- Assumes nothing.
+use mathlib.Core.Path.{_≡_, refl, sym, ap, _∙_}
+use mathlib.Core.Logic.{_⊎_, ⊎-elim}
+use mathlib.Core.Bool.{Bool, true, false, _||_}
+use mathlib.Core.List.{List, [], _∷_, _++_, append-assoc, append-nil}
+use Prim.Native.Nat.{ℕ, zero, suc, _+_, _*_, _≤_, _<_}
+use native.Mathlib.Nat.{eq-or-lt-of-le, mul-zero, mul-suc}
+use native.Mathlib.Numerals.{add-one}
+use native.Mathlib.Omega.{arith}
+use lib.ListN.{length, length-append, getD}
+use lib.Seq.{sets, getD-append-add}
+use Rattle.wire.proofs.Laws.{sets-append}
+use Rattle.protocol.specs.Verdict.{firstOf}
+use Rattle.protocol.specs.declared.Verdict.{Verdict}
+use Rattle.protocol.specs.declared.Verdict.the-variants.{Fits}
+use Rattle.protocol.proofs.Tests.{or-cases}
+use Rattle.protocol.proofs.Verdicts.{left-fits, right-fits}
+use Rattle.below.specs.Below.{firstFault, anyOf, listOf, joined}
+
+-- by the last number or one before it
+pub last : {A : Type 0} (i n : ℕ) → i < suc n → (i < n → A) → (i ≡ n → A) → A
+last i n h before here = let k : i ≤ n = omega arith in ⊎-elim here before (eq-or-lt-of-le k)
+
+-- ---- the first fault
+
+-- one more
+pub fault-next : (f : ℕ → Verdict) (i : ℕ) {v w : Verdict} → v ≡ firstFault f i → w ≡ firstOf v (f i) → w ≡ firstFault f (i + 1)
+unfolding firstFault
+fault-next f i p q = q ∙ rw (p, add-one i)
+
+-- all fit exactly where each does
+pub fits-each : (f : ℕ → Verdict) (n : ℕ) → firstFault f n ≡ Fits → (i : ℕ) → i < n → f i ≡ Fits
+unfolding firstFault
+fits-each f zero e i h = absurd (omega arith)
+fits-each f (suc n) e i h = last i n h (λ k. fits-each f n (left-fits _ _ e) i k) (λ k. rw k (right-fits _ _ e))
+
+pub each-fits : (f : ℕ → Verdict) (n : ℕ) → ((i : ℕ) → i < n → f i ≡ Fits) → firstFault f n ≡ Fits
+unfolding firstFault firstOf
+each-fits f zero h = refl
+each-fits f (suc n) h = rw (each-fits f n (λ i k. h i (omega arith)), h n (omega arith))
+
+-- ---- whether any does
+
+-- one more
+pub any-next : (t : ℕ → Bool) (i : ℕ) {b c : Bool} → b ≡ anyOf t i → c ≡ (b || t i) → c ≡ anyOf t (i + 1)
+unfolding anyOf
+any-next t i p q = q ∙ rw (p, add-one i)
+
+-- one that does is there exactly where any does
+pub some-of : (t : ℕ → Bool) (n : ℕ) → anyOf t n ≡ true → (i : ℕ) × ((i < n) × (t i ≡ true))
+unfolding anyOf
+some-of t zero e = let z : _≡_ {A = ℕ} 0 1 = cc in absurd (omega arith)
+some-of t (suc n) e =
+    ⊎-elim (λ h. let r = some-of t n h in (r .0, (omega (arith, r .1 .0), r .1 .1))) (λ h. (n, (omega arith, h))) (or-cases (anyOf t n) (t n) e)
+
+pub none-of : (t : ℕ → Bool) (n : ℕ) → ((i : ℕ) → i < n → t i ≡ false) → anyOf t n ≡ false
+unfolding anyOf
+none-of t zero h = refl
+none-of t (suc n) h = rw (none-of t n (λ i k. h i (omega arith)), h n (omega arith))
+
+-- ---- a list
+
+module _ {A : Type 0} (f : ℕ → A) where
+  pub length-list : (n : ℕ) → length (listOf f n) ≡ n
+  unfolding listOf
+  length-list zero = refl
+  length-list (suc n) = length-append (listOf f n) (f n ∷ []) ∙ omega (arith, length-list n)
+
+  pub list-same : (g : ℕ → A) (n : ℕ) → ((i : ℕ) → i < n → f i ≡ g i) → listOf f n ≡ listOf g n
+  unfolding listOf
+  list-same g zero h = refl
+  list-same g (suc n) h = rw (list-same g n (λ i k. h i (omega arith)), h n (omega arith))
+
+  -- element i, whatever stands behind the list
+  pub list-at : (d : A) (rest : List A) (n i : ℕ) → i < n → getD (listOf f n ++ rest) i d ≡ f i
+  unfolding listOf
+  list-at d rest zero i h = absurd (omega arith)
+  list-at d rest (suc n) i h =
+      let m : length (listOf f n) ≡ n = length-list n in
+      let s : (listOf f n ++ (f n ∷ [])) ++ rest ≡ listOf f n ++ (f n ∷ rest) = append-assoc (listOf f n) (f n ∷ []) rest in
+      let here : getD (listOf f n ++ (f n ∷ rest)) (length (listOf f n) + 0) d ≡ f n = getD-append-add (listOf f n) (f n ∷ rest) 0 d in
+      rw s (last i n h (λ l. list-at d (f n ∷ rest) n i l) (λ l. ap (λ (k : ℕ). getD (listOf f n ++ (f n ∷ rest)) k d) (omega arith) ∙ here ∙ ap f (sym l)))
+
+-- ---- bytes one after another
+
+-- one piece more is stored
+pub join-next : (f : ℕ → List ℕ) (i at : ℕ) (s : List ℕ) {s₁ s₂ : List ℕ} {k : ℕ} → s₁ ≡ sets s at (joined f i)
+    → k ≡ at + length (joined f i) → s₂ ≡ sets s₁ k (f i) → s₂ ≡ sets s at (joined f (i + 1))
+unfolding joined
+join-next f i at s p q r = r ∙ rw (p, q, add-one i, sets-append (joined f i) (f i) s at)
+
+-- a piece stands behind those before it
+pub record Split (f : ℕ → List ℕ) (n i : ℕ) : Type 0 where
+  pub rest : List ℕ
+  pub is : joined f n ≡ joined f i ++ (f i ++ rest)
+
+pub split : (f : ℕ → List ℕ) (n i : ℕ) → i < n → Split f n i
+unfolding joined
+split f zero i h = absurd (omega arith)
+split f (suc n) i h =
+    last i n h
+    (λ l. let s = split f n i l in
+    record { rest = s .rest ++ f n; is = ap (λ (x : List ℕ). x ++ f n) (s .is) ∙ append-assoc (joined f i) (f i ++ s .rest) (f n) ∙ ap (λ (x : List ℕ). joined f i ++ x) (append-assoc (f i) (s .rest) (f n)) })
+    (λ e. record { rest = []; is = rw (e, append-nil) })
+
+-- pieces of one size
+pub length-joined : (f : ℕ → List ℕ) (k n : ℕ) → ((i : ℕ) → length (f i) ≡ k) → length (joined f n) ≡ k * n
+unfolding joined
+length-joined f k zero h = sym (mul-zero k)
+length-joined f k (suc n) h = length-append (joined f n) (f n) ∙ rw (length-joined f k n h, h n, mul-suc k n)

@@ -1,0 +1,39 @@
+-- What is claimed of an accepted pair, in words: absent, or behind the fixed part, at a multiple of 4, and inside the payload.
+use Prim.Native.Nat.{ℕ, _+_, _%_, _≤_, _<_, _^_}
+use mathlib.Core.Path.{_≡_}
+use mathlib.Core.Logic.{_⊎_}
+use mathlib.Core.List.{List}
+use lib.ListN.{take, drop}
+use Rattle.pairs.specs.declared.Range.{Range}
+use Rattle.pairs.specs.declared.PairKind.{PairKind}
+use Rattle.pairs.specs.declared.PairKind.the-variants.{Text, List as ListKind}
+
+pub record Absent (p : Range) : Type 0 where
+  pub nowhere : p .start ≡ 0
+  pub empty : p .length ≡ 0
+
+-- the bytes of the pair lie behind the fixed part and inside the n bytes of the payload
+pub record Inside (fixed n : ℕ) (p : Range) : Type 0 where
+  pub some : 0 < p .length
+  pub behind : fixed ≤ p .start
+  pub aligned : p .start % 4 ≡ 0
+  pub within : p .start + p .length ≤ n
+
+abbrev pub Even : PairKind → ℕ → Type 0
+Even Text size = size % 2 ≡ 0
+Even ListKind size = Unit
+
+-- accepted exactly where this holds (proofs/Laws)
+pub record PairFits (kind : PairKind) (fixed limit n : ℕ) (p : Range) : Type 0 where
+  pub small : p .length ≤ limit
+  pub even : Even kind (p .length)
+  pub safe : Absent p ⊎ Inside fixed n p
+
+-- each number of a pair is of its width
+pub record RangeSized (p : Range) : Type 0 where
+  pub start : p .start < 2 ^ 32
+  pub length : p .length < 2 ^ 32
+
+-- the bytes of the payload s that a range shows
+abbrev pub shownIn : List ℕ → Range → List ℕ
+shownIn s p = take (p .length) (drop (p .start) s)

@@ -1,0 +1,141 @@
+// One offset/size pair of a payload: judged as a reader meets it, and placed as a writer puts it.
+// What stands in a pair's list is judged where the list is known.
+use protocol::PAST_END;
+use protocol::Verdict;
+use protocol::WRONG_OFFSET;
+use protocol::WRONG_SIZE;
+use protocol::also;
+use wire::put_u32;
+use wire::u32_at;
+ghost use mathlib.Core.Path.{_≡_};
+ghost use lib.Seq.{sets};
+ghost use Rattle.pairs.specs.Pair.{rangeAt, unfit, offsetWithoutSize, insideFixedPart, misaligned, beyondPayload, verdictOf, padded, placed, rangeBytes};
+
+// 01's pair. An accepted one shows `length` bytes of the payload from `start`; absent is (0, 0).
+pub struct Range {
+    pub start: u32,
+    pub length: u32,
+}
+
+// What a pair is of: a text has an even size.
+pub enum PairKind {
+    Text,
+    List,
+}
+
+// The verdict on the pair that stands at `place` of a payload of `length` bytes.
+pub fn judge(
+    kind: PairKind,
+    fixed: u32,
+    limit: u32,
+    place: usize,
+    length: usize,
+    pair: Range,
+) -> Verdict
+    ensures { λ r. ⌜ r ≡ verdictOf kind fixed limit place length pair ⌝ }
+{
+    let size_unfit = is_unfit(kind, limit, pair.length as usize);
+    let sized = also(Verdict::Fits, size_unfit, WRONG_SIZE, place);
+    let zero = also(sized, is_offset_without_size(pair), WRONG_OFFSET, place);
+    let outside = also(zero, is_inside_fixed_part(fixed, pair), WRONG_OFFSET, place);
+    let aligned = also(outside, is_misaligned(pair), WRONG_OFFSET, place);
+    also(aligned, is_beyond_payload(length, pair), PAST_END, place)
+}
+
+// The pair at a place of a payload.
+pub fn range_at(payload: &[u8], place: usize) -> Range
+    ensures { λ r. ⌜ r ≡ rangeAt (now (payload .entry)) place ⌝ }
+{
+    if payload.len() <= place {
+        return Range {
+            start: 0,
+            length: 0,
+        };
+    }
+    Range {
+        start: u32_at(payload, place),
+        length: u32_at(payload, place + 4),
+    }
+}
+
+// Whether a size is over its limit, or odd for text.
+pub fn is_unfit(kind: PairKind, limit: u32, size: usize) -> bool
+    ensures { λ r. ⌜ r ≡ unfit kind limit size ⌝ }
+{
+    if (limit as usize) < size {
+        return true;
+    }
+    match kind {
+        PairKind::Text => size % 2 != 0,
+        PairKind::List => false,
+    }
+}
+
+// Where a writer puts `size` bytes that come next at `base`.
+pub fn place_at(base: u32, size: u32) -> Range
+    ensures { λ r. ⌜ r ≡ placed base size ⌝ }
+{
+    if size == 0 {
+        return Range {
+            start: 0,
+            length: 0,
+        };
+    }
+    Range {
+        start: base,
+        length: size,
+    }
+}
+
+// A size with its padding, to a multiple of 4.
+pub fn padded_size(size: u32) -> usize
+    ensures { λ r. ⌜ r ≡ padded size ⌝ }
+{
+    (size as usize + 3) / 4 * 4
+}
+
+pub fn put_range(out: &mut [u8], place: usize, pair: Range)
+    ensures { λ _. ⌜ now (out .exit) ≡ sets (now (out .entry)) place (rangeBytes pair) ⌝ }
+{
+    if out.len() <= place {
+        return;
+    }
+    put_u32(out, place, pair.start);
+    put_u32(out, place + 4, pair.length);
+}
+
+fn is_offset_without_size(pair: Range) -> bool
+    ensures { λ r. ⌜ r ≡ offsetWithoutSize pair ⌝ }
+{
+    if pair.length == 0 {
+        return pair.start != 0;
+    }
+    false
+}
+
+fn is_inside_fixed_part(fixed: u32, pair: Range) -> bool
+    ensures { λ r. ⌜ r ≡ insideFixedPart fixed pair ⌝ }
+{
+    if pair.length == 0 {
+        return false;
+    }
+    pair.start < fixed
+}
+
+fn is_misaligned(pair: Range) -> bool
+    ensures { λ r. ⌜ r ≡ misaligned pair ⌝ }
+{
+    if pair.length == 0 {
+        return false;
+    }
+    pair.start % 4 != 0
+}
+
+fn is_beyond_payload(length: usize, pair: Range) -> bool
+    ensures { λ r. ⌜ r ≡ beyondPayload length pair ⌝ }
+{
+    if pair.length == 0 {
+        return false;
+    }
+    length < pair.start as usize + pair.length as usize
+}

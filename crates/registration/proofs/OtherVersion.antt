@@ -1,0 +1,121 @@
+-- What the other version's reader shows: of bytes of 2.00 the shared fields and the texts, unless a class is of 2.00 only; bytes of 1.00
+-- are refused.
+-- Assumes nothing.
+use mathlib.Core.Path.{_≡_, refl, ap, _∙_}
+use mathlib.Core.Bool.{Bool, true, false}
+use mathlib.Core.List.{List}
+use Prim.Native.Nat.{ℕ, zero, suc, _+_, _≤_}
+use native.Mathlib.Omega.{arith}
+use borrow.Author.Tests.{eqb-true, eqb-false, ne-eqb}
+use lib.Bits.{bitAnd}
+use lib.Dec.{eqb}
+use lib.ListN.{length}
+use Rattle.protocol.specs.Verdict.{Kept, judge, judgeFrom, faultIf, firstOf, openLength}
+use Rattle.protocol.specs.DataClass.{maskOf, onlyClasses}
+use Rattle.protocol.specs.declared.Verdict.{Verdict}
+use Rattle.protocol.specs.declared.Verdict.the-variants.{Fits, Fault}
+use Rattle.protocol.specs.declared.Version.the-variants.{V1, V2}
+use Rattle.protocol.proofs.Tests.{equal-kept, kept-equal}
+use Rattle.protocol.proofs.Verdicts.{fits-kept, kept-fits, open-short}
+use Rattle.protocol.proofs.Classes.{later-classes}
+use Rattle.pairs.specs.declared.PairKind.the-variants.{Text}
+use Rattle.pairs.proofs.Laws.{placed-inside, absent-fits}
+use Rattle.registration.specs.declared.RegistrationForm.{RegistrationForm}
+use Rattle.registration.specs.declared.RegistrationForm.the-variants.{V1 as Form1, V2 as Form2}
+use Rattle.registration.specs.declared.Registration.{Registration}
+use Rattle.registration.specs.declared.RegistrationTexts.{RegistrationTexts}
+use Rattle.registration.specs.declared.RegistrationRead.the-variants.{Refused}
+use Rattle.registration.specs.Registration.{fixedPart, recordAt, textsAt, frontRules, textsVerdict, backRules, shown, readOf, versionOf, sizeRules, writtenVerdict, laidTexts, laidFor, lengthOf, bytesOf}
+use Rattle.registration.specs.Claims.{inForm, shownEarlier, refusedLater, Sized}
+use Rattle.registration.proofs.Laws.{parts, length-bytes}
+use Rattle.registration.proofs.RoundTrip.{read-back, texts-shown, shared-shown, length-fits}
+
+-- ---- bytes of 2.00 read at 1.00
+
+-- the rules after the pairs hold of the shared fields
+back-earlier : (p : Registration) → Kept (backRules p) → judge (backRules (inForm Form1 p)) ≡ Fits
+unfolding backRules
+back-earlier p = by-form (p .form) refl
+  where
+    by-form : (f : RegistrationForm) → p .form ≡ f → Kept (backRules p) → judge (backRules (inForm Form1 p)) ≡ Fits
+    by-form Form1 e k = let j = rw e at k in kept-fits (backRules (inForm Form1 p)) j
+    by-form (Form2 class) e k = let j = rw e at k in kept-fits (backRules (inForm Form1 p)) (j .0, (j .1 .1 .0, tt))
+
+last-fits : (a : Verdict) → firstOf a Fits ≡ a
+unfolding firstOf
+last-fits Fits = refl
+last-fits (Fault r) = refl
+
+-- of those before them, only the classes are judged otherwise
+earlier-by : (p : Registration) (t : RegistrationTexts) → Kept (frontRules V2 p) → (b : Bool) → onlyClasses V1 (p .«available_data_class») ≡ b
+    → shown (judge (frontRules V1 p)) (inForm Form1 p) t ≡ shownEarlier p t
+unfolding frontRules judgeFrom faultIf firstOf
+earlier-by p t k true e = rw (k .0, k .1 .0, e, k .1 .1 .1 .0)
+earlier-by p t k false e = rw (k .0, k .1 .0, e)
+
+pub later-read-earlier : (p : Registration) (x y z : List ℕ) → versionOf p ≡ V2 → Sized p → writtenVerdict p (length x) (length y) (length z) ≡ Fits
+    → readOf V1 (bytesOf p x y z) ≡ shownEarlier p (laidFor p x y z)
+unfolding firstOf
+later-read-earlier p x y z e s ok =
+    let k = parts p (length x) (length y) (length z) ok in
+    let f : 48 ≤ fixedPart (versionOf p) = rw e (omega arith) in
+    let front = rw e at (fits-kept (frontRules (versionOf p) p) (k .front)) in
+    let back : judge (backRules (inForm Form1 p)) ≡ Fits = back-earlier p (fits-kept (backRules p) (k .back)) in
+    read-back p x y z ok V1 f s
+    ∙ (λ i. shown (firstOf (judge (frontRules V1 p)) (back i)) (inForm Form1 p) (laidFor p x y z))
+    ∙ ap (λ (d : Verdict). shown d (inForm Form1 p) (laidFor p x y z)) (last-fits (judge (frontRules V1 p)))
+    ∙ earlier-by p (laidFor p x y z) front (onlyClasses V1 (p .«available_data_class»)) refl
+
+-- ---- bytes of 1.00 read at 2.00
+
+-- the numbers before the pairs fit there too
+front-later : (p : Registration) → Kept (frontRules V1 p) → judge (frontRules V2 p) ≡ Fits
+unfolding frontRules
+front-later p k =
+    let c = p .«available_data_class» in
+    kept-fits (frontRules V2 p)
+    (k .0, (k .1 .0, (kept-equal (bitAnd c (maskOf V2)) c (later-classes c (equal-kept (bitAnd c (maskOf V1)) c (k .1 .1 .0))), (k .1 .1 .1 .0, tt))))
+
+-- by the sizes of the texts: the first one that is there lies in the larger fixed part
+texts-later : (n a b c : ℕ) → Kept (sizeRules a b c) → (a + b + c ≡ 0 → ⊥)
+    → textsVerdict 52 n (laidTexts 48 a b c) ≡ Fault (refusedLater a b c)
+unfolding textsVerdict laidTexts firstOf sizeRules
+texts-later n zero zero zero k h = absurd (h refl)
+texts-later n zero zero (suc c) k h =
+    rw (absent-fits Text 52 12 20 n, absent-fits Text 52 40 28 n, placed-inside Text 52 126 36 n 48 (suc c) (k .1 .1 .0) (omega arith) (omega arith), ne-eqb (suc c) 0 (omega arith))
+texts-later n zero (suc b) c k h =
+    rw (absent-fits Text 52 12 20 n, placed-inside Text 52 40 28 n 48 (suc b) (k .1 .0) (omega arith) (omega arith), ne-eqb (suc b) 0 (omega arith))
+texts-later n (suc a) b c k h =
+    rw (placed-inside Text 52 12 20 n 48 (suc a) (k .0) (omega arith) (omega arith), ne-eqb (suc a) 0 (omega arith))
+
+-- no text: the bytes are too short
+none-later : (p : Registration) (x y z : List ℕ) → versionOf p ≡ V1 → length x + length y + length z ≡ 0
+    → readOf V2 (bytesOf p x y z) ≡ Refused (refusedLater (length x) (length y) (length z))
+unfolding readOf firstOf
+none-later p x y z e h =
+    let a : length x ≡ 0 = omega arith in
+    let b : length y ≡ 0 = omega arith in
+    let c : length z ≡ 0 = omega arith in
+    rw (length-bytes p x y z, e, a, b, c, open-short 52 48 (omega arith))
+
+some-later : (p : Registration) (x y z : List ℕ) → versionOf p ≡ V1 → Sized p → writtenVerdict p (length x) (length y) (length z) ≡ Fits
+    → (length x + length y + length z ≡ 0 → ⊥) → readOf V2 (bytesOf p x y z) ≡ Refused (refusedLater (length x) (length y) (length z))
+unfolding readOf firstOf frontRules
+some-later p x y z e s ok h =
+    let k = parts p (length x) (length y) (length z) ok in
+    let n = length (bytesOf p x y z) in
+    let enough : 52 ≤ lengthOf (versionOf p) (length x) (length y) (length z) = rw e (omega arith) in
+    let o : openLength 52 n ≡ Fits = length-fits p x y z ok V2 enough in
+    let front : judge (frontRules V2 (recordAt V2 (bytesOf p x y z))) ≡ Fits =
+    ap (λ (r : Registration). judge (frontRules V2 r)) (shared-shown p x y z ok V2 s) ∙ front-later p (rw e at (fits-kept (frontRules (versionOf p) p) (k .front))) in
+    let texts : textsVerdict 52 n (textsAt (bytesOf p x y z)) ≡ Fault (refusedLater (length x) (length y) (length z)) =
+    rw (texts-shown p x y z ok, e) (texts-later n (length x) (length y) (length z) (k .sizes) h) in
+    rw (o, front, texts)
+
+pub earlier-read-later : (p : Registration) (x y z : List ℕ) → versionOf p ≡ V1 → Sized p → writtenVerdict p (length x) (length y) (length z) ≡ Fits
+    → readOf V2 (bytesOf p x y z) ≡ Refused (refusedLater (length x) (length y) (length z))
+earlier-read-later p x y z e s ok = by-sizes (eqb (length x + length y + length z) 0) refl
+  where
+    by-sizes : (b : Bool) → eqb (length x + length y + length z) 0 ≡ b → readOf V2 (bytesOf p x y z) ≡ Refused (refusedLater (length x) (length y) (length z))
+    by-sizes true h = none-later p x y z e (eqb-true (length x + length y + length z) 0 h)
+    by-sizes false h = some-later p x y z e s ok (eqb-false (length x + length y + length z) 0 h)

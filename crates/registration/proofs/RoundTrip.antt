@@ -1,0 +1,159 @@
+-- Reading what the writer gives returns the record, and the bytes of each range shown are the text.
+-- Assumes nothing.
+use mathlib.Core.Path.{_≡_, refl, ap, _∙_}
+use mathlib.Core.List.{List, [], _++_, append-assoc, append-nil}
+use Prim.Native.Nat.{ℕ, _+_, _%_, _≤_}
+use native.Mathlib.Omega.{arith}
+use lib.ListN.{length, take, length-append}
+use Rattle.wire.specs.Numbers.{u32At, digits}
+use Rattle.wire.proofs.Laws.{num-digits, length-fitted}
+use Rattle.protocol.specs.Verdict.{judge, firstOf, openLength}
+use Rattle.protocol.specs.declared.Verdict.the-variants.{Fits}
+use Rattle.protocol.specs.declared.Version.{Version}
+use Rattle.protocol.specs.declared.Version.the-variants.{V1, V2}
+use Rattle.protocol.specs.declared.Written.the-variants.{Length}
+use Rattle.protocol.proofs.Verdicts.{length-open, written-fits, written-front}
+use Rattle.pairs.specs.Pair.{rangeAt, padded, rangeBytes}
+use Rattle.pairs.specs.Claims.{RangeSized, shownIn}
+use Rattle.pairs.specs.declared.PairKind.the-variants.{Text}
+use Rattle.pairs.proofs.Laws.{placed-fits, placed-sized, placed-back}
+use Rattle.registration.specs.declared.RegistrationForm.{RegistrationForm}
+use Rattle.registration.specs.declared.RegistrationForm.the-variants.{V1 as Form1, V2 as Form2}
+use Rattle.registration.specs.declared.Registration.{Registration}
+use Rattle.registration.specs.declared.RegistrationTexts.{RegistrationTexts}
+use Rattle.registration.specs.declared.RegistrationRead.the-variants.{Info}
+use Rattle.registration.specs.Registration.{fixedPart, formAt, recordAt, textsAt, frontRules, textsVerdict, backRules, shown, readOf, versionIn, versionOf, sizeRules, writtenVerdict, laidTexts, laidFor, lengthOf, frontBytes, textsBytes, preferredBytes, backBytes, fixedBytes, fixedWith, textBytes, bytesOf, writeOf}
+use Rattle.registration.specs.Claims.{Returned, inForm, FormSized, Sized}
+use Rattle.registration.proofs.Laws.{fixed-small, length-fixed, length-bytes, parts, small}
+
+-- ---- the fixed part, whatever follows
+
+-- the shared fields, at whichever version they are read
+record-back : (v : Version) (p : Registration) (t : RegistrationTexts) (rest : List ℕ) → Sized p
+    → recordAt v (fixedWith p t ++ rest) ≡ inForm (formAt v (fixedWith p t ++ rest)) p
+unfolding recordAt u32At fixedBytes frontBytes textsBytes backBytes rangeBytes
+record-back v p t rest z = λ i. record {
+  «nw_error» = num-digits 4 (p .«nw_error») [] (z .error) i;
+  «register_state» = num-digits 4 (p .«register_state») [] (z .state) i;
+  «register_mode» = num-digits 4 (p .«register_mode») [] (z .mode) i;
+  «available_data_class» = num-digits 4 (p .«available_data_class») [] (z .available) i;
+  «cellular_class» = num-digits 4 (p .«cellular_class») [] (z .cellular) i;
+  «registration_flag» = num-digits 4 (p .«registration_flag») [] (z .flag) i;
+  form = formAt v (fixedWith p t ++ rest);
+}
+
+form-back : (p : Registration) (t : RegistrationTexts) (rest : List ℕ) → FormSized (p .form) → formAt (versionOf p) (fixedWith p t ++ rest) ≡ p .form
+unfolding u32At fixedBytes frontBytes textsBytes backBytes rangeBytes
+form-back p t rest = by-form (p .form)
+  where
+    pairs : List ℕ
+    pairs = textsBytes (t .«provider_id») (t .«provider_name») (t .«roaming_text»)
+
+    by-form : (f : RegistrationForm) → FormSized f
+        → formAt (versionIn f) ((frontBytes p ++ (pairs ++ (digits 4 (p .«registration_flag») ++ preferredBytes f))) ++ rest) ≡ f
+    by-form Form1 z = refl
+    by-form (Form2 class) z = ap Form2 (num-digits 4 class [] z)
+
+texts-back : (p : Registration) (t : RegistrationTexts) (rest : List ℕ) → RangeSized (t .«provider_id») → RangeSized (t .«provider_name») → RangeSized (t .«roaming_text»)
+    → textsAt (fixedWith p t ++ rest) ≡ t
+unfolding textsAt rangeAt u32At fixedBytes frontBytes textsBytes backBytes rangeBytes
+texts-back p t rest x y z =
+    λ i. record {
+      «provider_id» = record { start = num-digits 4 (t .«provider_id» .start) [] (x .start) i; length = num-digits 4 (t .«provider_id» .length) [] (x .length) i };
+      «provider_name» = record { start = num-digits 4 (t .«provider_name» .start) [] (y .start) i; length = num-digits 4 (t .«provider_name» .length) [] (y .length) i };
+      «roaming_text» = record { start = num-digits 4 (t .«roaming_text» .start) [] (z .start) i; length = num-digits 4 (t .«roaming_text» .length) [] (z .length) i };
+    }
+
+fixed-four : (v : Version) → fixedPart v % 4 ≡ 0
+fixed-four V1 = refl
+fixed-four V2 = refl
+
+-- ---- a payload as the writer lays it out
+
+module _ (p : Registration) (x y z : List ℕ) (ok : writtenVerdict p (length x) (length y) (length z) ≡ Fits) where
+  pub texts-shown : textsAt (bytesOf p x y z) ≡ (laidFor p x y z)
+  unfolding bytesOf laidTexts
+  texts-shown =
+      let k = small p (length x) (length y) (length z) ok in
+      let f = fixed-small (versionOf p) in
+      texts-back p (laidFor p x y z) _
+      (placed-sized (fixedPart (versionOf p)) (length x) (omega arith) (omega arith))
+      (placed-sized (fixedPart (versionOf p) + padded (length x)) (length y) (omega arith) (omega arith))
+      (placed-sized (fixedPart (versionOf p) + padded (length x) + padded (length y)) (length z) (omega arith) (omega arith))
+
+  -- the pairs fit at each version whose fixed part is no longer than the writer's
+  texts-fit : (v : Version) → fixedPart v ≤ fixedPart (versionOf p) → textsVerdict (fixedPart v) (lengthOf (versionOf p) (length x) (length y) (length z)) (laidFor p x y z) ≡ Fits
+  unfolding textsVerdict laidTexts firstOf sizeRules
+  texts-fit v h =
+      let k = parts p (length x) (length y) (length z) ok .sizes in
+      let f = fixedPart (versionOf p) in
+      let n = lengthOf (versionOf p) (length x) (length y) (length z) in
+      let q = fixed-four (versionOf p) in
+      rw (
+        placed-fits Text (fixedPart v) 12 20 n f (length x) (k .0) h q (omega arith),
+        placed-fits Text (fixedPart v) 40 28 n (f + padded (length x)) (length y) (k .1 .0) (omega arith) (omega arith) (omega arith),
+        placed-fits Text (fixedPart v) 126 36 n (f + padded (length x) + padded (length y)) (length z) (k .1 .1 .0) (omega arith) (omega arith) (omega arith),
+      )
+
+  pub length-fits : (v : Version) → fixedPart v ≤ lengthOf (versionOf p) (length x) (length y) (length z) → openLength (fixedPart v) (length (bytesOf p x y z)) ≡ Fits
+  length-fits v h =
+      let k = small p (length x) (length y) (length z) ok in
+      let f = fixed-small (versionOf p) in
+      rw (length-bytes p x y z) (length-open (fixedPart v) (lengthOf (versionOf p) (length x) (length y) (length z)) h (omega arith))
+
+  pub shared-shown : (v : Version) → Sized p → recordAt v (bytesOf p x y z) ≡ inForm (formAt v (bytesOf p x y z)) p
+  unfolding bytesOf
+  shared-shown v s = record-back v p (laidFor p x y z) _ s
+
+  -- read at such a version: what is left are the rules on numbers, by that version
+  pub read-back : (v : Version) → fixedPart v ≤ fixedPart (versionOf p) → Sized p
+      → readOf v (bytesOf p x y z)
+      ≡ shown (firstOf (judge (frontRules v p)) (judge (backRules (inForm (formAt v (bytesOf p x y z)) p)))) (inForm (formAt v (bytesOf p x y z)) p) (laidFor p x y z)
+  unfolding readOf firstOf frontRules
+  read-back v h s =
+      let f = formAt v (bytesOf p x y z) in
+      let r = shared-shown v s in
+      let o = length-fits v (omega arith) in
+      let t = texts-fit v h in
+      (λ i. shown (firstOf (o i) (firstOf (judge (frontRules v (r i))) (firstOf (textsVerdict (fixedPart v) (length-bytes p x y z i) (texts-shown i)) (judge (backRules (r i)))))) (r i) (texts-shown i))
+      ∙ (λ i. shown (firstOf (judge (frontRules v p)) (firstOf (t i) (judge (backRules (inForm f p))))) (inForm f p) (laidFor p x y z))
+
+  -- read at the record's version: the record
+  pub bytes-read : Sized p → readOf (versionOf p) (bytesOf p x y z) ≡ Info p (laidFor p x y z)
+  unfolding firstOf bytesOf
+  bytes-read s =
+      let k = parts p (length x) (length y) (length z) ok in
+      let e : formAt (versionOf p) (bytesOf p x y z) ≡ p .form = form-back p (laidFor p x y z) _ (s .form) in
+      read-back (versionOf p) (omega arith) s
+      ∙ (λ i. shown (firstOf (judge (frontRules (versionOf p) p)) (judge (backRules (inForm (e i) p)))) (inForm (e i) p) (laidFor p x y z))
+      ∙ rw (k .front, k .back)
+
+  -- the bytes of each range are the text
+  pub texts-read : (shownIn (bytesOf p x y z) ((laidFor p x y z) .«provider_id») ≡ x)
+      × ((shownIn (bytesOf p x y z) ((laidFor p x y z) .«provider_name») ≡ y) × (shownIn (bytesOf p x y z) ((laidFor p x y z) .«roaming_text») ≡ z))
+  unfolding bytesOf laidTexts
+  texts-read =
+      let f = fixedWith p (laidFor p x y z) in
+      let a = textBytes x in
+      let b = textBytes y in
+      let c = textBytes z in
+      let kf : length f ≡ fixedPart (versionOf p) = length-fixed p ((laidFor p x y z) .«provider_id») ((laidFor p x y z) .«provider_name») ((laidFor p x y z) .«roaming_text») in
+      let ka : length (f ++ a) ≡ fixedPart (versionOf p) + padded (length x) = omega (arith, length-append f a, length-fitted (padded (length x)) x) in
+      let kb : length ((f ++ a) ++ b) ≡ fixedPart (versionOf p) + padded (length x) + padded (length y) = omega (arith, length-append (f ++ a) b, length-fitted (padded (length y)) y) in (
+        placed-back f x (b ++ c) (fixedPart (versionOf p)) kf,
+        (
+          rw (← append-assoc f a (b ++ c)) (placed-back (f ++ a) y c _ ka),
+          rw (← append-assoc f a (b ++ c), ← append-assoc (f ++ a) b c, ← append-nil c) (placed-back ((f ++ a) ++ b) z [] _ kb),
+        ),
+      )
+
+-- what the writer puts into an output, read at the record's version, is the record with its texts
+pub round-trip : (p : Registration) (x y z s : List ℕ) (n : ℕ) → Sized p → writeOf p x y z s .answer ≡ Length n
+    → Returned p x y z (take n (writeOf p x y z s .output))
+unfolding writeOf
+round-trip p x y z s n sized e =
+    let v = writtenVerdict p (length x) (length y) (length z) in
+    let ok = written-fits v (bytesOf p x y z) s n e in
+    let t = texts-read p x y z ok in
+    rw (written-front v (bytesOf p x y z) s n e)
+    (record { texts = laidFor p x y z; read = bytes-read p x y z ok sized; id = t .0; name = t .1 .0; roaming = t .1 .1 })

@@ -1,0 +1,108 @@
+-- What is claimed of the REGISTER_STATE payload beside the promises: the rules in words of fields, what the other version shows, widths.
+use Prim.Native.Nat.{ℕ, _≤_, _<_, _^_}
+use mathlib.Core.Path.{_≡_}
+use mathlib.Core.Logic.{_⊎_}
+use mathlib.Core.Bool.{cond}
+use mathlib.Core.List.{List}
+use lib.Bits.{bitAnd}
+use lib.Dec.{eqb}
+use lib.ListN.{length}
+use Rattle.wire.specs.Numbers.{u32At}
+use Rattle.protocol.specs.Refusal.{refusal, tooShort, wrongOffset, outsideTable}
+use Rattle.protocol.specs.DataClass.{maskOf, onlyClasses}
+use Rattle.protocol.specs.declared.Refusal.{Refusal}
+use Rattle.protocol.specs.declared.Version.{Version}
+use Rattle.protocol.specs.declared.Version.the-variants.{V1, V2}
+use Rattle.pairs.specs.Pair.{rangeAt}
+use Rattle.pairs.specs.Claims.{Absent, Inside, PairFits, shownIn}
+use Rattle.pairs.specs.declared.PairKind.the-variants.{Text}
+use Rattle.registration.specs.declared.RegistrationForm.{RegistrationForm}
+use Rattle.registration.specs.declared.RegistrationForm.the-variants.{V1 as Form1, V2 as Form2}
+use Rattle.registration.specs.declared.Registration.{Registration}
+use Rattle.registration.specs.declared.RegistrationTexts.{RegistrationTexts}
+use Rattle.registration.specs.declared.RegistrationRead.{RegistrationRead}
+use Rattle.registration.specs.declared.RegistrationRead.the-variants.{Info, Refused}
+use Rattle.registration.specs.Registration.{fixedPart, readOf, versionOf}
+
+-- ---- the rules in words of fields
+
+-- every bit of the field is a class of the version
+abbrev pub OnlyClasses : Version → ℕ → Type 0
+OnlyClasses v class = bitAnd class (maskOf v) ≡ class
+
+abbrev pub FormFits : Version → List ℕ → Type 0
+FormFits V1 s = Unit
+FormFits V2 s = OnlyClasses V2 (u32At s 48)
+
+pub record Acceptable (v : Version) (s : List ℕ) : Type 0 where
+  pub fixed : fixedPart v ≤ length s
+  pub most : length s ≤ 4096
+  pub state : u32At s 4 ≤ 6
+  pub mode : u32At s 8 ≤ 2
+  pub available : OnlyClasses v (u32At s 12)
+  pub cellular : u32At s 16 ≤ 3
+  pub id : PairFits Text (fixedPart v) 12 (length s) (rangeAt s 20)
+  pub name : PairFits Text (fixedPart v) 40 (length s) (rangeAt s 28)
+  pub roaming : PairFits Text (fixedPart v) 126 (length s) (rangeAt s 36)
+  pub flag : u32At s 44 ≤ 3
+  pub form : FormFits v s
+  pub registered : (u32At s 12 ≡ 0) ⊎ ((3 ≤ u32At s 4) × (u32At s 4 ≤ 5))
+
+-- ---- no text is read outside the payload or inside the fixed part
+
+pub record TextsSafe (fixed n : ℕ) (t : RegistrationTexts) : Type 0 where
+  pub id : Absent (t .«provider_id») ⊎ Inside fixed n (t .«provider_id»)
+  pub name : Absent (t .«provider_name») ⊎ Inside fixed n (t .«provider_name»)
+  pub roaming : Absent (t .«roaming_text») ⊎ Inside fixed n (t .«roaming_text»)
+
+-- ---- reading what is written
+
+-- the bytes s, read at the record's version, show the record, and each range shown is the text
+pub record Returned (p : Registration) (x y z : List ℕ) (s : List ℕ) : Type 0 where
+  pub texts : RegistrationTexts
+  pub read : readOf (versionOf p) s ≡ Info p texts
+  pub id : shownIn s (texts .«provider_id») ≡ x
+  pub name : shownIn s (texts .«provider_name») ≡ y
+  pub roaming : shownIn s (texts .«roaming_text») ≡ z
+
+-- ---- what the other version shows
+
+-- the fields that both forms have, in another form
+abbrev pub inForm : RegistrationForm → Registration → Registration
+inForm f p = record {
+  «nw_error» = p .«nw_error»;
+  «register_state» = p .«register_state»;
+  «register_mode» = p .«register_mode»;
+  «available_data_class» = p .«available_data_class»;
+  «cellular_class» = p .«cellular_class»;
+  «registration_flag» = p .«registration_flag»;
+  form = f;
+}
+
+-- bytes of 2.00 at 1.00: the shared fields and the texts, unless a class is one of 2.00 only
+abbrev pub shownEarlier : Registration → RegistrationTexts → RegistrationRead
+shownEarlier p t = cond (onlyClasses V1 (p .«available_data_class»)) (Info (inForm Form1 p) t) (Refused (refusal outsideTable 12))
+
+-- bytes of 1.00 at 2.00, by the sizes of the texts: the first one there lies in the larger fixed part; with none it is the length
+abbrev pub refusedLater : ℕ → ℕ → ℕ → Refusal
+refusedLater id name roaming =
+    cond (eqb id 0)
+    (cond (eqb name 0)
+    (cond (eqb roaming 0) (refusal tooShort 48) (refusal wrongOffset 36))
+    (refusal wrongOffset 28))
+    (refusal wrongOffset 20)
+
+-- ---- each field is of its width
+
+abbrev pub FormSized : RegistrationForm → Type 0
+FormSized Form1 = Unit
+FormSized (Form2 class) = class < 2 ^ 32
+
+pub record Sized (p : Registration) : Type 0 where
+  pub error : p .«nw_error» < 2 ^ 32
+  pub state : p .«register_state» < 2 ^ 32
+  pub mode : p .«register_mode» < 2 ^ 32
+  pub available : p .«available_data_class» < 2 ^ 32
+  pub cellular : p .«cellular_class» < 2 ^ 32
+  pub flag : p .«registration_flag» < 2 ^ 32
+  pub form : FormSized (p .form)

@@ -1,0 +1,2 @@
+pub mod Registration
+pub mod Claims

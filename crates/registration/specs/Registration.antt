@@ -1,0 +1,169 @@
+-- The REGISTER_STATE payload (document 01, "Registration"; source 000, MBIM_REGISTRATION_STATE_INFO_V2).
+-- In this order: the fields and their places; the rules, in the order in which they are judged; what a reader answers; what a writer gives.
+use Prim.Native.Nat.{ℕ, _+_}
+use mathlib.Core.Bool.{Bool, not, _&&_, _||_}
+use mathlib.Core.List.{List, [], _∷_, _++_}
+use lib.Dec.{ltb, eqb}
+use lib.ListN.{length}
+use Rattle.wire.specs.Numbers.{u32At, digits}
+use Rattle.wire.specs.Runs.{fitted}
+use Rattle.protocol.specs.Refusal.{wrongSize, outsideTable, contradiction}
+use Rattle.protocol.specs.Verdict.{Rule, rule, judge, firstOf, openLength, Writing, writing}
+use Rattle.protocol.specs.DataClass.{onlyClasses}
+use Rattle.protocol.specs.declared.Verdict.{Verdict}
+use Rattle.protocol.specs.declared.Verdict.the-variants.{Fits, Fault}
+use Rattle.protocol.specs.declared.Version.{Version}
+use Rattle.protocol.specs.declared.Version.the-variants.{V1, V2}
+use Rattle.pairs.specs.Pair.{rangeAt, unfit, verdictOf, padded, placed, rangeBytes}
+use Rattle.pairs.specs.declared.Range.{Range}
+use Rattle.pairs.specs.declared.PairKind.the-variants.{Text}
+use Rattle.registration.specs.declared.RegistrationForm.{RegistrationForm}
+use Rattle.registration.specs.declared.RegistrationForm.the-variants.{V1 as Form1, V2 as Form2}
+use Rattle.registration.specs.declared.Registration.{Registration}
+use Rattle.registration.specs.declared.RegistrationTexts.{RegistrationTexts}
+use Rattle.registration.specs.declared.RegistrationRead.{RegistrationRead}
+use Rattle.registration.specs.declared.RegistrationRead.the-variants.{Info, Refused}
+
+-- ---- fields and places
+
+-- "Fixed part 48 or 52"
+abbrev pub fixedPart : Version → ℕ
+fixedPart V1 = 48
+fixedPart V2 = 52
+
+-- at 2.00 PreferredDataClass 48
+abbrev pub formAt : Version → List ℕ → RegistrationForm
+formAt V1 s = Form1
+formAt V2 s = Form2 (u32At s 48)
+
+-- NwError 0, RegisterState 4, RegisterMode 8, AvailableDataClass 12, CellularClass 16, flags 44
+unfoldable pub recordAt : Version → List ℕ → Registration
+recordAt v s = record {
+  «nw_error» = u32At s 0;
+  «register_state» = u32At s 4;
+  «register_mode» = u32At s 8;
+  «available_data_class» = u32At s 12;
+  «cellular_class» = u32At s 16;
+  «registration_flag» = u32At s 44;
+  form = formAt v s;
+}
+
+abbrev pub texts : Range → Range → Range → RegistrationTexts
+texts id name roaming = record { «provider_id» = id; «provider_name» = name; «roaming_text» = roaming }
+
+-- pairs ProviderId 20, ProviderName 28, RoamingText 36
+unfoldable pub textsAt : List ℕ → RegistrationTexts
+textsAt s = texts (rangeAt s 20) (rangeAt s 28) (rangeAt s 36)
+
+-- ---- rules: broken, number, place; the first broken one decides
+
+-- state 0 to 6, mode 0 to 2, the classes of the version, cellular class within mask 3
+unfoldable pub frontRules : Version → Registration → List Rule
+frontRules v p =
+    rule (ltb 6 (p .«register_state»)) outsideTable 4
+    ∷ rule (ltb 2 (p .«register_mode»)) outsideTable 8
+    ∷ rule (not (onlyClasses v (p .«available_data_class»))) outsideTable 12
+    ∷ rule (ltb 3 (p .«cellular_class»)) outsideTable 16
+    ∷ []
+
+-- the pairs, with limits 12, 40 and 126, in n bytes
+unfoldable pub textsVerdict : ℕ → ℕ → RegistrationTexts → Verdict
+textsVerdict fixed n t =
+    firstOf (verdictOf Text fixed 12 20 n (t .«provider_id»))
+    (firstOf (verdictOf Text fixed 40 28 n (t .«provider_name»))
+    (verdictOf Text fixed 126 36 n (t .«roaming_text»)))
+
+-- the class is not 0 though the state is not 3, 4 or 5
+abbrev pub unregistered : ℕ → ℕ → Bool
+unregistered state class = not (eqb class 0) && (ltb state 3 || ltb 5 state)
+
+-- the preferred classes, at 2.00, and the rules after them
+abbrev pub preferredRules : RegistrationForm → List Rule → List Rule
+preferredRules Form1 rest = rest
+preferredRules (Form2 class) rest = rule (not (onlyClasses V2 class)) outsideTable 48 ∷ rest
+
+-- flags within mask 3; at 2.00 the preferred classes; last what contradicts
+unfoldable pub backRules : Registration → List Rule
+backRules p =
+    rule (ltb 3 (p .«registration_flag»)) outsideTable 44
+    ∷ preferredRules (p .form) (rule (unregistered (p .«register_state») (p .«available_data_class»)) contradiction 12 ∷ [])
+
+-- ---- what a reader answers
+
+abbrev pub shown : Verdict → Registration → RegistrationTexts → RegistrationRead
+shown Fits p t = Info p t
+shown (Fault r) p t = Refused r
+
+unfoldable pub readOf : Version → List ℕ → RegistrationRead
+readOf v s =
+    shown
+    (firstOf (openLength (fixedPart v) (length s))
+    (firstOf (judge (frontRules v (recordAt v s)))
+    (firstOf (textsVerdict (fixedPart v) (length s) (textsAt s))
+    (judge (backRules (recordAt v s))))))
+    (recordAt v s)
+    (textsAt s)
+
+-- ---- what a writer gives
+
+abbrev pub versionIn : RegistrationForm → Version
+versionIn Form1 = V1
+versionIn (Form2 class) = V2
+
+abbrev pub versionOf : Registration → Version
+versionOf p = versionIn (p .form)
+
+-- the sizes of the texts; a pair that the writer places breaks no other rule (proofs/RoundTrip)
+unfoldable pub sizeRules : ℕ → ℕ → ℕ → List Rule
+sizeRules id name roaming =
+    rule (unfit Text 12 id) wrongSize 20 ∷ rule (unfit Text 40 name) wrongSize 28 ∷ rule (unfit Text 126 roaming) wrongSize 36 ∷ []
+
+-- what fits is at most 232 bytes long, so number 5 is never given
+unfoldable pub writtenVerdict : Registration → ℕ → ℕ → ℕ → Verdict
+writtenVerdict p id name roaming =
+    firstOf (judge (frontRules (versionOf p) p)) (firstOf (judge (sizeRules id name roaming)) (judge (backRules p)))
+
+-- the texts straight after the fixed part, in field order
+unfoldable pub laidTexts : ℕ → ℕ → ℕ → ℕ → RegistrationTexts
+laidTexts fixed id name roaming = texts (placed fixed id) (placed (fixed + padded id) name) (placed (fixed + padded id + padded name) roaming)
+
+abbrev pub lengthOf : Version → ℕ → ℕ → ℕ → ℕ
+lengthOf v id name roaming = fixedPart v + padded id + padded name + padded roaming
+
+unfoldable pub frontBytes : Registration → List ℕ
+frontBytes p =
+    digits 4 (p .«nw_error»)
+    ++ (digits 4 (p .«register_state») ++ (digits 4 (p .«register_mode») ++ (digits 4 (p .«available_data_class») ++ digits 4 (p .«cellular_class»))))
+
+unfoldable pub textsBytes : Range → Range → Range → List ℕ
+textsBytes id name roaming = rangeBytes id ++ (rangeBytes name ++ rangeBytes roaming)
+
+-- the preferred classes, at 2.00
+abbrev pub preferredBytes : RegistrationForm → List ℕ
+preferredBytes Form1 = []
+preferredBytes (Form2 class) = digits 4 class
+
+unfoldable pub backBytes : Registration → List ℕ
+backBytes p = digits 4 (p .«registration_flag») ++ preferredBytes (p .form)
+
+unfoldable pub fixedBytes : Registration → Range → Range → Range → List ℕ
+fixedBytes p id name roaming = frontBytes p ++ (textsBytes id name roaming ++ backBytes p)
+
+abbrev pub fixedWith : Registration → RegistrationTexts → List ℕ
+fixedWith p t = fixedBytes p (t .«provider_id») (t .«provider_name») (t .«roaming_text»)
+
+-- where the texts x, y and z of a record go
+abbrev pub laidFor : Registration → List ℕ → List ℕ → List ℕ → RegistrationTexts
+laidFor p x y z = laidTexts (fixedPart (versionOf p)) (length x) (length y) (length z)
+
+-- a text with its padding
+abbrev pub textBytes : List ℕ → List ℕ
+textBytes x = fitted (padded (length x)) x
+
+-- the payload's bytes, with the texts x, y and z
+unfoldable pub bytesOf : Registration → List ℕ → List ℕ → List ℕ → List ℕ
+bytesOf p x y z = fixedWith p (laidFor p x y z) ++ (textBytes x ++ (textBytes y ++ textBytes z))
+
+-- the answer, and the output at exit
+unfoldable pub writeOf : Registration → List ℕ → List ℕ → List ℕ → List ℕ → Writing
+writeOf p x y z s = writing (writtenVerdict p (length x) (length y) (length z)) (bytesOf p x y z) s

@@ -1,0 +1,416 @@
+// The REGISTER_STATE payload: its record, and a reader and a writer of both forms. Texts are shown
+// as ranges of the payload and written from lent slices; what stands in a text is not judged.
+use pairs::PairKind;
+use pairs::Range;
+use pairs::is_unfit;
+use pairs::padded_size;
+use pairs::place_at;
+use pairs::put_range;
+use pairs::range_at;
+use protocol::CONTRADICTION;
+use protocol::OUTPUT_TOO_SMALL;
+use protocol::OUTSIDE_TABLE;
+use protocol::Refusal;
+use protocol::Verdict;
+use protocol::Version;
+use protocol::WRONG_SIZE;
+use protocol::Written;
+use protocol::also;
+use protocol::data_class::is_only_classes;
+use protocol::first;
+use protocol::judge_open_length;
+use wire::put_run;
+use wire::put_u32;
+use wire::u32_at;
+ghost use mathlib.Core.Path.{_≡_};
+ghost use Prim.Native.Nat.{_≤_};
+ghost use lib.ListN.{length};
+ghost use lib.Seq.{sets};
+ghost use Rattle.protocol.specs.Verdict.{judge};
+ghost use Rattle.protocol.specs.declared.Verdict.the-variants.{Fits};
+ghost use Rattle.registration.specs.Registration.{fixedPart, formAt, recordAt, textsAt, frontRules, textsVerdict, unregistered, backRules, readOf, versionOf, sizeRules, writtenVerdict, lengthOf, frontBytes, textsBytes, backBytes, fixedBytes, bytesOf, writeOf};
+
+// What only one form has.
+pub enum RegistrationForm {
+    V1,
+    V2 { preferred_data_class: u32 },
+}
+
+pub struct Registration {
+    pub nw_error: u32,
+    pub register_state: u32,
+    pub register_mode: u32,
+    pub available_data_class: u32,
+    pub cellular_class: u32,
+    pub registration_flag: u32,
+    pub form: RegistrationForm,
+}
+
+pub struct RegistrationTexts {
+    pub provider_id: Range,
+    pub provider_name: Range,
+    pub roaming_text: Range,
+}
+
+pub enum RegistrationRead {
+    Info(Registration, RegistrationTexts),
+    Refused(Refusal),
+}
+
+const NW_ERROR: usize = 0;
+
+const REGISTER_STATE: usize = 4;
+
+const REGISTER_MODE: usize = 8;
+
+const AVAILABLE_DATA_CLASS: usize = 12;
+
+const CELLULAR_CLASS: usize = 16;
+
+const PROVIDER_ID: usize = 20;
+
+const PROVIDER_NAME: usize = 28;
+
+const ROAMING_TEXT: usize = 36;
+
+const REGISTRATION_FLAG: usize = 44;
+
+const PREFERRED_DATA_CLASS: usize = 48;
+
+const PROVIDER_ID_LIMIT: u32 = 12;
+
+const PROVIDER_NAME_LIMIT: u32 = 40;
+
+const ROAMING_TEXT_LIMIT: u32 = 126;
+
+const HOME: u32 = 3;
+
+const PARTNER: u32 = 5;
+
+const LAST_STATE: u32 = 6;
+
+const LAST_MODE: u32 = 2;
+
+const CELLULAR_CLASS_MASK: u32 = 3;
+
+const REGISTRATION_FLAG_MASK: u32 = 3;
+
+pub fn read(version: Version, payload: &[u8]) -> RegistrationRead
+    ensures { λ r. ⌜ r ≡ readOf version (now (payload .entry)) ⌝ }
+{
+    let info = record_at(version, payload);
+    let texts = texts_at(payload);
+    let fixed = fixed_part(version);
+    let length = judge_open_length(fixed as usize, payload.len());
+    let last = first(judge_texts(fixed, payload.len(), texts), judge_back(info));
+    let fields = first(judge_front(version, info), last);
+    match first(length, fields) {
+        Verdict::Fits => RegistrationRead::Info(info, texts),
+        Verdict::Fault(refusal) => RegistrationRead::Refused(refusal),
+    }
+}
+
+// Writes the record at its form's version.
+pub fn write(
+    info: Registration,
+    provider_id: &[u8],
+    provider_name: &[u8],
+    roaming_text: &[u8],
+    out: &mut [u8],
+) -> Written
+    ensures { λ r. ⌜ r ≡ writeOf info (now («provider_id» .entry)) (now («provider_name» .entry)) (now («roaming_text» .entry)) (now (out .entry)) .answer ⌝ }
+    ensures { λ _. ⌜ now (out .exit) ≡ writeOf info (now («provider_id» .entry)) (now («provider_name» .entry)) (now («roaming_text» .entry)) (now (out .entry)) .output ⌝ }
+{
+    let verdict = judge_written(
+        info,
+        provider_id.len(),
+        provider_name.len(),
+        roaming_text.len(),
+    );
+    match verdict {
+        Verdict::Fits => write_judged(info, provider_id, provider_name, roaming_text, out),
+        Verdict::Fault(refusal) => Written::Refused(refusal),
+    }
+}
+
+pub fn version_of(info: Registration) -> Version
+    ensures { λ r. ⌜ r ≡ versionOf info ⌝ }
+{
+    let form = info.form;
+    match form {
+        RegistrationForm::V1 => Version::V1,
+        RegistrationForm::V2 {
+            preferred_data_class: _,
+        } => Version::V2,
+    }
+}
+
+fn fixed_part(version: Version) -> u32
+    ensures { λ r. ⌜ r ≡ fixedPart version ⌝ }
+{
+    match version {
+        Version::V1 => 48,
+        Version::V2 => 52,
+    }
+}
+
+fn record_at(version: Version, s: &[u8]) -> Registration
+    ensures { λ r. ⌜ r ≡ recordAt version (now (s .entry)) ⌝ }
+{
+    let form = form_at(version, s);
+    Registration {
+        nw_error: u32_at(s, NW_ERROR),
+        register_state: u32_at(s, REGISTER_STATE),
+        register_mode: u32_at(s, REGISTER_MODE),
+        available_data_class: u32_at(s, AVAILABLE_DATA_CLASS),
+        cellular_class: u32_at(s, CELLULAR_CLASS),
+        registration_flag: u32_at(s, REGISTRATION_FLAG),
+        form,
+    }
+}
+
+fn form_at(version: Version, s: &[u8]) -> RegistrationForm
+    ensures { λ r. ⌜ r ≡ formAt version (now (s .entry)) ⌝ }
+{
+    match version {
+        Version::V1 => RegistrationForm::V1,
+        Version::V2 => RegistrationForm::V2 {
+            preferred_data_class: u32_at(s, PREFERRED_DATA_CLASS),
+        },
+    }
+}
+
+fn texts_at(s: &[u8]) -> RegistrationTexts
+    ensures { λ r. ⌜ r ≡ textsAt (now (s .entry)) ⌝ }
+{
+    let provider_id = range_at(s, PROVIDER_ID);
+    let provider_name = range_at(s, PROVIDER_NAME);
+    let roaming_text = range_at(s, ROAMING_TEXT);
+    RegistrationTexts {
+        provider_id,
+        provider_name,
+        roaming_text,
+    }
+}
+
+// The numbers before the pairs, the same for the reader and the writer.
+fn judge_front(version: Version, info: Registration) -> Verdict
+    ensures { λ r. ⌜ r ≡ judge (frontRules version info) ⌝ }
+{
+    let state_known = also(
+        Verdict::Fits,
+        LAST_STATE < info.register_state,
+        OUTSIDE_TABLE,
+        REGISTER_STATE,
+    );
+    let mode_known = also(
+        state_known,
+        LAST_MODE < info.register_mode,
+        OUTSIDE_TABLE,
+        REGISTER_MODE,
+    );
+    let class_known = also(
+        mode_known,
+        !is_only_classes(version, info.available_data_class),
+        OUTSIDE_TABLE,
+        AVAILABLE_DATA_CLASS,
+    );
+    also(
+        class_known,
+        CELLULAR_CLASS_MASK < info.cellular_class,
+        OUTSIDE_TABLE,
+        CELLULAR_CLASS,
+    )
+}
+
+// The three pairs, in a payload of n bytes.
+fn judge_texts(fixed: u32, n: usize, texts: RegistrationTexts) -> Verdict
+    ensures { λ r. ⌜ r ≡ textsVerdict fixed n texts ⌝ }
+{
+    let id = texts.provider_id;
+    let name = texts.provider_name;
+    let roaming = texts.roaming_text;
+    let id_fits = pairs::judge(PairKind::Text, fixed, PROVIDER_ID_LIMIT, PROVIDER_ID, n, id);
+    let name_fits = pairs::judge(
+        PairKind::Text,
+        fixed,
+        PROVIDER_NAME_LIMIT,
+        PROVIDER_NAME,
+        n,
+        name,
+    );
+    let roaming_fits = pairs::judge(
+        PairKind::Text,
+        fixed,
+        ROAMING_TEXT_LIMIT,
+        ROAMING_TEXT,
+        n,
+        roaming,
+    );
+    first(id_fits, first(name_fits, roaming_fits))
+}
+
+// The numbers after the pairs, and last what contradicts.
+fn judge_back(info: Registration) -> Verdict
+    ensures { λ r. ⌜ r ≡ judge (backRules info) ⌝ }
+{
+    let form = info.form;
+    let stray = is_unregistered(info.register_state, info.available_data_class);
+    let flag_known = also(
+        Verdict::Fits,
+        REGISTRATION_FLAG_MASK < info.registration_flag,
+        OUTSIDE_TABLE,
+        REGISTRATION_FLAG,
+    );
+    match form {
+        RegistrationForm::V1 => also(flag_known, stray, CONTRADICTION, AVAILABLE_DATA_CLASS),
+        RegistrationForm::V2 {
+            preferred_data_class,
+        } => {
+            let preferred_known = also(
+                flag_known,
+                !is_only_classes(Version::V2, preferred_data_class),
+                OUTSIDE_TABLE,
+                PREFERRED_DATA_CLASS,
+            );
+            also(preferred_known, stray, CONTRADICTION, AVAILABLE_DATA_CLASS)
+        }
+    }
+}
+
+// Whether there is a class without a registered state.
+fn is_unregistered(state: u32, class: u32) -> bool
+    ensures { λ r. ⌜ r ≡ unregistered state class ⌝ }
+{
+    if class == 0 {
+        return false;
+    }
+    if state < HOME {
+        return true;
+    }
+    PARTNER < state
+}
+
+// The writer's rules, by the sizes of the texts.
+fn judge_written(info: Registration, id: usize, name: usize, roaming: usize) -> Verdict
+    ensures { λ r. ⌜ r ≡ writtenVerdict info id name roaming ⌝ }
+{
+    let front = judge_front(version_of(info), info);
+    first(
+        front,
+        first(judge_sizes(id, name, roaming), judge_back(info)),
+    )
+}
+
+fn judge_sizes(id: usize, name: usize, roaming: usize) -> Verdict
+    ensures { λ r. ⌜ r ≡ judge (sizeRules id name roaming) ⌝ }
+{
+    let id_unfit = is_unfit(PairKind::Text, PROVIDER_ID_LIMIT, id);
+    let name_unfit = is_unfit(PairKind::Text, PROVIDER_NAME_LIMIT, name);
+    let roaming_unfit = is_unfit(PairKind::Text, ROAMING_TEXT_LIMIT, roaming);
+    let id_fits = also(Verdict::Fits, id_unfit, WRONG_SIZE, PROVIDER_ID);
+    let name_fits = also(id_fits, name_unfit, WRONG_SIZE, PROVIDER_NAME);
+    also(name_fits, roaming_unfit, WRONG_SIZE, ROAMING_TEXT)
+}
+
+// What fits: the room is judged, and the bytes are put.
+fn write_judged(
+    info: Registration,
+    provider_id: &[u8],
+    provider_name: &[u8],
+    roaming_text: &[u8],
+    out: &mut [u8],
+) -> Written
+    requires { ⌜ writtenVerdict info (length (now «provider_id»)) (length (now «provider_name»)) (length (now «roaming_text»)) ≡ Fits ⌝ }
+    ensures { λ r. ⌜ r ≡ writeOf info (now («provider_id» .entry)) (now («provider_name» .entry)) (now («roaming_text» .entry)) (now (out .entry)) .answer ⌝ }
+    ensures { λ _. ⌜ now (out .exit) ≡ writeOf info (now («provider_id» .entry)) (now («provider_name» .entry)) (now («roaming_text» .entry)) (now (out .entry)) .output ⌝ }
+{
+    let id = provider_id.len() as u32;
+    let name = provider_name.len() as u32;
+    let roaming = roaming_text.len() as u32;
+    let n = length_of(version_of(info), id, name, roaming);
+    if out.len() < n {
+        return Written::Refused(Refusal {
+            number: OUTPUT_TOO_SMALL,
+            place: n,
+        });
+    }
+    put(info, provider_id, provider_name, roaming_text, out);
+    Written::Length(n)
+}
+
+fn length_of(version: Version, id: u32, name: u32, roaming: u32) -> usize
+    ensures { λ r. ⌜ r ≡ lengthOf version id name roaming ⌝ }
+{
+    fixed_part(version) as usize + padded_size(id) + padded_size(name) + padded_size(roaming)
+}
+
+// The payload's bytes, where the texts are of sizes that fit.
+fn put(
+    info: Registration,
+    provider_id: &[u8],
+    provider_name: &[u8],
+    roaming_text: &[u8],
+    out: &mut [u8],
+)
+    requires { ⌜ (length (now «provider_id») ≤ 126) × ((length (now «provider_name») ≤ 126) × (length (now «roaming_text») ≤ 126)) ⌝ }
+    ensures { λ _. ⌜ now (out .exit) ≡ sets (now (out .entry)) 0 (bytesOf info (now («provider_id» .entry)) (now («provider_name» .entry)) (now («roaming_text» .entry))) ⌝ }
+{
+    let id = provider_id.len() as u32;
+    let name = provider_name.len() as u32;
+    let roaming = roaming_text.len() as u32;
+    let id_room = padded_size(id);
+    let name_room = padded_size(name);
+    let roaming_room = padded_size(roaming);
+    let id_at = fixed_part(version_of(info)) as usize;
+    let name_at = id_at + id_room;
+    let roaming_at = name_at + name_room;
+    let first_text = place_at(id_at as u32, id);
+    let second_text = place_at(name_at as u32, name);
+    let third_text = place_at(roaming_at as u32, roaming);
+    put_fixed(info, first_text, second_text, third_text, out);
+    put_run(out, id_at, provider_id, id_room);
+    put_run(out, name_at, provider_name, name_room);
+    put_run(out, roaming_at, roaming_text, roaming_room);
+}
+
+fn put_fixed(info: Registration, id: Range, name: Range, roaming: Range, out: &mut [u8])
+    ensures { λ _. ⌜ now (out .exit) ≡ sets (now (out .entry)) 0 (fixedBytes info id name roaming) ⌝ }
+{
+    put_front(info, out);
+    put_texts(id, name, roaming, out);
+    put_back(info, out);
+}
+
+fn put_front(info: Registration, out: &mut [u8])
+    ensures { λ _. ⌜ now (out .exit) ≡ sets (now (out .entry)) 0 (frontBytes info) ⌝ }
+{
+    put_u32(out, NW_ERROR, info.nw_error);
+    put_u32(out, REGISTER_STATE, info.register_state);
+    put_u32(out, REGISTER_MODE, info.register_mode);
+    put_u32(out, AVAILABLE_DATA_CLASS, info.available_data_class);
+    put_u32(out, CELLULAR_CLASS, info.cellular_class);
+}
+
+fn put_texts(id: Range, name: Range, roaming: Range, out: &mut [u8])
+    ensures { λ _. ⌜ now (out .exit) ≡ sets (now (out .entry)) 20 (textsBytes id name roaming) ⌝ }
+{
+    put_range(out, PROVIDER_ID, id);
+    put_range(out, PROVIDER_NAME, name);
+    put_range(out, ROAMING_TEXT, roaming);
+}
+
+fn put_back(info: Registration, out: &mut [u8])
+    ensures { λ _. ⌜ now (out .exit) ≡ sets (now (out .entry)) 44 (backBytes info) ⌝ }
+{
+    let form = info.form;
+    put_u32(out, REGISTRATION_FLAG, info.registration_flag);
+    match form {
+        RegistrationForm::V1 => {}
+        RegistrationForm::V2 {
+            preferred_data_class,
+        } => {
+            put_u32(out, PREFERRED_DATA_CLASS, preferred_data_class);
+        }
+    }
+}

@@ -1,0 +1,3 @@
+pub mod Decibels
+pub mod Bars
+pub mod Claims
