@@ -11,8 +11,8 @@ use borrow.Author.Tests.{lt-ltb, le-ltb, eq-eqb, ne-eqb}
 use lib.Dec.{ltb, eqb}
 use lib.ListN.{length, length-append, length-set, getD, set, take, drop, drop-of-length-le}
 use lib.Seq.{sets, set-split, drop-at, drop-cons, length-take-le}
-use Rattle.wire.proofs.Laws.{sets-append}
-use Rattle.ascii.specs.Ascii.{decimalIn, valueFrom, hexDigit, isHex, hexValue, hexRun, unhexed, agreement, through}
+use Rattle.wire.proofs.Laws.{sets-append, sets-then}
+use Rattle.ascii.specs.Ascii.{decimalIn, valueFrom, hexDigit, isHex, hexValue, hexRun, unhexed, hexPair, hexedIn, agreement, through}
 
 -- what holds of both sides of a test holds of what it picks
 pub by-test : {A : Type 0} (P : A → Type 0) (t : Bool) {a b : A} → P a → P b → P (cond t a b)
@@ -114,6 +114,20 @@ unhex-more n s o p h l q =
     let a : sets o 0 (unhexed n s ++ (b ∷ [])) ≡ sets (sets o 0 (unhexed n s)) (0 + length (unhexed n s)) (b ∷ []) = sets-append (unhexed n s) (b ∷ []) o 0 in
     let z : 0 + length (unhexed n s) ≡ n = omega (arith, length-unhexed n s) in
     q ∙ rw (p, h, l, add-one n, a, z)
+
+pub length-hexed : (n : ℕ) (s : List ℕ) → length (hexedIn n s) ≡ 2 * n
+unfolding hexedIn hexPair
+length-hexed zero s = refl
+length-hexed (suc n) s = length-append (hexedIn n s) (hexPair (getD s n 0)) ∙ omega (arith, length-hexed n s)
+
+-- the digits of one byte more
+pub hex-more : (n at : ℕ) (s o : List ℕ) {o₁ o₂ : List ℕ} {b : ℕ} → o₁ ≡ sets o at (hexedIn n s) → b ≡ getD s n 0
+    → o₂ ≡ sets o₁ (at + 2 * n) (hexPair b) → o₂ ≡ sets o at (hexedIn (n + 1) s)
+unfolding hexedIn
+hex-more n at s o {o₁} {o₂} {b} p e q =
+    let a : o₂ ≡ sets o at (hexedIn n s ++ hexPair (getD s n 0)) =
+    sets-then (hexedIn n s) (hexPair (getD s n 0)) at (2 * n) o (length-hexed n s) p (q ∙ ap (λ (k : ℕ). sets o₁ (at + 2 * n) (hexPair k)) e) in
+    rw (add-one n) a
 
 -- ---- how far a text goes
 

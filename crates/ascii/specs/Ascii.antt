@@ -5,7 +5,7 @@ use Prim.Native.String.{String, [] as empty, _∷_ as _then_}
 use mathlib.Core.Bool.{Bool, cond, not, _||_}
 use mathlib.Core.List.{List, [], _∷_, _++_}
 use lib.Dec.{ltb, eqb}
-use lib.ListN.{getD}
+use lib.ListN.{length, getD}
 
 -- the bytes of a text of ASCII characters
 abbrev pub ascii : String → List ℕ
@@ -52,6 +52,20 @@ hexRun (b ∷ s) = cond (isHex b) (suc (hexRun s)) 0
 unfoldable pub unhexed : ℕ → List ℕ → List ℕ
 unhexed zero s = []
 unhexed (suc n) s = unhexed n s ++ ((16 * hexValue (getD s (2 * n) 0) + hexValue (getD s (2 * n + 1) 0)) ∷ [])
+
+-- a digit in lower case, the two digits of a byte, and those of the first n bytes of s
+abbrev pub glyphOf : ℕ → ℕ
+glyphOf n = cond (ltb n 10) (48 + n) (87 + n)
+
+unfoldable pub hexPair : ℕ → List ℕ
+hexPair b = glyphOf (b / 16) ∷ glyphOf (b % 16) ∷ []
+
+unfoldable pub hexedIn : ℕ → List ℕ → List ℕ
+hexedIn zero s = []
+hexedIn (suc n) s = hexedIn n s ++ hexPair (getD s n 0)
+
+abbrev pub hexed : List ℕ → List ℕ
+hexed s = hexedIn (length s) s
 
 -- ---- how far a text goes
 

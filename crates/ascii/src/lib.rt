@@ -4,10 +4,10 @@ use wire::byte_at;
 use wire::put_byte;
 use wire::put_run;
 ghost use mathlib.Core.Path.{_≡_};
-ghost use Prim.Native.Nat.{_/_, _+_, _≤_};
+ghost use Prim.Native.Nat.{_/_, _+_, _≤_, _<_};
 ghost use lib.ListN.{length, drop};
 ghost use lib.Seq.{sets};
-ghost use Rattle.ascii.specs.Ascii.{decimal, digitIn, hexDigit, hexValue, hexRun, unhexed, agreement, through};
+ghost use Rattle.ascii.specs.Ascii.{decimal, digitIn, hexDigit, hexValue, hexRun, unhexed, glyphOf, hexPair, agreement, through};
 
 // The digits of a number: those of bytes from `from` on.
 struct Digits {
@@ -66,6 +66,17 @@ pub fn unhex(s: &[u8], out: &mut [u8])
     }
 }
 
+// Puts the two digits of a byte, in lower case, at a place of the output.
+pub fn put_hex(out: &mut [u8], at: usize, b: u8)
+    ensures { λ _. ⌜ now (out .exit) ≡ sets (now (out .entry)) at (hexPair b) ⌝ }
+{
+    if out.len() <= at {
+        return;
+    }
+    put_byte(out, at, glyph(b / 16));
+    put_byte(out, at + 1, glyph(b % 16));
+}
+
 // How far s and a word agree from their beginnings.
 pub fn agree(s: &[u8], word: &[u8]) -> usize
     ensures { λ r. ⌜ r ≡ agreement (now (s .entry)) (now (word .entry)) ⌝ }
@@ -121,6 +132,16 @@ fn digits_of(n: u64) -> Digits
     i -= 1;
     bytes[i] = 48 + rest as u8;
     Digits { bytes, from: i }
+}
+
+fn glyph(digit: u8) -> u8
+    requires { ⌜ digit < 16 ⌝ }
+    ensures { λ r. ⌜ r ≡ glyphOf digit ⌝ }
+{
+    if digit < 10 {
+        return 48 + digit;
+    }
+    87 + digit
 }
 
 fn hex_value(b: u8) -> u8

@@ -1,7 +1,7 @@
 -- Texts put one behind another, the payload that digits spell, and a line's part of a chunk.
 -- Assumes nothing.
 use mathlib.Core.Path.{_≡_, sym, ap, _∙_}
-use mathlib.Core.List.{List, [], _++_}
+use mathlib.Core.List.{List, [], _++_, append-nil}
 use Prim.Native.Nat.{ℕ, _+_, _-_, _/_, _≤_, _<_}
 use native.Mathlib.Numerals.{add-one}
 use native.Mathlib.Omega.{arith}
@@ -23,6 +23,10 @@ put-then {s} {s₁} {s₂} {at} {n₁} {n₂} {x} {y} p q = record {
   stored = q .stored ∙ (λ i. sets (p .stored i) (p .ends i) y) ∙ sym (sets-append x y s at);
   ends = q .ends ∙ omega (arith, p .ends, length-append x y);
 }
+
+-- a text and nothing behind it
+pub put-none : {s t : List ℕ} {at n : ℕ} {x : List ℕ} → Put s at x t n → Put s at (x ++ []) t n
+put-none {s} {t} {at} {n} {x} p = rw (append-nil x) p
 
 -- a tab and the digits behind it
 pub put-digits : (value : ℕ) (s : List ℕ) (at : ℕ) {s₁ s₂ : List ℕ} {n : ℕ} → s₁ ≡ set s at 9 → s₂ ≡ sets s₁ (at + 1) (decimal value)

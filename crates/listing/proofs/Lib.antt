@@ -1,3 +1,4 @@
 pub mod Laws
 pub mod Requests
 pub mod Cut
+pub mod Registrations

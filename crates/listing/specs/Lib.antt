@@ -1,4 +1,5 @@
 pub mod Rows
 pub mod Request
 pub mod Lines
+pub mod Registrations
 pub mod Listing

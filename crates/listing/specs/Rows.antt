@@ -6,7 +6,7 @@ use mathlib.Core.List.{List, [], _∷_, _++_}
 use lib.ListN.{length}
 use lib.Seq.{sets}
 use Rattle.protocol.specs.declared.Refusal.{Refusal}
-use Rattle.ascii.specs.Ascii.{ascii, decimal}
+use Rattle.ascii.specs.Ascii.{ascii, decimal, hexed}
 
 -- ---- the rows
 
@@ -25,6 +25,10 @@ field value = tab ∷ decimal value
 
 unfoldable pub row : List ℕ → ℕ → List ℕ
 row name value = name ++ (field value ++ (lineFeed ∷ []))
+
+-- "texts are listed in hex"
+unfoldable pub textRow : List ℕ → List ℕ → List ℕ
+textRow name text = name ++ ((tab ∷ []) ++ (hexed text ++ (lineFeed ∷ [])))
 
 -- "a refusal is one line: refused, number, place"
 unfoldable pub refusedLine : Refusal → List ℕ

@@ -13,6 +13,7 @@ ghost use Rattle.listing.specs.Request.{word, alsoWord, reachFrom, kindW
 pub enum ListingKind {
     PacketService,
     Version,
+    Registration,
 }
 
 pub enum Request {
@@ -96,16 +97,18 @@ fn kind_at(line: &[u8]) -> Reached
     ensures { λ r. ⌜ r ≡ reachFrom (Reached.Column 0) (now (line .entry)) 0 kindWords ⌝ }
 {
     let packet = also_word(Reached::Column(0), line, 0, b"packet_service\t", 0);
-    also_word(packet, line, 0, b"version\t", 1)
+    let version = also_word(packet, line, 0, b"version\t", 1);
+    also_word(version, line, 0, b"registration\t", 2)
 }
 
 fn kind_of(number: u32) -> ListingKind
     ensures { λ r. ⌜ r ≡ kindOf number ⌝ }
 {
-    if number == 0 {
-        return ListingKind::PacketService;
+    match number {
+        0 => ListingKind::PacketService,
+        1 => ListingKind::Version,
+        _ => ListingKind::Registration,
     }
-    ListingKind::Version
 }
 
 // The length of a kind's word, with its tab.
@@ -115,6 +118,7 @@ fn kind_length(kind: ListingKind) -> usize
     match kind {
         ListingKind::PacketService => 15,
         ListingKind::Version => 8,
+        ListingKind::Registration => 13,
     }
 }
 

@@ -3,8 +3,8 @@ use borrow.Author.Needs.{needs}
 use native.Mathlib.Omega.{arith}
 use Rattle.listing.specs.Listing.{speedRows}
 use Rattle.listing.proofs.Laws.{put-then}
-use Rattle.listing.proofs.put_speeds.Statement.{statement}
-use Rattle.listing.proofs.put_speeds.Tie as tie
+use Rattle.listing.proofs.packet_rows.put_speeds.Statement.{statement}
+use Rattle.listing.proofs.packet_rows.put_speeds.Tie as tie
 
 returns : tie.Need-returns
 unfolding speedRows
