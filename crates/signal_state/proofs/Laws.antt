@@ -19,7 +19,7 @@ use Rattle.protocol.specs.declared.Verdict.the-variants.{Fits, Fault}
 use Rattle.protocol.specs.declared.Version.the-variants.{V2}
 use Rattle.protocol.specs.declared.Written.{Written}
 use Rattle.protocol.proofs.Tests.{or-none}
-use Rattle.protocol.proofs.Verdicts.{right-fits, not-broken, fits-kept}
+use Rattle.protocol.proofs.Verdicts.{left-fits, right-fits, not-broken, fits-kept}
 use Rattle.below.specs.Below.{listOf}
 use Rattle.below.proofs.Laws.{fault-same, any-same, length-list, list-at, length-joined}
 use Rattle.pairs.specs.Pair.{rangeAt, verdictOf, placed, rangeBytes}
@@ -29,7 +29,7 @@ use Rattle.pairs.proofs.Laws.{size-said}
 use Rattle.signal_state.specs.declared.RsrpSnr.{RsrpSnr}
 use Rattle.signal_state.specs.declared.SignalForm.{SignalForm}
 use Rattle.signal_state.specs.declared.SignalState.{SignalState}
-use Rattle.signal_state.specs.SignalState.{countIn, countAt, entryPlace, zeroEntry, noEntries, sixteen, numberRules, wrongCountOf, listRules, entryRules, entriesVerdict, isKnown, anyKnown, contradicts, bodyVerdict, headOf, headVerdict, entryIn, sizeOf, limitVerdict, numberBytes, entryBytes, entriesBytes, listBytes, listedBytes, listPlace, verdictAt, refused, readEntries, readOf, verdictIn, bytesIn, writeOf}
+use Rattle.signal_state.specs.SignalState.{countIn, countAt, entryPlace, zeroEntry, noEntries, sixteen, numberRules, wrongCountOf, listRules, entryRules, entriesVerdict, isKnown, anyKnown, contradicts, bodyVerdict, headOf, headVerdict, entryIn, sizeOf, limitVerdict, listedVerdict, numberBytes, entryBytes, entriesBytes, listBytes, listedBytes, listPlace, verdictAt, refused, readEntries, readOf, verdictIn, bytesIn, writeOf}
 
 -- ---- entries one by one
 
@@ -112,6 +112,11 @@ length-list-bytes (suc n) f = rw (ne-eqb (suc n) 0 (omega arith)) (omega (arith,
 pub length-listed : (p : SignalState) (n : ℕ) (f : ℕ → RsrpSnr) → length (listedBytes p n f) ≡ 28 + sizeOf n
 unfolding listedBytes
 length-listed p n f = length-append (numberBytes p) (listBytes n f) ∙ omega (arith, length-numbers p, length-list-bytes n f)
+
+-- what is written is far below 4,096 bytes, so number 5 is never given
+pub bytes-most : (p : SignalState) (n : ℕ) (f : ℕ → RsrpSnr) → listedVerdict p n f ≡ Fits → length (listedBytes p n f) ≤ 352
+unfolding listedVerdict
+bytes-most p n f e = omega (arith, length-listed p n f, small-size n (limit-small p n (left-fits (limitVerdict p n) _ e)))
 
 -- ---- what a reader shows behind the head
 

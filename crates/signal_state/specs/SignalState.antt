@@ -15,7 +15,7 @@ use Rattle.protocol.specs.declared.Verdict.the-variants.{Fits, Fault}
 use Rattle.protocol.specs.declared.Version.{Version}
 use Rattle.protocol.specs.declared.Version.the-variants.{V1, V2}
 use Rattle.below.specs.Below.{firstFault, anyOf, listOf, joined}
-use Rattle.pairs.specs.Pair.{rangeAt, unfit, verdictOf, placed, rangeBytes}
+use Rattle.pairs.specs.Pair.{rangeAt, ifSized, unfit, verdictOf, placed, rangeBytes}
 use Rattle.pairs.specs.declared.Range.{Range}
 use Rattle.pairs.specs.declared.PairKind.the-variants.{List as ListKind}
 use Rattle.signal_state.specs.declared.RsrpSnr.{RsrpSnr}
@@ -85,20 +85,16 @@ unmarked last x = not (eqb x 99) && ltb last x
 unfoldable pub numberRules : ℕ → ℕ → List Rule
 numberRules rssi rate = rule (unmarked 31 rssi) outsideTable 0 ∷ rule (unmarked 7 rate) outsideTable 4 ∷ []
 
--- "a signal pair of size 0 is absent"
-abbrev pub listed : ℕ → Bool → Bool
-listed size broken = not (eqb size 0) && broken
-
 -- 0, or over 16
 abbrev pub wrongCountOf : ℕ → Bool
 wrongCountOf n = eqb n 0 || ltb 16 n
 
--- "size under 4, 8; count 15 when over its limit or 0; size against count, 8"
+-- "a signal pair of size 0 is absent"; "size under 4, 8; count 15 when over its limit or 0; size against count, 8"
 unfoldable pub listRules : Range → ℕ → List Rule
 listRules p count =
-    rule (listed (p .length) (ltb (p .length) 4)) wrongSize 20
-    ∷ rule (listed (p .length) (wrongCountOf count)) wrongCount (p .start)
-    ∷ rule (listed (p .length) (not (eqb (p .length) (4 + 20 * count)))) wrongSize 20
+    rule (ifSized (p .length) (ltb (p .length) 4)) wrongSize 20
+    ∷ rule (ifSized (p .length) (wrongCountOf count)) wrongCount (p .start)
+    ∷ rule (ifSized (p .length) (not (eqb (p .length) (4 + 20 * count)))) wrongSize 20
     ∷ []
 
 -- one entry: RSRP 0 to 126 or the mark 127, SNR 0 to 127 or the mark 128, SystemType exactly one class

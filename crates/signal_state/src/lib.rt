@@ -2,6 +2,7 @@
 // code means in decibels is not known here.
 use pairs::PairKind;
 use pairs::Range;
+use pairs::if_sized;
 use pairs::is_unfit;
 use pairs::place_at;
 use pairs::put_range;
@@ -28,7 +29,7 @@ ghost use lib.Seq.{sets};
 ghost use Rattle.protocol.specs.Verdict.{judge, writing};
 ghost use Rattle.protocol.specs.declared.Verdict.the-variants.{Fits};
 ghost use Rattle.protocol.specs.declared.Version.the-variants.{V1, V2};
-ghost use Rattle.signal_state.specs.SignalState.{entryPlace, entryAt, noEntries, entriesAt, countIn, stateAt, unmarked, numberRules, listed, wrongCountOf, listRules, entryRules, isKnown, entryIn, entriesVerdict, anyKnown, contradicts, bodyVerdict, headOf, refused, readEntries, readOf, versionOf, sizeOf, limitVerdict, listedVerdict, numberBytes, entryBytes, entriesBytes, listBytes, listedBytes, writeOf};
+ghost use Rattle.signal_state.specs.SignalState.{entryPlace, entryAt, noEntries, entriesAt, countIn, stateAt, unmarked, numberRules, wrongCountOf, listRules, entryRules, isKnown, entryIn, entriesVerdict, anyKnown, contradicts, bodyVerdict, headOf, refused, readEntries, readOf, versionOf, sizeOf, limitVerdict, listedVerdict, numberBytes, entryBytes, entriesBytes, listBytes, listedBytes, writeOf};
 
 // One entry of the list.
 pub struct RsrpSnr {
@@ -302,31 +303,26 @@ fn is_unmarked(last: u32, x: u32) -> bool
 fn judge_list(pair: Range, count: u32) -> Verdict
     ensures { λ r. ⌜ r ≡ judge (listRules pair count) ⌝ }
 {
-    let size = pair.length as usize;
+    let size = pair.length;
     let counted = also(
         Verdict::Fits,
-        is_listed(size, size < COUNT_SIZE),
+        if_sized(size, (size as usize) < COUNT_SIZE),
         WRONG_SIZE,
         RSRP_SNR,
     );
     let some = also(
         counted,
-        is_listed(size, is_wrong_count(count)),
+        if_sized(size, is_wrong_count(count)),
         WRONG_COUNT,
         pair.start as usize,
     );
     let whole = COUNT_SIZE + ENTRY_SIZE * count as usize;
-    also(some, is_listed(size, size != whole), WRONG_SIZE, RSRP_SNR)
-}
-
-// Whether there is a list, and its rule is broken.
-fn is_listed(size: usize, broken: bool) -> bool
-    ensures { λ r. ⌜ r ≡ listed size broken ⌝ }
-{
-    if size == 0 {
-        return false;
-    }
-    broken
+    also(
+        some,
+        if_sized(size, size as usize != whole),
+        WRONG_SIZE,
+        RSRP_SNR,
+    )
 }
 
 fn is_wrong_count(count: u32) -> bool
