@@ -1,8 +1,8 @@
 -- Laws of what is gathered over the numbers 0 to n - 1, each in the form that a loop asks for.
 -- Assumes nothing.
 use mathlib.Core.Path.{_≡_, refl, sym, ap, _∙_}
-use mathlib.Core.Logic.{_⊎_, ⊎-elim}
-use mathlib.Core.Bool.{Bool, true, false, _||_}
+use mathlib.Core.Logic.{inl, inr, ⊎-elim}
+use mathlib.Core.Bool.{Bool, true, false}
 use mathlib.Core.List.{List, [], _∷_, _++_, append-assoc, append-nil}
 use Prim.Native.Nat.{ℕ, zero, suc, _+_, _*_, _≤_, _<_}
 use native.Mathlib.Nat.{eq-or-lt-of-le, mul-zero, mul-suc}
@@ -14,7 +14,7 @@ use Rattle.wire.proofs.Laws.{sets-append}
 use Rattle.protocol.specs.Verdict.{firstOf}
 use Rattle.protocol.specs.declared.Verdict.{Verdict}
 use Rattle.protocol.specs.declared.Verdict.the-variants.{Fits}
-use Rattle.protocol.proofs.Tests.{or-cases}
+use Rattle.protocol.proofs.Tests.{cases-or, or-none}
 use Rattle.protocol.proofs.Verdicts.{left-fits, right-fits}
 use Rattle.below.specs.Below.{firstFault, anyOf, listOf, joined}
 
@@ -40,24 +40,43 @@ unfolding firstFault firstOf
 each-fits f zero h = refl
 each-fits f (suc n) h = rw (each-fits f n (λ i k. h i (omega arith)), h n (omega arith))
 
+-- verdicts that agree on each number agree on all
+pub fault-same : (f g : ℕ → Verdict) (n : ℕ) → ((i : ℕ) → i < n → f i ≡ g i) → firstFault f n ≡ firstFault g n
+unfolding firstFault
+fault-same f g zero h = refl
+fault-same f g (suc n) h = rw (fault-same f g n (λ i k. h i (omega arith)), h n (omega arith))
+
 -- ---- whether any does
 
--- one more
-pub any-next : (t : ℕ → Bool) (i : ℕ) {b c : Bool} → b ≡ anyOf t i → c ≡ (b || t i) → c ≡ anyOf t (i + 1)
+-- at one that does, and past one that does not
+pub any-at : (t : ℕ → Bool) (n i : ℕ) → i < n → t i ≡ true → anyOf t n ≡ true
 unfolding anyOf
-any-next t i p q = q ∙ rw (p, add-one i)
+any-at t zero i h q = absurd (omega arith)
+any-at t (suc n) i h q =
+    cases-or (anyOf t n) (t n) (last i n h (λ l. inl (any-at t n i l q)) (λ l. inr (ap t (sym l) ∙ q)))
 
--- one that does is there exactly where any does
-pub some-of : (t : ℕ → Bool) (n : ℕ) → anyOf t n ≡ true → (i : ℕ) × ((i < n) × (t i ≡ true))
+pub none-next : (t : ℕ → Bool) (i : ℕ) → anyOf t i ≡ false → t i ≡ false → anyOf t (i + 1) ≡ false
 unfolding anyOf
-some-of t zero e = let z : _≡_ {A = ℕ} 0 1 = cc in absurd (omega arith)
-some-of t (suc n) e =
-    ⊎-elim (λ h. let r = some-of t n h in (r .0, (omega (arith, r .1 .0), r .1 .1))) (λ h. (n, (omega arith, h))) (or-cases (anyOf t n) (t n) e)
+none-next t i p q = rw (add-one i, p, q)
 
-pub none-of : (t : ℕ → Bool) (n : ℕ) → ((i : ℕ) → i < n → t i ≡ false) → anyOf t n ≡ false
+-- none does exactly where each does not
+pub none-each : (t : ℕ → Bool) (n : ℕ) → anyOf t n ≡ false → (i : ℕ) → i < n → t i ≡ false
 unfolding anyOf
-none-of t zero h = refl
-none-of t (suc n) h = rw (none-of t n (λ i k. h i (omega arith)), h n (omega arith))
+none-each t zero e i h = absurd (omega arith)
+none-each t (suc n) e i h =
+    let k = or-none (anyOf t n) (t n) e in
+    last i n h (λ l. none-each t n (k .0) i l) (λ l. ap t l ∙ k .1)
+
+pub each-none : (t : ℕ → Bool) (n : ℕ) → ((i : ℕ) → i < n → t i ≡ false) → anyOf t n ≡ false
+unfolding anyOf
+each-none t zero h = refl
+each-none t (suc n) h = rw (each-none t n (λ i k. h i (omega arith)), h n (omega arith))
+
+-- tests that agree on each number agree on all
+pub any-same : (t u : ℕ → Bool) (n : ℕ) → ((i : ℕ) → i < n → t i ≡ u i) → anyOf t n ≡ anyOf u n
+unfolding anyOf
+any-same t u zero h = refl
+any-same t u (suc n) h = rw (any-same t u n (λ i k. h i (omega arith)), h n (omega arith))
 
 -- ---- a list
 

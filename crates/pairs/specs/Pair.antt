@@ -22,6 +22,10 @@ rangeAt s place = range (u32At s place) (u32At s (place + 4))
 
 -- ---- rules: broken, number, place; the first broken one decides
 
+-- a rule on the bytes of a pair is broken only where there are bytes
+abbrev pub ifSized : ℕ → Bool → Bool
+ifSized size broken = not (eqb size 0) && broken
+
 abbrev pub oddFor : PairKind → ℕ → Bool
 oddFor Text size = not (eqb (size % 2) 0)
 oddFor ListKind size = false
@@ -36,15 +40,15 @@ offsetWithoutSize p = eqb (p .length) 0 && not (eqb (p .start) 0)
 
 -- a size, and the offset in the fixed part
 abbrev pub insideFixedPart : ℕ → Range → Bool
-insideFixedPart fixed p = not (eqb (p .length) 0) && ltb (p .start) fixed
+insideFixedPart fixed p = ifSized (p .length) (ltb (p .start) fixed)
 
 -- a size, and the offset not a multiple of 4
 abbrev pub misaligned : Range → Bool
-misaligned p = not (eqb (p .length) 0) && not (eqb (p .start % 4) 0)
+misaligned p = ifSized (p .length) (not (eqb (p .start % 4) 0))
 
 -- number 7: a size, and offset + size beyond the n bytes of the payload, as whole numbers
 abbrev pub beyondPayload : ℕ → Range → Bool
-beyondPayload n p = not (eqb (p .length) 0) && ltb n (p .start + p .length)
+beyondPayload n p = ifSized (p .length) (ltb n (p .start + p .length))
 
 unfoldable pub rules : PairKind → ℕ → ℕ → ℕ → ℕ → Range → List Rule
 rules kind fixed limit place n p =

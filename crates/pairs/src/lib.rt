@@ -9,7 +9,7 @@ use wire::put_u32;
 use wire::u32_at;
 ghost use mathlib.Core.Path.{_≡_};
 ghost use lib.Seq.{sets};
-ghost use Rattle.pairs.specs.Pair.{rangeAt, unfit, offsetWithoutSize, insideFixedPart, misaligned, beyondPayload, verdictOf, padded, placed, rangeBytes};
+ghost use Rattle.pairs.specs.Pair.{rangeAt, ifSized, unfit, offsetWithoutSize, verdictOf, padded, placed, rangeBytes};
 
 // 01's pair. An accepted one shows `length` bytes of the payload from `start`; absent is (0, 0).
 pub struct Range {
@@ -34,12 +34,38 @@ pub fn judge(
 ) -> Verdict
     ensures { λ r. ⌜ r ≡ verdictOf kind fixed limit place length pair ⌝ }
 {
-    let size_unfit = is_unfit(kind, limit, pair.length as usize);
-    let sized = also(Verdict::Fits, size_unfit, WRONG_SIZE, place);
+    let size = pair.length;
+    let end = pair.start as usize + size as usize;
+    let sized = also(
+        Verdict::Fits,
+        is_unfit(kind, limit, size as usize),
+        WRONG_SIZE,
+        place,
+    );
     let zero = also(sized, is_offset_without_size(pair), WRONG_OFFSET, place);
-    let outside = also(zero, is_inside_fixed_part(fixed, pair), WRONG_OFFSET, place);
-    let aligned = also(outside, is_misaligned(pair), WRONG_OFFSET, place);
-    also(aligned, is_beyond_payload(length, pair), PAST_END, place)
+    let outside = also(
+        zero,
+        if_sized(size, pair.start < fixed),
+        WRONG_OFFSET,
+        place,
+    );
+    let aligned = also(
+        outside,
+        if_sized(size, pair.start % 4 != 0),
+        WRONG_OFFSET,
+        place,
+    );
+    also(aligned, if_sized(size, length < end), PAST_END, place)
+}
+
+// A rule on a pair's bytes is broken only where there are bytes.
+pub fn if_sized(size: u32, broken: bool) -> bool
+    ensures { λ r. ⌜ r ≡ ifSized size broken ⌝ }
+{
+    if size == 0 {
+        return false;
+    }
+    broken
 }
 
 // The pair at a place of a payload.
@@ -111,31 +137,4 @@ fn is_offset_without_size(pair: Range) -> bool
         return pair.start != 0;
     }
     false
-}
-
-fn is_inside_fixed_part(fixed: u32, pair: Range) -> bool
-    ensures { λ r. ⌜ r ≡ insideFixedPart fixed pair ⌝ }
-{
-    if pair.length == 0 {
-        return false;
-    }
-    pair.start < fixed
-}
-
-fn is_misaligned(pair: Range) -> bool
-    ensures { λ r. ⌜ r ≡ misaligned pair ⌝ }
-{
-    if pair.length == 0 {
-        return false;
-    }
-    pair.start % 4 != 0
-}
-
-fn is_beyond_payload(length: usize, pair: Range) -> bool
-    ensures { λ r. ⌜ r ≡ beyondPayload length pair ⌝ }
-{
-    if pair.length == 0 {
-        return false;
-    }
-    length < pair.start as usize + pair.length as usize
 }

@@ -21,19 +21,18 @@ isNegative (negsuc n) = true
 unfoldable pub exactly : ℤ → ℕ → Float
 exactly z k = odd (prec binary32) (isNegative z) (natAbs z) 0 k
 
--- ---- a code by its table: over the mark of unknown it is outside; 0 is below the range, with its edge; the others by f
+-- ---- a code by its table: over the mark of unknown it is outside; 0 is below the range, with its edge; else it is known
 
-unfoldable pub coded : ℕ → ℤ → (ℕ → Reading) → ℕ → ReadingRead
-coded mark edge f c =
-    cond (ltb mark c) (Refused (refusal outsideTable 0))
-    (Info (cond (eqb c mark) Unknown (cond (eqb c 0) (BelowRange (exactly edge 0)) (f c))))
+unfoldable pub coded : ℕ → Float → Reading → ℕ → ReadingRead
+coded mark edge known c =
+    cond (ltb mark c) (Refused (refusal outsideTable 0)) (Info (cond (eqb c mark) Unknown (cond (eqb c 0) (BelowRange edge) known)))
 
 -- ---- the two tables
 
 -- "RSRP code c from 1 to 126 is c − 157 dBm"; unknown 127; edge −156
 unfoldable pub rsrpOf : ℕ → ReadingRead
-rsrpOf = coded 127 (negsuc 155) (λ c. Dbm (exactly (pos c -ℤ pos 157) 0))
+rsrpOf c = coded 127 (exactly (negsuc 155) 0) (Dbm (exactly (pos c -ℤ pos 157) 0)) c
 
 -- "SNR code c from 1 to 127 is (c − 47)/2 dB"; unknown 128; edge −23
 unfoldable pub snrOf : ℕ → ReadingRead
-snrOf = coded 128 (negsuc 22) (λ c. Db (exactly (pos c -ℤ pos 47) 1))
+snrOf c = coded 128 (exactly (negsuc 22) 0) (Db (exactly (pos c -ℤ pos 47) 1)) c

@@ -2,7 +2,7 @@
 use protocol::OUTSIDE_TABLE;
 use protocol::Refusal;
 ghost use mathlib.Core.Path.{_≡_};
-ghost use Rattle.signal_quality.specs.Decibels.{rsrpOf, snrOf};
+ghost use Rattle.signal_quality.specs.Decibels.{coded, rsrpOf, snrOf};
 ghost use Rattle.signal_quality.specs.Bars.{barsTable, reached, barsOf};
 
 // 01's reading: the lower edge of a code's step; below the range, with the range's edge; or unknown.
@@ -24,6 +24,9 @@ pub enum Bars {
     Refused(Refusal),
 }
 
+// Every code that is read as a number is below this; what comes of another is not shown.
+const KNOWN_CODES: u32 = 128;
+
 const RSRP_UNKNOWN: u32 = 127;
 
 const SNR_UNKNOWN: u32 = 128;
@@ -38,39 +41,15 @@ const BARS: [[u32; 2]; 5] = [[17, 5], [12, 4], [7, 3], [4, 2], [2, 1]];
 pub fn rsrp_of(code: u32) -> ReadingRead
     ensures { λ r. ⌜ r ≡ rsrpOf code ⌝ }
 {
-    if RSRP_UNKNOWN < code {
-        return ReadingRead::Refused(Refusal {
-            number: OUTSIDE_TABLE,
-            place: 0,
-        });
-    }
-    if code == RSRP_UNKNOWN {
-        return ReadingRead::Info(Reading::Unknown);
-    }
-    if code == 0 {
-        return ReadingRead::Info(Reading::BelowRange(-156.0));
-    }
-    let dbm = code as i16 - 157;
-    ReadingRead::Info(Reading::Dbm(dbm as f32))
+    let dbm = (code % KNOWN_CODES) as i16 - 157;
+    by_table(code, RSRP_UNKNOWN, -156.0, Reading::Dbm(dbm as f32))
 }
 
 pub fn snr_of(code: u32) -> ReadingRead
     ensures { λ r. ⌜ r ≡ snrOf code ⌝ }
 {
-    if SNR_UNKNOWN < code {
-        return ReadingRead::Refused(Refusal {
-            number: OUTSIDE_TABLE,
-            place: 0,
-        });
-    }
-    if code == SNR_UNKNOWN {
-        return ReadingRead::Info(Reading::Unknown);
-    }
-    if code == 0 {
-        return ReadingRead::Info(Reading::BelowRange(-23.0));
-    }
-    let twice = code as i16 - 47;
-    ReadingRead::Info(Reading::Db(twice as f32 / 2.0))
+    let twice = (code % KNOWN_CODES) as i16 - 47;
+    by_table(code, SNR_UNKNOWN, -23.0, Reading::Db(twice as f32 / 2.0))
 }
 
 pub fn bars_of(rssi: u32) -> Bars
@@ -86,6 +65,25 @@ pub fn bars_of(rssi: u32) -> Bars
         });
     }
     Bars::Count(highest_reached(rssi))
+}
+
+// A code by its table: outside it, unknown, below the range, or the reading of a known one.
+fn by_table(code: u32, unknown: u32, edge: f32, known: Reading) -> ReadingRead
+    ensures { λ r. ⌜ r ≡ coded unknown edge known code ⌝ }
+{
+    if unknown < code {
+        return ReadingRead::Refused(Refusal {
+            number: OUTSIDE_TABLE,
+            place: 0,
+        });
+    }
+    if code == unknown {
+        return ReadingRead::Info(Reading::Unknown);
+    }
+    if code == 0 {
+        return ReadingRead::Info(Reading::BelowRange(edge));
+    }
+    ReadingRead::Info(known)
 }
 
 // The bars of the highest row that is reached, or 0.

@@ -1,0 +1,199 @@
+-- A payload is accepted exactly when it meets the rules in words of fields, and then the record and the entries shown are those at their
+-- places.
+-- Assumes nothing.
+use mathlib.Core.Path.{_≡_, refl, sym, ap}
+use mathlib.Core.Logic.{_↔_, _⊎_, inl, inr, ⊎-map, ⊎-elim}
+use mathlib.Core.Bool.{Bool, true, false, not}
+use mathlib.Core.List.{List}
+use Prim.Native.Nat.{ℕ, _+_, _*_, _<_}
+use native.Mathlib.Omega.{arith}
+use borrow.Author.Tests.{ltb-false, le-ltb, eqb-true, eqb-false, eq-eqb, ne-eqb}
+use lib.Dec.{eqb, ltb}
+use lib.ListN.{length}
+use Rattle.wire.specs.Numbers.{u32At}
+use Rattle.protocol.specs.Refusal.{contradiction}
+use Rattle.protocol.specs.Verdict.{Kept, judge, firstOf, faultIf, exactLength, openLength}
+use Rattle.protocol.specs.DataClass.{oneClass}
+use Rattle.protocol.specs.declared.Verdict.{Verdict}
+use Rattle.protocol.specs.declared.Verdict.the-variants.{Fits, Fault}
+use Rattle.protocol.specs.declared.Version.{Version}
+use Rattle.protocol.specs.declared.Version.the-variants.{V1, V2}
+use Rattle.protocol.proofs.Tests.{and-cases, cases-and, or-none, none-or, not-kept, kept-not, equal-kept, kept-equal}
+use Rattle.protocol.proofs.Classes.{class-said, said-class}
+use Rattle.protocol.proofs.Verdicts.{left-fits, right-fits, not-broken, fits-kept, kept-fits, then-kept, kept-then, exact-length, length-exact, open-length, length-open}
+use Rattle.below.proofs.Laws.{fits-each, each-fits, none-each, each-none}
+use Rattle.pairs.specs.Pair.{rangeAt, verdictOf}
+use Rattle.pairs.specs.declared.Range.{Range}
+use Rattle.pairs.specs.declared.PairKind.the-variants.{List as ListKind}
+use Rattle.pairs.proofs.Laws.{fits-said, said-fits}
+use Rattle.signal_state.specs.declared.RsrpSnr.{RsrpSnr}
+use Rattle.signal_state.specs.declared.SignalState.{SignalState}
+use Rattle.signal_state.specs.declared.SignalStateRead.the-variants.{Info, Refused}
+use Rattle.signal_state.specs.declared.SignalStateShown.{SignalStateShown}
+use Rattle.signal_state.specs.SignalState.{countAt, listPlace, entryPlace, entryAt, unmarked, numberRules, wrongCountOf, listRules, entryRules, entriesVerdict, isKnown, anyKnown, contradicts, bodyVerdict, headOf, headVerdict, verdictAt, shown, recordAt, shownEntries, readOf}
+use Rattle.signal_state.specs.Claims.{Marked, CountFits, EntryFits, Unknown, Acceptable}
+
+-- ---- each rule as a fact
+
+marked-said : (last x : ℕ) → unmarked last x ≡ false → Marked last x
+marked-said last x e = ⊎-map (equal-kept x 99) (ltb-false last x) (and-cases (not (eqb x 99)) (ltb last x) e)
+
+said-marked : (last x : ℕ) → Marked last x → unmarked last x ≡ false
+said-marked last x h = cases-and (not (eqb x 99)) (ltb last x) (⊎-map (kept-equal x 99) (le-ltb last x) h)
+
+list-said : (p : Range) (n : ℕ) → Kept (listRules p n) → (p .length ≡ 0) ⊎ CountFits p n
+unfolding listRules
+list-said p n k = by-size (eqb (p .length) 0) refl
+  where
+    by-size : (b : Bool) → eqb (p .length) 0 ≡ b → (p .length ≡ 0) ⊎ CountFits p n
+    by-size true e = inl (eqb-true (p .length) 0 e)
+    by-size false e =
+        let w : wrongCountOf n ≡ false = rw e at (k .1 .0) in
+        let c = or-none (eqb n 0) (ltb 16 n) w in
+        let some : n ≡ 0 → ⊥ = eqb-false n 0 (c .0) in
+        inr (record { some = omega arith; most = ltb-false 16 n (c .1); whole = equal-kept (p .length) (4 + 20 * n) (rw e at (k .1 .1 .0)) })
+
+pub said-list : (p : Range) (n : ℕ) → (p .length ≡ 0) ⊎ CountFits p n → Kept (listRules p n)
+unfolding listRules
+said-list p n (inl e) = let z : eqb (p .length) 0 ≡ true = eq-eqb (p .length) 0 e in (rw z refl, (rw z refl, (rw z refl, tt)))
+said-list p n (inr c) =
+    let there = not (eqb (p .length) 0) in
+    let some = none-or (eqb n 0) (ltb 16 n) (ne-eqb n 0 (λ e. omega (arith, c .some))) (le-ltb 16 n (c .most)) in (
+      cases-and there (ltb (p .length) 4) (inr (le-ltb (p .length) 4 (omega (arith, c .whole)))),
+      (
+        cases-and there (wrongCountOf n) (inr some),
+        (cases-and there (not (eqb (p .length) (4 + 20 * n))) (inr (kept-equal (p .length) (4 + 20 * n) (c .whole))), tt),
+      ),
+    )
+
+entry-said : (at : ℕ) (e : RsrpSnr) → Kept (entryRules at e) → EntryFits e
+unfolding entryRules
+entry-said at e k = record {
+  rsrp = ltb-false 127 (e .rsrp) (k .0);
+  snr = ltb-false 128 (e .snr) (k .1 .0);
+  system = class-said V2 (e .«system_type») (not-kept (oneClass V2 (e .«system_type»)) (k .1 .1 .0));
+}
+
+said-entry : (at : ℕ) (e : RsrpSnr) → EntryFits e → Kept (entryRules at e)
+unfolding entryRules
+said-entry at e f = (
+  le-ltb 127 (e .rsrp) (f .rsrp),
+  (le-ltb 128 (e .snr) (f .snr), (kept-not (oneClass V2 (e .«system_type»)) (said-class V2 (e .«system_type») (f .system)), tt)),
+)
+
+unknown-said : (e : RsrpSnr) → isKnown e ≡ false → Unknown e
+unknown-said e h =
+    let k = or-none (not (eqb (e .rsrp) 127)) (not (eqb (e .snr) 128)) h in
+    record { rsrp = equal-kept (e .rsrp) 127 (k .0); snr = equal-kept (e .snr) 128 (k .1) }
+
+said-unknown : (e : RsrpSnr) → Unknown e → isKnown e ≡ false
+said-unknown e u = none-or (not (eqb (e .rsrp) 127)) (not (eqb (e .snr) 128)) (kept-equal (e .rsrp) 127 (u .rsrp)) (kept-equal (e .snr) 128 (u .snr))
+
+-- ---- the entries, and what contradicts
+
+module _ (rssi offset : ℕ) (f : ℕ → RsrpSnr) (n : ℕ) where
+  entries-said : bodyVerdict rssi offset f n ≡ Fits → (i : ℕ) → i < n → EntryFits (f i)
+  unfolding bodyVerdict entriesVerdict
+  entries-said e i l =
+      let each = fits-each (λ j. judge (entryRules (entryPlace offset j) (f j))) n (left-fits _ _ e) i l in
+      entry-said (entryPlace offset i) (f i) (fits-kept (entryRules (entryPlace offset i) (f i)) each)
+
+  alone-said : bodyVerdict rssi offset f n ≡ Fits → (rssi ≡ 99) ⊎ ((i : ℕ) → i < n → Unknown (f i))
+  unfolding bodyVerdict anyKnown
+  alone-said e =
+      let k = not-broken (contradicts rssi (anyKnown f n)) contradiction 0 (right-fits (entriesVerdict offset f n) _ e) in
+      ⊎-elim (λ h. inr (λ i l. unknown-said (f i) (none-each (λ j. isKnown (f j)) n h i l))) (λ h. inl (equal-kept rssi 99 h))
+      (and-cases (anyKnown f n) (not (eqb rssi 99)) k)
+
+  said-body : ((i : ℕ) → i < n → EntryFits (f i)) → (rssi ≡ 99) ⊎ ((i : ℕ) → i < n → Unknown (f i)) → bodyVerdict rssi offset f n ≡ Fits
+  unfolding bodyVerdict entriesVerdict anyKnown firstOf faultIf
+  said-body h a =
+      let all = each-fits (λ j. judge (entryRules (entryPlace offset j) (f j))) n
+      (λ i l. kept-fits (entryRules (entryPlace offset i) (f i)) (said-entry (entryPlace offset i) (f i) (h i l))) in
+      let quiet : contradicts rssi (anyKnown f n) ≡ false =
+      cases-and (anyKnown f n) (not (eqb rssi 99))
+      (⊎-elim (λ e. inr (kept-equal rssi 99 e)) (λ u. inl (each-none (λ j. isKnown (f j)) n (λ i l. said-unknown (f i) (u i l)))) a) in
+      rw (all, quiet)
+
+-- ---- the rules of a payload
+
+numbers-said : (s : List ℕ) → Kept (numberRules (u32At s 0) (u32At s 4)) → Marked 31 (u32At s 0) × Marked 7 (u32At s 4)
+unfolding numberRules
+numbers-said s k = (marked-said 31 (u32At s 0) (k .0), marked-said 7 (u32At s 4) (k .1 .0))
+
+said-numbers : (s : List ℕ) → Marked 31 (u32At s 0) → Marked 7 (u32At s 4) → Kept (numberRules (u32At s 0) (u32At s 4))
+unfolding numberRules
+said-numbers s a b = (said-marked 31 (u32At s 0) a, (said-marked 7 (u32At s 4) b, tt))
+
+fields-said : (v : Version) (s : List ℕ) → verdictAt v s ≡ Fits → Acceptable v s
+unfolding verdictAt headOf
+fields-said V1 s e =
+    let k = then-kept (exactLength 20 (length s)) (numberRules (u32At s 0) (u32At s 4)) e in
+    let n = numbers-said s (k .1) in
+    record { rssi = n .0; rate = n .1; form = exact-length 20 (length s) (k .0) }
+fields-said V2 s e =
+    let head = left-fits (headVerdict s) _ e in
+    let body = right-fits (headVerdict s) _ e in
+    let fields = right-fits (openLength 28 (length s)) _ head in
+    let later = right-fits (judge (numberRules (u32At s 0) (u32At s 4))) _ fields in
+    let long = open-length 28 (length s) (left-fits _ _ head) in
+    let n = numbers-said s (fits-kept (numberRules (u32At s 0) (u32At s 4)) (left-fits _ _ fields)) in
+    let pair = verdictOf ListKind 28 324 20 (length s) (rangeAt s 20) in
+    record {
+      rssi = n .0;
+      rate = n .1;
+      form = (
+        long .0,
+        (
+          long .1,
+          record {
+            pair = fits-said ListKind 28 324 20 (length s) (rangeAt s 20) (left-fits pair _ later);
+            list = list-said (rangeAt s 20) (countAt s) (fits-kept (listRules (rangeAt s 20) (countAt s)) (right-fits pair _ later));
+            entries = entries-said (u32At s 0) (listPlace s) (entryAt s (listPlace s)) (countAt s) body;
+            alone = alone-said (u32At s 0) (listPlace s) (entryAt s (listPlace s)) (countAt s) body;
+          },
+        ),
+      );
+    }
+
+said-fields : (v : Version) (s : List ℕ) → Acceptable v s → verdictAt v s ≡ Fits
+unfolding verdictAt headOf firstOf
+said-fields V1 s a =
+    kept-then (exactLength 20 (length s)) (numberRules (u32At s 0) (u32At s 4)) (length-exact 20 (length s) (a .form)) (said-numbers s (a .rssi) (a .rate))
+said-fields V2 s a =
+    let l = a .form .1 .1 in
+    rw (
+      length-open 28 (length s) (a .form .0) (a .form .1 .0),
+      kept-fits (numberRules (u32At s 0) (u32At s 4)) (said-numbers s (a .rssi) (a .rate)),
+      said-fits ListKind 28 324 20 (length s) (rangeAt s 20) (l .pair),
+      kept-fits (listRules (rangeAt s 20) (countAt s)) (said-list (rangeAt s 20) (countAt s) (l .list)),
+    )
+    (said-body (u32At s 0) (listPlace s) (entryAt s (listPlace s)) (countAt s) (l .entries) (l .alone))
+
+-- ---- accepted exactly when the rules hold
+
+abbrev info : SignalState → List RsrpSnr → SignalStateShown
+info p es = record { answer = Info p; entries = es }
+
+shows : (d : Verdict) (p q : SignalState) (es fs : List RsrpSnr) → shown d p es ≡ info q fs → (d ≡ Fits) × ((p ≡ q) × (es ≡ fs))
+shows Fits p q es fs e =
+    let a : Info p ≡ Info q = ap (λ (x : SignalStateShown). x .answer) e in
+    (refl, (cc, ap (λ (x : SignalStateShown). x .entries) e))
+shows (Fault r) p q es fs e =
+    let a : Refused r ≡ Info q = ap (λ (x : SignalStateShown). x .answer) e in
+    let z : _≡_ {A = ℕ} 0 1 = cc in absurd (omega arith)
+
+-- an accepted payload keeps the rules, and shows the record and the entries at their places
+pub accepted : (v : Version) (s : List ℕ) (p : SignalState) (es : List RsrpSnr) → readOf v s ≡ info p es
+    → Acceptable v s × ((p ≡ recordAt v s) × (es ≡ shownEntries v s))
+unfolding readOf
+accepted v s p es e =
+    let d = shows (verdictAt v s) (recordAt v s) p (shownEntries v s) es e in
+    (fields-said v s (d .0), (sym (d .1 .0), sym (d .1 .1)))
+
+pub acceptable : (v : Version) (s : List ℕ) → Acceptable v s → readOf v s ≡ info (recordAt v s) (shownEntries v s)
+unfolding readOf
+acceptable v s a = ap (λ (d : Verdict). shown d (recordAt v s) (shownEntries v s)) (said-fields v s a)
+
+pub accepted-exactly : (v : Version) (s : List ℕ) → (readOf v s ≡ info (recordAt v s) (shownEntries v s)) ↔ Acceptable v s
+accepted-exactly v s = (λ e. accepted v s (recordAt v s) (shownEntries v s) e .0, acceptable v s)

@@ -1,0 +1,159 @@
+-- Entries one by one, counts that fit, and lengths.
+-- Assumes nothing.
+use mathlib.Core.Path.{_≡_, refl, sym, ap, _∙_}
+use mathlib.Core.Bool.{Bool, true, false, cond}
+use mathlib.Core.List.{List, [], _∷_, _++_, append-assoc, append-nil}
+use Prim.Native.Nat.{ℕ, zero, suc, _+_, _*_, _-_, _≤_, _<_}
+use native.Mathlib.Numerals.{add-one}
+use native.Mathlib.Omega.{arith}
+use borrow.Author.Tests.{ltb-false, eq-eqb, ne-eqb}
+use lib.Dec.{ltb, eqb}
+use lib.ListN.{length, set, length-append}
+use lib.Seq.{sets, set-at}
+use Rattle.wire.specs.Numbers.{digits}
+use Rattle.wire.proofs.Laws.{sets-then}
+use Rattle.protocol.specs.Refusal.{wrongSize, contradiction}
+use Rattle.protocol.specs.Verdict.{Kept, judge, firstOf, faultIf, openLength, Writing, writing}
+use Rattle.protocol.specs.declared.Refusal.{Refusal}
+use Rattle.protocol.specs.declared.Verdict.the-variants.{Fits, Fault}
+use Rattle.protocol.specs.declared.Version.the-variants.{V2}
+use Rattle.protocol.specs.declared.Written.{Written}
+use Rattle.protocol.proofs.Tests.{or-none}
+use Rattle.protocol.proofs.Verdicts.{left-fits, right-fits, not-broken, fits-kept}
+use Rattle.below.specs.Below.{listOf}
+use Rattle.below.proofs.Laws.{fault-same, any-same, length-list, list-at, length-joined}
+use Rattle.pairs.specs.Pair.{rangeAt, verdictOf, placed, rangeBytes}
+use Rattle.pairs.specs.declared.Range.{Range}
+use Rattle.pairs.specs.declared.PairKind.the-variants.{List as ListKind}
+use Rattle.pairs.proofs.Laws.{size-said}
+use Rattle.signal_state.specs.declared.RsrpSnr.{RsrpSnr}
+use Rattle.signal_state.specs.declared.SignalForm.{SignalForm}
+use Rattle.signal_state.specs.declared.SignalState.{SignalState}
+use Rattle.signal_state.specs.SignalState.{countIn, countAt, entryPlace, zeroEntry, noEntries, sixteen, numberRules, wrongCountOf, listRules, entryRules, entriesVerdict, isKnown, anyKnown, contradicts, bodyVerdict, headOf, headVerdict, entryIn, sizeOf, limitVerdict, listedVerdict, numberBytes, entryBytes, entriesBytes, listBytes, listedBytes, listPlace, verdictAt, refused, readEntries, readOf, verdictIn, bytesIn, writeOf}
+
+-- ---- entries one by one
+
+-- the next entry goes where a zero stood
+pub one-more : (f : ℕ → RsrpSnr) (i : ℕ) {es : List RsrpSnr} {e : RsrpSnr} → i < 16 → es ≡ sixteen f i → e ≡ f i → set es i e ≡ sixteen f (i + 1)
+unfolding listOf
+one-more f i {es} {e} h p q =
+    let k : 16 - i ≡ suc (16 - (i + 1)) = omega arith in
+    let z = noEntries (16 - (i + 1)) in
+    let a : set (listOf f i ++ (zeroEntry ∷ z)) i e ≡ listOf f i ++ (e ∷ z) = set-at (listOf f i) zeroEntry z e i (length-list f i) in
+    rw (p, k) (a ∙ rw (q, add-one) (sym (append-assoc (listOf f i) (f i ∷ []) (noEntries (16 - suc i)))))
+
+-- the first n entries decide
+pub body-same : (rssi offset : ℕ) (f g : ℕ → RsrpSnr) (n : ℕ) → ((i : ℕ) → i < n → f i ≡ g i) → bodyVerdict rssi offset f n ≡ bodyVerdict rssi offset g n
+unfolding bodyVerdict entriesVerdict anyKnown
+body-same rssi offset f g n h =
+    let a = fault-same (λ i. judge (entryRules (entryPlace offset i) (f i))) (λ i. judge (entryRules (entryPlace offset i) (g i))) n
+    (λ i l. ap (λ (e : RsrpSnr). judge (entryRules (entryPlace offset i) e)) (h i l)) in
+    let b = any-same (λ i. isKnown (f i)) (λ i. isKnown (g i)) n (λ i l. ap isKnown (h i l)) in
+    λ i. firstOf (a i) (faultIf (contradicts rssi (b i)) contradiction 0)
+
+-- so it is with the entries of an array that begins with them
+pub entries-same : (rssi offset : ℕ) (f : ℕ → RsrpSnr) (n : ℕ) {es : List RsrpSnr} → es ≡ sixteen f n
+    → bodyVerdict rssi offset (entryIn es) n ≡ bodyVerdict rssi offset f n
+entries-same rssi offset f n e = rw e (body-same rssi offset (entryIn (sixteen f n)) f n (λ i l. list-at f zeroEntry (noEntries (16 - n)) n i l))
+
+-- ---- counts that fit
+
+pub size-is : (n : ℕ) → sizeOf (suc n) ≡ 4 + 20 * suc n
+size-is n = rw (ne-eqb (suc n) 0 (omega arith))
+
+pub size-small : (n : ℕ) → sizeOf n ≤ 324 → n ≤ 16
+size-small zero h = omega arith
+size-small (suc n) h = omega (arith, size-is n)
+
+pub small-size : (n : ℕ) → n ≤ 16 → sizeOf n ≤ 324
+small-size zero h = omega arith
+small-size (suc n) h = omega (arith, size-is n)
+
+pub limit-small : (p : SignalState) (n : ℕ) → limitVerdict p n ≡ Fits → n ≤ 16
+unfolding limitVerdict
+limit-small p n e = size-small n (size-said ListKind 324 (sizeOf n) (not-broken _ wrongSize 20 (right-fits _ _ e)) .0)
+
+-- a list that fits is absent, or has from 1 to 16 entries
+few : (p : Range) (n : ℕ) → Kept (listRules p n) → eqb (p .length) 0 ≡ false → n ≤ 16
+unfolding listRules
+few p n k e =
+    let w : wrongCountOf n ≡ false = rw e at (k .1 .0) in
+    ltb-false 16 n (or-none (eqb n 0) (ltb 16 n) w .1)
+
+counted : (s : List ℕ) (p : Range) → Kept (listRules p (countIn s p)) → countIn s p ≤ 16
+counted s p k = by-size (eqb (p .length) 0) refl
+  where
+    by-size : (b : Bool) → eqb (p .length) 0 ≡ b → countIn s p ≤ 16
+    by-size true e = rw e (omega arith)
+    by-size false e = few p (countIn s p) k e
+
+pub count-small : (s : List ℕ) → headVerdict s ≡ Fits → countAt s ≤ 16
+unfolding headOf
+count-small s e =
+    let fields = right-fits (openLength 28 (length s)) _ e in
+    let pair = right-fits (judge (numberRules _ _)) _ fields in
+    counted s (rangeAt s 20) (fits-kept _ (right-fits (verdictOf ListKind 28 324 20 (length s) (rangeAt s 20)) _ pair))
+
+-- ---- lengths
+
+pub length-numbers : (p : SignalState) → length (numberBytes p) ≡ 20
+unfolding numberBytes
+length-numbers p = refl
+
+pub length-entries : (n : ℕ) (f : ℕ → RsrpSnr) → length (entriesBytes n f) ≡ 20 * n
+unfolding entriesBytes entryBytes
+length-entries n f = length-joined (λ i. entryBytes (f i)) 20 n (λ i. refl)
+
+pub length-list-bytes : (n : ℕ) (f : ℕ → RsrpSnr) → length (listBytes n f) ≡ 8 + sizeOf n
+unfolding listBytes rangeBytes
+length-list-bytes zero f = refl
+length-list-bytes (suc n) f = rw (ne-eqb (suc n) 0 (omega arith)) (omega (arith, length-entries (suc n) f))
+
+pub length-listed : (p : SignalState) (n : ℕ) (f : ℕ → RsrpSnr) → length (listedBytes p n f) ≡ 28 + sizeOf n
+unfolding listedBytes
+length-listed p n f = length-append (numberBytes p) (listBytes n f) ∙ omega (arith, length-numbers p, length-list-bytes n f)
+
+-- what is written is far below 4,096 bytes, so number 5 is never given
+pub bytes-most : (p : SignalState) (n : ℕ) (f : ℕ → RsrpSnr) → listedVerdict p n f ≡ Fits → length (listedBytes p n f) ≤ 352
+unfolding listedVerdict
+bytes-most p n f e = omega (arith, length-listed p n f, small-size n (limit-small p n (left-fits (limitVerdict p n) _ e)))
+
+-- ---- what a reader shows behind the head
+
+pub read-through : (s : List ℕ) → headVerdict s ≡ Fits → readEntries s (listPlace s) (countAt s) ≡ readOf V2 s
+unfolding readOf verdictAt readEntries firstOf
+read-through s e = rw e
+
+pub read-refused : (s : List ℕ) (r : Refusal) → headVerdict s ≡ Fault r → refused r ≡ readOf V2 s
+unfolding readOf verdictAt firstOf
+read-refused s r e = rw e
+
+-- ---- what a writer stores and answers
+
+-- the pair of no list
+pub list-none : (n : ℕ) (f : ℕ → RsrpSnr) (s : List ℕ) {t : List ℕ} → n ≡ 0 → t ≡ sets s 20 (rangeBytes (placed 28 (sizeOf n))) → t ≡ sets s 20 (listBytes n f)
+unfolding listBytes
+list-none n f s e p =
+    let pair = rangeBytes (placed 28 (sizeOf n)) in
+    let none : cond (eqb n 0) [] (digits 4 n ++ entriesBytes n f) ≡ [] = rw (eq-eqb n 0 e) in
+    p ∙ ap (sets s 20) (sym (append-nil pair) ∙ ap (λ (l : List ℕ). pair ++ l) (sym none))
+
+-- the pair, the count and the entries, one after another
+pub list-some : (n : ℕ) (f : ℕ → RsrpSnr) (s : List ℕ) {s₁ s₂ s₃ : List ℕ} → (n ≡ 0 → ⊥) → s₁ ≡ sets s 20 (rangeBytes (placed 28 (sizeOf n)))
+    → s₂ ≡ sets s₁ 28 (digits 4 n) → s₃ ≡ sets s₂ 32 (entriesBytes n f) → s₃ ≡ sets s 20 (listBytes n f)
+unfolding listBytes rangeBytes
+list-some n f s {s₁} h p q r =
+    let pair = rangeBytes (placed 28 (sizeOf n)) in
+    let list = digits 4 n ++ entriesBytes n f in
+    let some : cond (eqb n 0) [] list ≡ list = rw (ne-eqb n 0 h) in
+    sets-then pair list 20 8 s refl p (sets-then (digits 4 n) (entriesBytes n f) 28 4 s₁ refl q r)
+    ∙ ap (λ (l : List ℕ). sets s 20 (pair ++ l)) (sym some)
+
+-- by the form of the record
+pub in-form : (p : SignalState) (es : List RsrpSnr) (s : List ℕ) (g : SignalForm) {r : Written} {t : List ℕ} → p .form ≡ g
+    → (r ≡ writing (verdictIn g p (entryIn es)) (bytesIn g p (entryIn es)) s .answer) × (t ≡ writing (verdictIn g p (entryIn es)) (bytesIn g p (entryIn es)) s .output)
+    → (r ≡ writeOf p es s .answer) × (t ≡ writeOf p es s .output)
+unfolding writeOf
+in-form p es s g {r} {t} e w =
+    let same : writing (verdictIn g p (entryIn es)) (bytesIn g p (entryIn es)) s ≡ writeOf p es s = λ i. writing (verdictIn (sym e i) p (entryIn es)) (bytesIn (sym e i) p (entryIn es)) s in
+    (w .0 ∙ ap (λ (x : Writing). x .answer) same, w .1 ∙ ap (λ (x : Writing). x .output) same)

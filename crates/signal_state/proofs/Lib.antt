@@ -1,0 +1,4 @@
+pub mod Laws
+pub mod Acceptance
+pub mod RoundTrip
+pub mod OtherVersion

@@ -1,0 +1,30 @@
+-- The other version's reader refuses a writer's bytes by their length: those of 2.00 are too long, those of 1.00 too short.
+-- Assumes nothing.
+use mathlib.Core.Path.{_≡_, ap, _∙_}
+use mathlib.Core.List.{List}
+use Prim.Native.Nat.{ℕ, _+_}
+use native.Mathlib.Omega.{arith}
+use Rattle.protocol.specs.Refusal.{refusal, tooShort, wrongLength}
+use Rattle.protocol.specs.Verdict.{firstOf}
+use Rattle.protocol.specs.declared.Version.the-variants.{V1, V2}
+use Rattle.protocol.proofs.Verdicts.{length-long, open-short}
+use Rattle.signal_state.specs.declared.RsrpSnr.{RsrpSnr}
+use Rattle.signal_state.specs.declared.SignalForm.{SignalForm}
+use Rattle.signal_state.specs.declared.SignalForm.the-variants.{V1 as Form1, V2 as Form2}
+use Rattle.signal_state.specs.declared.SignalState.{SignalState}
+use Rattle.signal_state.specs.SignalState.{headOf, verdictAt, refused, readOf, entryIn, sizeOf, numberBytes, listedBytes, bytesIn, bytesOf}
+use Rattle.signal_state.proofs.Laws.{length-numbers, length-listed}
+
+listed-long : (p : SignalState) (n : ℕ) (f : ℕ → RsrpSnr) → readOf V1 (listedBytes p n f) ≡ refused (refusal wrongLength (28 + sizeOf n))
+unfolding readOf verdictAt firstOf
+listed-long p n f = rw (length-listed p n f, length-long 20 (28 + sizeOf n) (omega arith))
+
+numbers-short : (p : SignalState) → readOf V2 (numberBytes p) ≡ refused (refusal tooShort 20)
+unfolding readOf verdictAt headOf firstOf
+numbers-short p = rw (length-numbers p, open-short 28 20 (omega arith))
+
+pub later-read-earlier : (p : SignalState) (es : List RsrpSnr) (n : ℕ) → p .form ≡ Form2 n → readOf V1 (bytesOf p es) ≡ refused (refusal wrongLength (28 + sizeOf n))
+later-read-earlier p es n e = ap (λ (g : SignalForm). readOf V1 (bytesIn g p (entryIn es))) e ∙ listed-long p n (entryIn es)
+
+pub earlier-read-later : (p : SignalState) (es : List RsrpSnr) → p .form ≡ Form1 → readOf V2 (bytesOf p es) ≡ refused (refusal tooShort 20)
+earlier-read-later p es e = ap (λ (g : SignalForm). readOf V2 (bytesIn g p (entryIn es))) e ∙ numbers-short p

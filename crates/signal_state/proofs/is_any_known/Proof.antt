@@ -1,0 +1,39 @@
+-- The loop's invariant: none of the first i entries is known.
+use borrow.Author.Needs.{needs}
+use mathlib.Core.Path.{_≡_, refl, sym, ap, _∙_}
+use mathlib.Core.Bool.{false}
+use Prim.Native.Nat.{_≤_, _-_}
+use native.Mathlib.Nat.{le-antisymm}
+use native.Mathlib.Omega.{arith}
+use Rattle.below.specs.Below.{anyOf}
+use Rattle.below.proofs.Laws.{any-at, none-next}
+use Rattle.signal_state.specs.SignalState.{entryIn, isKnown, anyKnown}
+use Rattle.signal_state.proofs.is_any_known.Statement.{statement}
+use Rattle.signal_state.proofs.is_any_known.Tie as tie
+
+abbrev Inv-loop : tie.InvT-loop
+Inv-loop n entries i₀ i = (i ≤ n) × (anyKnown (entryIn entries) i ≡ false)
+
+abbrev μ-loop : tie.MeasureT-loop
+μ-loop n entries i₀ i = n - i
+
+loop-holds : tie.Need-loop-holds Inv-loop μ-loop
+unfolding anyKnown anyOf
+loop-holds c = (omega arith, refl)
+
+array-copy-out-entry : tie.Need-array-copy-out-entry Inv-loop μ-loop
+array-copy-out-entry c = omega arith
+
+returns : tie.Need-returns Inv-loop μ-loop
+unfolding anyKnown
+returns c = sym (any-at (λ j. isKnown (entryIn (c .before .before .before .before .before .args .t1) j)) (c .before .before .before .before .before .args .n) (c .before .before .before .before .loop .i) (c .before .before .before .loop-test .taken) (sym (c .before .is-known .ensures) ∙ c .if1 .taken))
+
+loop-again : tie.Need-loop-again Inv-loop μ-loop
+unfolding anyKnown
+loop-again c = (omega arith, none-next (λ j. isKnown (entryIn (c .before .before .before .before .before .args .t1) j)) (c .before .before .before .before .loop .i) (c .before .before .before .before .loop .inv .1) (sym (c .before .is-known .ensures) ∙ c .if1 .left))
+
+returns-2 : tie.Need-returns-2 Inv-loop μ-loop
+returns-2 c = sym (ap (anyKnown (entryIn (c .before .before .args .t1))) (sym (le-antisymm (c .before .loop .inv .0) (c .loop-test .left))) ∙ c .before .loop .inv .1)
+
+pub is-any-known-spec : {M : Type 1} → statement M
+is-any-known-spec = tie.close (tie.spec Inv-loop μ-loop loop-holds (λ c. search needs) (λ c. search needs) array-copy-out-entry (λ c. search needs) returns (λ c. search needs) (λ c. search needs) loop-again returns-2)

@@ -1,0 +1,43 @@
+-- The judgement and the stores are those of a writing.
+use borrow.Author.Needs.{needs}
+use mathlib.Core.Path.{sym, ap, _∙_}
+use Prim.Native.Nat.{ℕ, _+_}
+use native.Mathlib.Omega.{arith}
+use Rattle.wire.proofs.Laws.{sets-then}
+use Rattle.protocol.specs.Verdict.{firstOf}
+use Rattle.protocol.proofs.Verdicts.{wrote, refused}
+use Rattle.signal_state.specs.SignalState.{entryIn, listedVerdict, numberBytes, listBytes, listedBytes}
+use Rattle.signal_state.proofs.Laws.{limit-small, small-size, length-numbers, length-listed}
+use Rattle.signal_state.proofs.write_entries.Statement.{statement}
+use Rattle.signal_state.proofs.write_entries.Tie as tie
+
+add-n : tie.Need-add-n
+add-n c = omega (arith, c .size-of .ensures, small-size (c .before .before .args .count) (limit-small (c .before .before .args .info) (c .before .before .args .count) (c .before .before .pre)))
+
+judge-body-requires : tie.Need-judge-body-requires
+judge-body-requires c κs = limit-small (c .before .before .args .info) (c .before .before .args .count) (c .before .before .pre)
+
+put-list-requires : tie.Need-put-list-requires
+put-list-requires c κs = limit-small (c .before .before .before .before .before .before .before .before .before .before .before .args .info) (c .before .before .before .before .before .before .before .before .before .before .before .args .count) (c .before .before .before .before .before .before .before .before .before .before .before .pre)
+
+returns : tie.Need-returns
+unfolding listedVerdict listedBytes firstOf
+returns c =
+    let a = c .before .before .before .before .before .before .before .before .before .before .before .before .before .before .args in
+    let f = entryIn (a .entries) in
+    wrote (listedVerdict (a .info) (a .count) f) (listedBytes (a .info) (a .count) f) (a .out .now) _
+    (length-listed (a .info) (a .count) f ∙ ap (λ (k : ℕ). 28 + k) (sym (c .before .before .before .before .before .before .before .before .before .before .before .before .size-of .ensures)))
+    (rw (c .before .before .before .before .before .before .before .before .before .before .before .before .before .before .pre, ← c .before .before .before .before .before .before .before .before .before .before .before .judge-body .ensures, ← c .before .before .before .before .before .before .before .before .before .before .also .ensures) (c .before .before .before .before .before .before .before .before .enum-told .given .1))
+    (sets-then (numberBytes (a .info)) (listBytes (a .count) f) 0 20 (a .out .now) (length-numbers (a .info)) (c .before .before .before .before .before .before .put-numbers .ensures) (c .before .before .put-list .ensures))
+
+returns-2 : tie.Need-returns-2
+unfolding listedVerdict firstOf
+returns-2 c =
+    let a = c .before .before .before .before .before .before .before .args in
+    let f = entryIn (a .entries) in
+    refused (listedVerdict (a .info) (a .count) f) (listedBytes (a .info) (a .count) f) (a .out .now) _ _
+    (length-listed (a .info) (a .count) f ∙ ap (λ (k : ℕ). 28 + k) (sym (c .before .before .before .before .before .size-of .ensures)))
+    (rw (c .before .before .before .before .before .before .before .pre, ← c .before .before .before .before .judge-body .ensures, ← c .before .before .before .also .ensures) (c .before .refusal .given .1))
+
+pub write-entries-spec : {M : Type 1} → statement M
+write-entries-spec = tie.close (tie.spec (λ c. search needs) (λ c. search needs) add-n judge-body-requires (λ c. search needs) (λ c. search needs) (λ c. search needs) put-list-requires (λ c. search needs) (λ c. search needs) returns returns-2)

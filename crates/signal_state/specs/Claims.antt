@@ -1,0 +1,80 @@
+-- What is claimed of the SIGNAL_STATE payload beside the promises: the rules in words of fields, and the width of each field.
+use Prim.Native.Nat.{ℕ, _+_, _*_, _≤_, _<_, _^_}
+use mathlib.Core.Path.{_≡_}
+use mathlib.Core.Logic.{_⊎_}
+use mathlib.Core.List.{List}
+use lib.ListN.{length}
+use Rattle.wire.specs.Numbers.{u32At}
+use Rattle.protocol.specs.DataClass.{IsClass}
+use Rattle.protocol.specs.declared.Version.{Version}
+use Rattle.protocol.specs.declared.Version.the-variants.{V1, V2}
+use Rattle.pairs.specs.Pair.{rangeAt}
+use Rattle.pairs.specs.Claims.{PairFits}
+use Rattle.pairs.specs.declared.Range.{Range}
+use Rattle.pairs.specs.declared.PairKind.the-variants.{List as ListKind}
+use Rattle.signal_state.specs.declared.RsrpSnr.{RsrpSnr}
+use Rattle.signal_state.specs.declared.SignalForm.{SignalForm}
+use Rattle.signal_state.specs.declared.SignalForm.the-variants.{V1 as Form1, V2 as Form2}
+use Rattle.signal_state.specs.declared.SignalState.{SignalState}
+use Rattle.signal_state.specs.SignalState.{countAt, listPlace, entryAt, noEntries, sixteen, entryIn}
+
+-- ---- the rules in words of fields
+
+-- 0 to `last`, or 99
+abbrev pub Marked : ℕ → ℕ → Type 0
+Marked last x = (x ≡ 99) ⊎ (x ≤ last)
+
+pub record CountFits (p : Range) (count : ℕ) : Type 0 where
+  pub some : 1 ≤ count
+  pub most : count ≤ 16
+  pub whole : p .length ≡ 4 + 20 * count
+
+pub record EntryFits (e : RsrpSnr) : Type 0 where
+  pub rsrp : e .rsrp ≤ 127
+  pub snr : e .snr ≤ 128
+  pub system : IsClass V2 (e .«system_type»)
+
+pub record Unknown (e : RsrpSnr) : Type 0 where
+  pub rsrp : e .rsrp ≡ 127
+  pub snr : e .snr ≡ 128
+
+-- the list at 2.00: absent, or of its size; each entry of its table; Rssi 99 unless all is unknown
+pub record ListFits (s : List ℕ) : Type 0 where
+  pub pair : PairFits ListKind 28 324 (length s) (rangeAt s 20)
+  pub list : (rangeAt s 20 .length ≡ 0) ⊎ CountFits (rangeAt s 20) (countAt s)
+  pub entries : (i : ℕ) → i < countAt s → EntryFits (entryAt s (listPlace s) i)
+  pub alone : (u32At s 0 ≡ 99) ⊎ ((i : ℕ) → i < countAt s → Unknown (entryAt s (listPlace s) i))
+
+abbrev pub FormFits : Version → List ℕ → Type 0
+FormFits V1 s = length s ≡ 20
+FormFits V2 s = (28 ≤ length s) × ((length s ≤ 4096) × ListFits s)
+
+pub record Acceptable (v : Version) (s : List ℕ) : Type 0 where
+  pub rssi : Marked 31 (u32At s 0)
+  pub rate : Marked 7 (u32At s 4)
+  pub form : FormFits v s
+
+-- ---- what is shown of the entries written: the first `count`, and zeros
+
+abbrev pub keptIn : SignalForm → List RsrpSnr → List RsrpSnr
+keptIn Form1 es = noEntries 16
+keptIn (Form2 n) es = sixteen (entryIn es) n
+
+-- ---- each field is of its width
+
+pub record Sized (p : SignalState) : Type 0 where
+  pub rssi : p .rssi < 2 ^ 32
+  pub rate : p .«error_rate» < 2 ^ 32
+  pub interval : p .«signal_strength_interval» < 2 ^ 32
+  pub strength : p .«rssi_threshold» < 2 ^ 32
+  pub errors : p .«error_rate_threshold» < 2 ^ 32
+
+pub record EntrySized (e : RsrpSnr) : Type 0 where
+  pub rsrp : e .rsrp < 2 ^ 32
+  pub snr : e .snr < 2 ^ 32
+  pub strength : e .«rsrp_threshold» < 2 ^ 32
+  pub ratio : e .«snr_threshold» < 2 ^ 32
+  pub system : e .«system_type» < 2 ^ 32
+
+abbrev pub EntriesSized : List RsrpSnr → Type 0
+EntriesSized es = (i : ℕ) → EntrySized (entryIn es i)

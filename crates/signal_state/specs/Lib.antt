@@ -1,0 +1,2 @@
+pub mod SignalState
+pub mod Claims

@@ -1,0 +1,523 @@
+// The SIGNAL_STATE payload: its record and entries, and a reader and a writer of both forms. What a
+// code means in decibels is not known here.
+use pairs::PairKind;
+use pairs::Range;
+use pairs::if_sized;
+use pairs::is_unfit;
+use pairs::place_at;
+use pairs::put_range;
+use pairs::range_at;
+use protocol::CONTRADICTION;
+use protocol::OUTPUT_TOO_SMALL;
+use protocol::OUTSIDE_TABLE;
+use protocol::Refusal;
+use protocol::Verdict;
+use protocol::Version;
+use protocol::WRONG_COUNT;
+use protocol::WRONG_SIZE;
+use protocol::Written;
+use protocol::also;
+use protocol::data_class::is_one_class;
+use protocol::first;
+use protocol::judge_exact_length;
+use protocol::judge_open_length;
+use wire::put_u32;
+use wire::u32_at;
+ghost use mathlib.Core.Path.{_≡_};
+ghost use Prim.Native.Nat.{_+_, _*_, _≤_};
+ghost use lib.Seq.{sets};
+ghost use Rattle.protocol.specs.Verdict.{judge, writing};
+ghost use Rattle.protocol.specs.declared.Verdict.the-variants.{Fits};
+ghost use Rattle.protocol.specs.declared.Version.the-variants.{V1, V2};
+ghost use Rattle.signal_state.specs.SignalState.{entryPlace, entryAt, noEntries, entriesAt, countIn, stateAt, unmarked, numberRules, wrongCountOf, listRules, entryRules, isKnown, entryIn, entriesVerdict, anyKnown, contradicts, bodyVerdict, headOf, refused, readEntries, readOf, versionOf, sizeOf, limitVerdict, listedVerdict, numberBytes, entryBytes, entriesBytes, listBytes, listedBytes, writeOf};
+
+// One entry of the list.
+pub struct RsrpSnr {
+    pub rsrp: u32,
+    pub snr: u32,
+    pub rsrp_threshold: u32,
+    pub snr_threshold: u32,
+    pub system_type: u32,
+}
+
+// What only one form has: at 2.00 a list of `count` entries, which stand beside the record.
+pub enum SignalForm {
+    V1,
+    V2 { count: u32 },
+}
+
+pub struct SignalState {
+    pub rssi: u32,
+    pub error_rate: u32,
+    pub signal_strength_interval: u32,
+    pub rssi_threshold: u32,
+    pub error_rate_threshold: u32,
+    pub form: SignalForm,
+}
+
+pub enum SignalStateRead {
+    Info(SignalState),
+    Refused(Refusal),
+}
+
+// The answer, and the entries beside it: zero past the count, and all zero with a refusal.
+pub struct SignalStateShown {
+    pub answer: SignalStateRead,
+    pub entries: [RsrpSnr; 16],
+}
+
+const RSSI: usize = 0;
+
+const ERROR_RATE: usize = 4;
+
+const SIGNAL_STRENGTH_INTERVAL: usize = 8;
+
+const RSSI_THRESHOLD: usize = 12;
+
+const ERROR_RATE_THRESHOLD: usize = 16;
+
+const RSRP_SNR: usize = 20;
+
+const LENGTH_V1: usize = 20;
+
+const FIXED_PART_V2: u32 = 28;
+
+const LIST_LIMIT: u32 = 324;
+
+const COUNT_SIZE: usize = 4;
+
+const ENTRY_SIZE: usize = 20;
+
+const MOST_ENTRIES: u32 = 16;
+
+const LAST_RSSI: u32 = 31;
+
+const LAST_ERROR_RATE: u32 = 7;
+
+const NUMBER_UNKNOWN: u32 = 99;
+
+const RSRP_UNKNOWN: u32 = 127;
+
+const SNR_UNKNOWN: u32 = 128;
+
+pub fn read(version: Version, payload: &[u8]) -> SignalStateShown
+    ensures { λ r. ⌜ r ≡ readOf version (now (payload .entry)) ⌝ }
+{
+    match version {
+        Version::V1 => read_numbers(payload),
+        Version::V2 => read_listed(payload),
+    }
+}
+
+// Writes the record at its form's version; at 2.00 the first `count` entries with it.
+pub fn write(info: SignalState, entries: [RsrpSnr; 16], out: &mut [u8]) -> Written
+    ensures { λ r. ⌜ r ≡ writeOf info entries (now (out .entry)) .answer ⌝ }
+    ensures { λ _. ⌜ now (out .exit) ≡ writeOf info entries (now (out .entry)) .output ⌝ }
+{
+    let form = info.form;
+    match form {
+        SignalForm::V1 => write_numbers(info, out),
+        SignalForm::V2 { count } => write_listed(info, count, entries, out),
+    }
+}
+
+pub fn version_of(info: SignalState) -> Version
+    ensures { λ r. ⌜ r ≡ versionOf info ⌝ }
+{
+    let form = info.form;
+    match form {
+        SignalForm::V1 => Version::V1,
+        SignalForm::V2 { count: _ } => Version::V2,
+    }
+}
+
+// 1.00.
+fn read_numbers(s: &[u8]) -> SignalStateShown
+    ensures { λ r. ⌜ r ≡ readOf V1 (now (s .entry)) ⌝ }
+{
+    let length = judge_exact_length(LENGTH_V1, s.len());
+    let numbers = judge_numbers(u32_at(s, RSSI), u32_at(s, ERROR_RATE));
+    match first(length, numbers) {
+        Verdict::Fits => {
+            let entries = no_entries();
+            SignalStateShown {
+                answer: SignalStateRead::Info(state_at(s, SignalForm::V1)),
+                entries,
+            }
+        }
+        Verdict::Fault(refusal) => refuse(refusal),
+    }
+}
+
+// 2.00: all that comes before the entries is judged before they are read.
+fn read_listed(s: &[u8]) -> SignalStateShown
+    ensures { λ r. ⌜ r ≡ readOf V2 (now (s .entry)) ⌝ }
+{
+    let pair = range_at(s, RSRP_SNR);
+    let count = count_in(s, pair);
+    match judge_head(s, pair, count) {
+        Verdict::Fits => read_entries(s, pair.start, count),
+        Verdict::Fault(refusal) => refuse(refusal),
+    }
+}
+
+fn judge_head(s: &[u8], pair: Range, count: u32) -> Verdict
+    ensures { λ r. ⌜ r ≡ headOf (now (s .entry)) pair count ⌝ }
+{
+    let length = judge_open_length(FIXED_PART_V2 as usize, s.len());
+    let numbers = judge_numbers(u32_at(s, RSSI), u32_at(s, ERROR_RATE));
+    let pair_fits = pairs::judge(
+        PairKind::List,
+        FIXED_PART_V2,
+        LIST_LIMIT,
+        RSRP_SNR,
+        s.len(),
+        pair,
+    );
+    let list = first(pair_fits, judge_list(pair, count));
+    first(length, first(numbers, list))
+}
+
+fn read_entries(s: &[u8], offset: u32, count: u32) -> SignalStateShown
+    requires { ⌜ count ≤ 16 ⌝ }
+    ensures { λ r. ⌜ r ≡ readEntries (now (s .entry)) offset count ⌝ }
+{
+    let entries = entries_at(s, offset, count);
+    let body = judge_body(u32_at(s, RSSI), offset, entries, count);
+    match body {
+        Verdict::Fits => SignalStateShown {
+            answer: SignalStateRead::Info(state_at(s, SignalForm::V2 { count })),
+            entries,
+        },
+        Verdict::Fault(refusal) => refuse(refusal),
+    }
+}
+
+fn refuse(refusal: Refusal) -> SignalStateShown
+    ensures { λ r. ⌜ r ≡ refused refusal ⌝ }
+{
+    let entries = no_entries();
+    SignalStateShown {
+        answer: SignalStateRead::Refused(refusal),
+        entries,
+    }
+}
+
+fn state_at(s: &[u8], form: SignalForm) -> SignalState
+    ensures { λ r. ⌜ r ≡ stateAt form (now (s .entry)) ⌝ }
+{
+    SignalState {
+        rssi: u32_at(s, RSSI),
+        error_rate: u32_at(s, ERROR_RATE),
+        signal_strength_interval: u32_at(s, SIGNAL_STRENGTH_INTERVAL),
+        rssi_threshold: u32_at(s, RSSI_THRESHOLD),
+        error_rate_threshold: u32_at(s, ERROR_RATE_THRESHOLD),
+        form,
+    }
+}
+
+// The count of the pair's list, 0 where there is none.
+fn count_in(s: &[u8], pair: Range) -> u32
+    ensures { λ r. ⌜ r ≡ countIn (now (s .entry)) pair ⌝ }
+{
+    if pair.length == 0 {
+        return 0;
+    }
+    u32_at(s, pair.start as usize)
+}
+
+// Entry i of the list at `offset`.
+fn entry_at(s: &[u8], offset: u32, i: u32) -> RsrpSnr
+    ensures { λ r. ⌜ r ≡ entryAt (now (s .entry)) offset i ⌝ }
+{
+    let at = entry_place(offset, i);
+    RsrpSnr {
+        rsrp: u32_at(s, at),
+        snr: u32_at(s, at + 4),
+        rsrp_threshold: u32_at(s, at + 8),
+        snr_threshold: u32_at(s, at + 12),
+        system_type: u32_at(s, at + 16),
+    }
+}
+
+fn entry_place(offset: u32, i: u32) -> usize
+    ensures { λ r. ⌜ r ≡ entryPlace offset i ⌝ }
+{
+    offset as usize + COUNT_SIZE + ENTRY_SIZE * i as usize
+}
+
+fn no_entries() -> [RsrpSnr; 16]
+    ensures { λ r. ⌜ r ≡ noEntries 16 ⌝ }
+{
+    let zero = RsrpSnr {
+        rsrp: 0,
+        snr: 0,
+        rsrp_threshold: 0,
+        snr_threshold: 0,
+        system_type: 0,
+    };
+    [zero; 16]
+}
+
+fn entries_at(s: &[u8], offset: u32, n: u32) -> [RsrpSnr; 16]
+    requires { ⌜ n ≤ 16 ⌝ }
+    ensures { λ r. ⌜ r ≡ entriesAt (now (s .entry)) offset n ⌝ }
+{
+    let mut entries = no_entries();
+    let mut i: u32 = 0;
+    while i < n {
+        entries[i as usize] = entry_at(s, offset, i);
+        i += 1;
+    }
+    entries
+}
+
+fn judge_numbers(rssi: u32, error_rate: u32) -> Verdict
+    ensures { λ r. ⌜ r ≡ judge (numberRules rssi «error_rate») ⌝ }
+{
+    let rssi_known = also(
+        Verdict::Fits,
+        is_unmarked(LAST_RSSI, rssi),
+        OUTSIDE_TABLE,
+        RSSI,
+    );
+    also(
+        rssi_known,
+        is_unmarked(LAST_ERROR_RATE, error_rate),
+        OUTSIDE_TABLE,
+        ERROR_RATE,
+    )
+}
+
+// Whether a number is over its table's last and not the mark of an unknown one.
+fn is_unmarked(last: u32, x: u32) -> bool
+    ensures { λ r. ⌜ r ≡ unmarked last x ⌝ }
+{
+    if x == NUMBER_UNKNOWN {
+        return false;
+    }
+    last < x
+}
+
+// The rules on a list that come before its entries.
+fn judge_list(pair: Range, count: u32) -> Verdict
+    ensures { λ r. ⌜ r ≡ judge (listRules pair count) ⌝ }
+{
+    let size = pair.length;
+    let counted = also(
+        Verdict::Fits,
+        if_sized(size, (size as usize) < COUNT_SIZE),
+        WRONG_SIZE,
+        RSRP_SNR,
+    );
+    let some = also(
+        counted,
+        if_sized(size, is_wrong_count(count)),
+        WRONG_COUNT,
+        pair.start as usize,
+    );
+    let whole = COUNT_SIZE + ENTRY_SIZE * count as usize;
+    also(
+        some,
+        if_sized(size, size as usize != whole),
+        WRONG_SIZE,
+        RSRP_SNR,
+    )
+}
+
+fn is_wrong_count(count: u32) -> bool
+    ensures { λ r. ⌜ r ≡ wrongCountOf count ⌝ }
+{
+    if count == 0 {
+        return true;
+    }
+    MOST_ENTRIES < count
+}
+
+// The entries of the list at `offset`, and last what contradicts.
+fn judge_body(rssi: u32, offset: u32, entries: [RsrpSnr; 16], n: u32) -> Verdict
+    requires { ⌜ n ≤ 16 ⌝ }
+    ensures { λ r. ⌜ r ≡ bodyVerdict rssi offset (entryIn entries) n ⌝ }
+{
+    let known = is_any_known(entries, n);
+    also(
+        judge_entries(offset, entries, n),
+        is_contradiction(rssi, known),
+        CONTRADICTION,
+        RSSI,
+    )
+}
+
+fn judge_entries(offset: u32, entries: [RsrpSnr; 16], n: u32) -> Verdict
+    requires { ⌜ n ≤ 16 ⌝ }
+    ensures { λ r. ⌜ r ≡ entriesVerdict offset (entryIn entries) n ⌝ }
+{
+    let mut verdict = Verdict::Fits;
+    let mut i: u32 = 0;
+    while i < n {
+        let at = i as usize;
+        let entry = entries[at];
+        verdict = first(verdict, judge_entry(offset, i, entry));
+        i += 1;
+    }
+    verdict
+}
+
+fn judge_entry(offset: u32, i: u32, entry: RsrpSnr) -> Verdict
+    ensures { λ r. ⌜ r ≡ judge (entryRules (entryPlace offset i) entry) ⌝ }
+{
+    let at = entry_place(offset, i);
+    let rsrp_known = also(Verdict::Fits, RSRP_UNKNOWN < entry.rsrp, OUTSIDE_TABLE, at);
+    let snr_known = also(rsrp_known, SNR_UNKNOWN < entry.snr, OUTSIDE_TABLE, at + 4);
+    also(
+        snr_known,
+        !is_one_class(Version::V2, entry.system_type),
+        OUTSIDE_TABLE,
+        at + 16,
+    )
+}
+
+fn is_any_known(entries: [RsrpSnr; 16], n: u32) -> bool
+    requires { ⌜ n ≤ 16 ⌝ }
+    ensures { λ r. ⌜ r ≡ anyKnown (entryIn entries) n ⌝ }
+{
+    let mut i: u32 = 0;
+    while i < n {
+        let at = i as usize;
+        let entry = entries[at];
+        if is_known(entry) {
+            return true;
+        }
+        i += 1;
+    }
+    false
+}
+
+// Whether an RSRP or an SNR is there.
+fn is_known(entry: RsrpSnr) -> bool
+    ensures { λ r. ⌜ r ≡ isKnown entry ⌝ }
+{
+    if entry.rsrp != RSRP_UNKNOWN {
+        return true;
+    }
+    entry.snr != SNR_UNKNOWN
+}
+
+// Whether there is an RSSI beside an RSRP or an SNR.
+fn is_contradiction(rssi: u32, known: bool) -> bool
+    ensures { λ r. ⌜ r ≡ contradicts rssi known ⌝ }
+{
+    if known {
+        return rssi != NUMBER_UNKNOWN;
+    }
+    false
+}
+
+// 1.00.
+fn write_numbers(info: SignalState, out: &mut [u8]) -> Written
+    ensures { λ r. ⌜ r ≡ writing (judge (numberRules (info .rssi) (info .«error_rate»))) (numberBytes info) (now (out .entry)) .answer ⌝ }
+    ensures { λ _. ⌜ now (out .exit) ≡ writing (judge (numberRules (info .rssi) (info .«error_rate»))) (numberBytes info) (now (out .entry)) .output ⌝ }
+{
+    let numbers = judge_numbers(info.rssi, info.error_rate);
+    match also(numbers, out.len() < LENGTH_V1, OUTPUT_TOO_SMALL, LENGTH_V1) {
+        Verdict::Fits => {
+            put_numbers(info, out);
+            Written::Length(LENGTH_V1)
+        }
+        Verdict::Fault(refusal) => Written::Refused(refusal),
+    }
+}
+
+// 2.00: the limit is judged before the entries are looked at.
+fn write_listed(info: SignalState, count: u32, entries: [RsrpSnr; 16], out: &mut [u8]) -> Written
+    ensures { λ r. ⌜ r ≡ writing (listedVerdict info count (entryIn entries)) (listedBytes info count (entryIn entries)) (now (out .entry)) .answer ⌝ }
+    ensures { λ _. ⌜ now (out .exit) ≡ writing (listedVerdict info count (entryIn entries)) (listedBytes info count (entryIn entries)) (now (out .entry)) .output ⌝ }
+{
+    match judge_limit(info, count) {
+        Verdict::Fits => write_entries(info, count, entries, out),
+        Verdict::Fault(refusal) => Written::Refused(refusal),
+    }
+}
+
+fn judge_limit(info: SignalState, count: u32) -> Verdict
+    ensures { λ r. ⌜ r ≡ limitVerdict info count ⌝ }
+{
+    let numbers = judge_numbers(info.rssi, info.error_rate);
+    let unfit = is_unfit(PairKind::List, LIST_LIMIT, size_of(count));
+    also(numbers, unfit, WRONG_SIZE, RSRP_SNR)
+}
+
+fn write_entries(info: SignalState, count: u32, entries: [RsrpSnr; 16], out: &mut [u8]) -> Written
+    requires { ⌜ limitVerdict info count ≡ Fits ⌝ }
+    ensures { λ r. ⌜ r ≡ writing (listedVerdict info count (entryIn entries)) (listedBytes info count (entryIn entries)) (now (out .entry)) .answer ⌝ }
+    ensures { λ _. ⌜ now (out .exit) ≡ writing (listedVerdict info count (entryIn entries)) (listedBytes info count (entryIn entries)) (now (out .entry)) .output ⌝ }
+{
+    let n = FIXED_PART_V2 as usize + size_of(count);
+    let body = judge_body(info.rssi, FIXED_PART_V2, entries, count);
+    match also(body, out.len() < n, OUTPUT_TOO_SMALL, n) {
+        Verdict::Fits => {
+            put_numbers(info, out);
+            put_list(entries, count, out);
+            Written::Length(n)
+        }
+        Verdict::Fault(refusal) => Written::Refused(refusal),
+    }
+}
+
+// The size of a list of so many entries.
+fn size_of(count: u32) -> usize
+    ensures { λ r. ⌜ r ≡ sizeOf count ⌝ }
+{
+    if count == 0 {
+        return 0;
+    }
+    COUNT_SIZE + ENTRY_SIZE * count as usize
+}
+
+fn put_numbers(info: SignalState, out: &mut [u8])
+    ensures { λ _. ⌜ now (out .exit) ≡ sets (now (out .entry)) 0 (numberBytes info) ⌝ }
+{
+    put_u32(out, RSSI, info.rssi);
+    put_u32(out, ERROR_RATE, info.error_rate);
+    put_u32(out, SIGNAL_STRENGTH_INTERVAL, info.signal_strength_interval);
+    put_u32(out, RSSI_THRESHOLD, info.rssi_threshold);
+    put_u32(out, ERROR_RATE_THRESHOLD, info.error_rate_threshold);
+}
+
+// The pair, and the list straight after it.
+fn put_list(entries: [RsrpSnr; 16], count: u32, out: &mut [u8])
+    requires { ⌜ count ≤ 16 ⌝ }
+    ensures { λ _. ⌜ now (out .exit) ≡ sets (now (out .entry)) 20 (listBytes count (entryIn entries)) ⌝ }
+{
+    let pair = place_at(FIXED_PART_V2, size_of(count) as u32);
+    put_range(out, RSRP_SNR, pair);
+    if count == 0 {
+        return;
+    }
+    put_u32(out, FIXED_PART_V2 as usize, count);
+    put_entries(entries, count, out);
+}
+
+fn put_entries(entries: [RsrpSnr; 16], n: u32, out: &mut [u8])
+    requires { ⌜ n ≤ 16 ⌝ }
+    ensures { λ _. ⌜ now (out .exit) ≡ sets (now (out .entry)) 32 (entriesBytes n (entryIn entries)) ⌝ }
+{
+    let mut i: u32 = 0;
+    while i < n {
+        let at = i as usize;
+        let entry = entries[at];
+        put_entry(entry, i, out);
+        i += 1;
+    }
+}
+
+fn put_entry(entry: RsrpSnr, i: u32, out: &mut [u8])
+    ensures { λ _. ⌜ now (out .exit) ≡ sets (now (out .entry)) (entryPlace 28 i) (entryBytes entry) ⌝ }
+{
+    let at = entry_place(FIXED_PART_V2, i);
+    put_u32(out, at, entry.rsrp);
+    put_u32(out, at + 4, entry.snr);
+    put_u32(out, at + 8, entry.rsrp_threshold);
+    put_u32(out, at + 12, entry.snr_threshold);
+    put_u32(out, at + 16, entry.system_type);
+}
