@@ -14,7 +14,7 @@ use Rattle.protocol.specs.declared.Version.{Version}
 use Rattle.listing.specs.Request.{WordRow, alsoWord, reachFrom, kindWords, versionWords, kindOf, kindLength, versionOf, digitsAt, payloadAt, byVersion, byKind, requestOf}
 use Rattle.listing.specs.Listing.{payloadText, spelledText, requestText, lineText}
 use Rattle.listing.specs.declared.request.ListingKind.{ListingKind}
-use Rattle.listing.specs.declared.request.ListingKind.the-variants.{PacketService, Version as VersionKind, Registration}
+use Rattle.listing.specs.declared.request.ListingKind.the-variants.{PacketService, Version as VersionKind, Registration, SignalState}
 use Rattle.listing.specs.declared.request.Request.{Request}
 use Rattle.listing.specs.declared.request.Request.the-variants.{Payload, BadLine}
 use Rattle.listing.specs.declared.request.Reached.{Reached}
@@ -90,6 +90,7 @@ after-kind kind n s h l =
     short PacketService = omega arith
     short VersionKind = omega arith
     short Registration = omega arith
+    short SignalState = omega arith
 
 kind-cut : (n : ℕ) (s : List ℕ) (r : Reached) → 16406 ≤ n → n ≤ length s → byKind (take n s) r ≡ byKind s r
 kind-cut n s (Column c) h l = refl
@@ -98,7 +99,7 @@ kind-cut n s (Word w) h l = after-kind (kindOf w) n s h l
 request-cut : (n : ℕ) (s : List ℕ) → 16406 ≤ n → n ≤ length s → requestOf (take n s) ≡ requestOf s
 unfolding requestOf
 request-cut n s h l =
-    ap (byKind (take n s)) (reach-cut kindWords (Column 0) 0 n s (omega arith, (omega arith, (omega arith, tt)))) ∙ kind-cut n s (reachFrom (Column 0) s 0 kindWords) h l
+    ap (byKind (take n s)) (reach-cut kindWords (Column 0) 0 n s (omega arith, (omega arith, (omega arith, (omega arith, tt))))) ∙ kind-cut n s (reachFrom (Column 0) s 0 kindWords) h l
 
 -- ---- the listing
 

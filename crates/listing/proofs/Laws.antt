@@ -1,8 +1,9 @@
 -- Texts put one behind another, the payload that digits spell, and a line's part of a chunk.
 -- Assumes nothing.
-use mathlib.Core.Path.{_≡_, sym, ap, _∙_}
+use mathlib.Core.Path.{_≡_, refl, sym, ap, _∙_}
 use mathlib.Core.List.{List, [], _++_, append-nil}
 use Prim.Native.Nat.{ℕ, _+_, _-_, _/_, _≤_, _<_}
+use native.Mathlib.Nat.{add-zero}
 use native.Mathlib.Numerals.{add-one}
 use native.Mathlib.Omega.{arith}
 use borrow.Author.Tests.{lt-leb}
@@ -11,6 +12,7 @@ use lib.ListN.{length, length-append, length-drop, set, take, drop, drop-of-leng
 use lib.Seq.{sets, length-take-le}
 use Rattle.wire.specs.Runs.{over, fitted}
 use Rattle.wire.proofs.Laws.{sets-append, sets-over, take-over, take-rest, fitted-take}
+use Rattle.below.specs.Below.{joined}
 use Rattle.ascii.specs.Ascii.{decimal, unhexed, through}
 use Rattle.ascii.proofs.Laws.{by-test, length-decimal, length-unhexed, through-le, through-some}
 use Rattle.listing.specs.Lines.{lineLength, lineBytes, collectOf}
@@ -27,6 +29,15 @@ put-then {s} {s₁} {s₂} {at} {n₁} {n₂} {x} {y} p q = record {
 -- a text and nothing behind it
 pub put-none : {s t : List ℕ} {at n : ℕ} {x : List ℕ} → Put s at x t n → Put s at (x ++ []) t n
 put-none {s} {t} {at} {n} {x} p = rw (append-nil x) p
+
+-- no text yet, and one piece more of texts one behind another
+pub put-start : (s : List ℕ) (at : ℕ) → Put s at [] s at
+put-start s at = record { stored = refl; ends = sym (add-zero at) }
+
+pub put-next : (f : ℕ → List ℕ) (i : ℕ) {s s₁ s₂ : List ℕ} {at n₁ n₂ : ℕ} → Put s at (joined f i) s₁ n₁ → Put s₁ n₁ (f i) s₂ n₂
+    → Put s at (joined f (i + 1)) s₂ n₂
+unfolding joined
+put-next f i p q = rw (add-one i) (put-then p q)
 
 -- a tab and the digits behind it
 pub put-digits : (value : ℕ) (s : List ℕ) (at : ℕ) {s₁ s₂ : List ℕ} {n : ℕ} → s₁ ≡ set s at 9 → s₂ ≡ sets s₁ (at + 1) (decimal value)

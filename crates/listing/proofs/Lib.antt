@@ -2,3 +2,4 @@ pub mod Laws
 pub mod Requests
 pub mod Cut
 pub mod Registrations
+pub mod Signals

@@ -2,4 +2,5 @@ pub mod Rows
 pub mod Request
 pub mod Lines
 pub mod Registrations
+pub mod Signals
 pub mod Listing

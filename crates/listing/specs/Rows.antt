@@ -26,6 +26,10 @@ field value = tab ∷ decimal value
 unfoldable pub row : List ℕ → ℕ → List ℕ
 row name value = name ++ (field value ++ (lineFeed ∷ []))
 
+-- a row of entry i of a list
+unfoldable pub indexedRow : List ℕ → ℕ → ℕ → List ℕ
+indexedRow name i value = name ++ (ascii "[" ++ (decimal i ++ (ascii "]" ++ (field value ++ (lineFeed ∷ [])))))
+
 -- "texts are listed in hex"
 unfoldable pub textRow : List ℕ → List ℕ → List ℕ
 textRow name text = name ++ ((tab ∷ []) ++ (hexed text ++ (lineFeed ∷ [])))

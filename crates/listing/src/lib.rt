@@ -4,6 +4,7 @@ pub mod lines;
 mod packet_rows;
 mod registration_rows;
 pub mod request;
+mod signal_rows;
 mod version_rows;
 
 use ascii::put_decimal;
@@ -20,8 +21,8 @@ ghost use mathlib.Core.Path.{_≡_};
 ghost use Prim.Native.Nat.{_+_, _*_, _≤_};
 ghost use lib.ListN.{length};
 ghost use Rattle.wire.specs.Runs.{over};
-ghost use Rattle.ascii.specs.Ascii.{hexed};
-ghost use Rattle.listing.specs.Rows.{Put, field, row, textRow, refusedLine};
+ghost use Rattle.ascii.specs.Ascii.{decimal, hexed};
+ghost use Rattle.listing.specs.Rows.{Put, field, row, indexedRow, textRow, refusedLine};
 ghost use Rattle.listing.specs.Listing.{payloadText, spelledText, lineText};
 
 // Puts the listing of a line at the front of the output, and answers its length.
@@ -84,6 +85,7 @@ fn put_payload(kind: ListingKind, version: Version, payload: &[u8], out: &mut [u
         ListingKind::PacketService => packet_rows::put(version, payload, out),
         ListingKind::Version => version_rows::put(payload, out),
         ListingKind::Registration => registration_rows::put(version, payload, out),
+        ListingKind::SignalState => signal_rows::put(version, payload, out),
     }
 }
 
@@ -104,6 +106,20 @@ fn put_row(out: &mut [u8], at: usize, name: &[u8], value: u64) -> usize
     ensures { λ r. ⌜ r ≤ at + 100 ⌝ }
 {
     let tab = put_text(out, at, name);
+    let end = put_field(out, tab, value);
+    put_text(out, end, b"\n")
+}
+
+// A row of entry i of a list.
+fn put_indexed_row(out: &mut [u8], at: usize, name: &[u8], i: usize, value: u64) -> usize
+    requires { ⌜ (at ≤ 131072) × (length (now name) ≤ 50) ⌝ }
+    ensures { λ r. ⌜ Put (now (out .entry)) at (indexedRow (now (name .entry)) i value) (now (out .exit)) r ⌝ }
+    ensures { λ r. ⌜ r ≤ at + 100 ⌝ }
+{
+    let open = put_text(out, at, name);
+    let index = put_text(out, open, b"[");
+    let close = put_number(out, index, i as u64);
+    let tab = put_text(out, close, b"]");
     let end = put_field(out, tab, value);
     put_text(out, end, b"\n")
 }
@@ -132,6 +148,15 @@ fn put_digits(out: &mut [u8], at: usize, text: &[u8]) -> usize
         i += 1;
     }
     at + 2 * text.len()
+}
+
+fn put_number(out: &mut [u8], at: usize, value: u64) -> usize
+    requires { ⌜ at ≤ 140000 ⌝ }
+    ensures { λ r. ⌜ Put (now (out .entry)) at (decimal value) (now (out .exit)) r ⌝ }
+    ensures { λ r. ⌜ r ≤ at + 20 ⌝ }
+{
+    let digits = put_decimal(out, at, value);
+    at + digits
 }
 
 // A tab and a number.

@@ -14,6 +14,7 @@ pub enum ListingKind {
     PacketService,
     Version,
     Registration,
+    SignalState,
 }
 
 pub enum Request {
@@ -98,7 +99,8 @@ fn kind_at(line: &[u8]) -> Reached
 {
     let packet = also_word(Reached::Column(0), line, 0, b"packet_service\t", 0);
     let version = also_word(packet, line, 0, b"version\t", 1);
-    also_word(version, line, 0, b"registration\t", 2)
+    let registration = also_word(version, line, 0, b"registration\t", 2);
+    also_word(registration, line, 0, b"signal_state\t", 3)
 }
 
 fn kind_of(number: u32) -> ListingKind
@@ -107,7 +109,8 @@ fn kind_of(number: u32) -> ListingKind
     match number {
         0 => ListingKind::PacketService,
         1 => ListingKind::Version,
-        _ => ListingKind::Registration,
+        2 => ListingKind::Registration,
+        _ => ListingKind::SignalState,
     }
 }
 
@@ -119,6 +122,7 @@ fn kind_length(kind: ListingKind) -> usize
         ListingKind::PacketService => 15,
         ListingKind::Version => 8,
         ListingKind::Registration => 13,
+        ListingKind::SignalState => 13,
     }
 }
 

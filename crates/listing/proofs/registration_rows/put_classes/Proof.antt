@@ -8,10 +8,10 @@ use Rattle.listing.proofs.registration_rows.put_classes.Statement.{stat
 use Rattle.listing.proofs.registration_rows.put_classes.Tie as tie
 
 put-row-requires-2 : tie.Need-put-row-requires-2
-put-row-requires-2 c κs = (omega (arith, c .before .before .before .before .before .put-row .ensures .1), search needs)
+put-row-requires-2 c κs = (omega (arith, c .before .before .before .before .before .before .before .before .before .before .pre, c .before .before .before .before .before .put-row .ensures .1), search needs)
 
 put-row-requires-3 : tie.Need-put-row-requires-3
-put-row-requires-3 c κs = (omega (arith, c .before .before .before .before .before .before .before .before .before .before .before .put-row .ensures .1, c .before .before .before .before .before .put-row2 .ensures .1), search needs)
+put-row-requires-3 c κs = (omega (arith, c .before .before .before .before .before .before .before .before .before .before .before .before .before .before .before .before .pre, c .before .before .before .before .before .before .before .before .before .before .before .put-row .ensures .1, c .before .before .before .before .before .put-row2 .ensures .1), search needs)
 
 put-row-requires-4 : tie.Need-put-row-requires-4
 put-row-requires-4 c κs = (omega (arith, c .before .before .before .before .before .before .before .before .before .before .before .before .before .before .before .before .before .before .before .before .before .before .pre, c .before .before .before .before .before .before .before .before .before .before .before .before .before .before .before .before .before .put-row .ensures .1, c .before .before .before .before .before .before .before .before .before .before .before .put-row2 .ensures .1, c .before .before .before .before .before .put-row3 .ensures .1), search needs)
