@@ -29,6 +29,12 @@ unfolding firstOf
 right-fits Fits b e = e
 right-fits (Fault r) b e = let z : _≡_ {A = ℕ} 0 1 = cc in absurd (omega arith)
 
+-- a last verdict that fits changes nothing
+pub last-fits : (a : Verdict) → firstOf a Fits ≡ a
+unfolding firstOf
+last-fits Fits = refl
+last-fits (Fault r) = refl
+
 pub not-broken : (t : Bool) (n p : ℕ) → faultIf t n p ≡ Fits → t ≡ false
 unfolding faultIf
 not-broken true n p e = let z : _≡_ {A = ℕ} 0 1 = cc in absurd (omega arith)
