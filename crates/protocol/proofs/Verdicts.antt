@@ -154,3 +154,14 @@ written-front v b s n e =
 pub written-fits : (v : Verdict) (b s : List ℕ) (n : ℕ) → writing v b s .answer ≡ Length n → v ≡ Fits
 unfolding writing
 written-fits v b s n e = was-fit v b s (told-length (withRoom v b s) b s n e .0)
+
+-- a writer accepts exactly what fits and has room
+pub written-both : (v : Verdict) (b s : List ℕ) (n : ℕ) → writing v b s .answer ≡ Length n → (v ≡ Fits) × (length b ≤ length s)
+unfolding writing
+written-both v b s n e =
+    let t = told-length (withRoom v b s) b s n e in
+    (was-fit v b s (t .0), has-room v b s (t .0))
+
+pub both-written : (v : Verdict) (b s : List ℕ) → v ≡ Fits → length b ≤ length s → writing v b s .answer ≡ Length (length b)
+unfolding writing withRoom given firstOf faultIf
+both-written v b s e h = rw (e, le-ltb (length s) (length b) h)
