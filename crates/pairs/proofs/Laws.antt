@@ -21,7 +21,7 @@ use Rattle.pairs.specs.declared.Range.{Range}
 use Rattle.pairs.specs.declared.PairKind.{PairKind}
 use Rattle.pairs.specs.declared.PairKind.the-variants.{Text, List as ListKind}
 use Rattle.pairs.specs.Pair.{range, oddFor, unfit, rules, verdictOf, padded, placed}
-use Rattle.pairs.specs.Claims.{Absent, Inside, Even, PairFits, RangeSized, shownIn}
+use Rattle.pairs.specs.Claims.{Absent, Inside, Even, SizeFits, PairFits, RangeSized, shownIn}
 
 -- ---- sizes
 
@@ -38,13 +38,13 @@ zero-even Text = refl
 zero-even ListKind = tt
 
 -- a size that fits is within its limit, and even for text
-pub size-said : (kind : PairKind) (limit size : ℕ) → unfit kind limit size ≡ false → (size ≤ limit) × Even kind size
+pub size-said : (kind : PairKind) (limit size : ℕ) → unfit kind limit size ≡ false → SizeFits kind limit size
 size-said kind limit size e =
     let k = or-none (ltb limit size) (oddFor kind size) e in
-    (ltb-false limit size (k .0), even-said kind size (k .1))
+    record { small = ltb-false limit size (k .0); even = even-said kind size (k .1) }
 
-pub said-size : (kind : PairKind) (limit size : ℕ) → size ≤ limit → Even kind size → unfit kind limit size ≡ false
-said-size kind limit size h e = none-or (ltb limit size) (oddFor kind size) (le-ltb limit size h) (said-even kind size e)
+pub said-size : (kind : PairKind) (limit size : ℕ) → SizeFits kind limit size → unfit kind limit size ≡ false
+said-size kind limit size f = none-or (ltb limit size) (oddFor kind size) (le-ltb limit size (f .small)) (said-even kind size (f .even))
 
 -- ---- a pair is accepted exactly where it is safe
 
@@ -68,15 +68,14 @@ module _ (kind : PairKind) (fixed limit place n : ℕ) (p : Range) where
   unfolding verdictOf rules
   fits-said e =
       let k = fits-kept (rules kind fixed limit place n p) e in
-      let z = size-said kind limit (p .length) (k .0) in
-      record { small = z .0; even = z .1; safe = safe-by k (eqb (p .length) 0) refl }
+      record { size = size-said kind limit (p .length) (k .0); safe = safe-by k (eqb (p .length) 0) refl }
 
   pub said-fits : PairFits kind fixed limit n p → verdictOf kind fixed limit place n p ≡ Fits
   unfolding verdictOf rules
   said-fits f = go (f .safe)
     where
       fit : unfit kind limit (p .length) ≡ false
-      fit = said-size kind limit (p .length) (f .small) (f .even)
+      fit = said-size kind limit (p .length) (f .size)
 
       go : Absent p ⊎ Inside fixed n p → judge (rules kind fixed limit place n p) ≡ Fits
       go (inl a) =
@@ -93,7 +92,7 @@ module _ (kind : PairKind) (fixed limit place n : ℕ) (p : Range) where
 -- an absent pair fits
 pub absent-fits : (kind : PairKind) (fixed limit place n : ℕ) → verdictOf kind fixed limit place n (range 0 0) ≡ Fits
 absent-fits kind fixed limit place n =
-    said-fits kind fixed limit place n (range 0 0) (record { small = omega arith; even = zero-even kind; safe = inl (record { nowhere = refl; empty = refl }) })
+    said-fits kind fixed limit place n (range 0 0) (record { size = record { small = omega arith; even = zero-even kind }; safe = inl (record { nowhere = refl; empty = refl }) })
 
 -- ---- a pair that a writer places
 
@@ -103,10 +102,9 @@ module _ (kind : PairKind) (fixed limit place n base : ℕ) where
       → verdictOf kind fixed limit place n (placed base size) ≡ Fits
   placed-fits zero u f a e = absent-fits kind fixed limit place n
   placed-fits (suc m) u f a e =
-      let z = size-said kind limit (suc m) u in
       let i : Inside fixed n (range base (suc m)) = record { some = omega arith; behind = f; aligned = a; within = e } in
       rw (ne-eqb (suc m) 0 (omega arith))
-      (said-fits kind fixed limit place n (range base (suc m)) (record { small = z .0; even = z .1; safe = inr i }))
+      (said-fits kind fixed limit place n (range base (suc m)) (record { size = size-said kind limit (suc m) u; safe = inr i }))
 
   -- and refused as one in the fixed part where that reaches further
   pub placed-inside : (size : ℕ) → unfit kind limit size ≡ false → (size ≡ 0 → ⊥) → base < fixed

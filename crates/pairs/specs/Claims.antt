@@ -23,10 +23,14 @@ abbrev pub Even : PairKind → ℕ → Type 0
 Even Text size = size % 2 ≡ 0
 Even ListKind size = Unit
 
+-- within the limit, and even for text
+pub record SizeFits (kind : PairKind) (limit size : ℕ) : Type 0 where
+  pub small : size ≤ limit
+  pub even : Even kind size
+
 -- accepted exactly where this holds (proofs/Laws)
 pub record PairFits (kind : PairKind) (fixed limit n : ℕ) (p : Range) : Type 0 where
-  pub small : p .length ≤ limit
-  pub even : Even kind (p .length)
+  pub size : SizeFits kind limit (p .length)
   pub safe : Absent p ⊎ Inside fixed n p
 
 -- each number of a pair is of its width

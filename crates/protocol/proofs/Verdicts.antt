@@ -29,6 +29,12 @@ unfolding firstOf
 right-fits Fits b e = e
 right-fits (Fault r) b e = let z : _≡_ {A = ℕ} 0 1 = cc in absurd (omega arith)
 
+-- a last verdict that fits changes nothing
+pub last-fits : (a : Verdict) → firstOf a Fits ≡ a
+unfolding firstOf
+last-fits Fits = refl
+last-fits (Fault r) = refl
+
 pub not-broken : (t : Bool) (n p : ℕ) → faultIf t n p ≡ Fits → t ≡ false
 unfolding faultIf
 not-broken true n p e = let z : _≡_ {A = ℕ} 0 1 = cc in absurd (omega arith)
@@ -148,3 +154,14 @@ written-front v b s n e =
 pub written-fits : (v : Verdict) (b s : List ℕ) (n : ℕ) → writing v b s .answer ≡ Length n → v ≡ Fits
 unfolding writing
 written-fits v b s n e = was-fit v b s (told-length (withRoom v b s) b s n e .0)
+
+-- a writer accepts exactly what fits and has room
+pub written-both : (v : Verdict) (b s : List ℕ) (n : ℕ) → writing v b s .answer ≡ Length n → (v ≡ Fits) × (length b ≤ length s)
+unfolding writing
+written-both v b s n e =
+    let t = told-length (withRoom v b s) b s n e in
+    (was-fit v b s (t .0), has-room v b s (t .0))
+
+pub both-written : (v : Verdict) (b s : List ℕ) → v ≡ Fits → length b ≤ length s → writing v b s .answer ≡ Length (length b)
+unfolding writing withRoom given firstOf faultIf
+both-written v b s e h = rw (e, le-ltb (length s) (length b) h)

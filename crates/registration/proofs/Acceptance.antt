@@ -3,32 +3,36 @@
 -- Assumes nothing.
 use mathlib.Core.Path.{_≡_, refl, sym}
 use mathlib.Core.Logic.{_↔_, _⊎_, ⊎-map}
-use mathlib.Core.Bool.{false, not, _||_}
-use mathlib.Core.List.{List}
+use mathlib.Core.Bool.{Bool, false, not, _||_}
+use mathlib.Core.List.{List, [], _∷_}
 use Prim.Native.Nat.{ℕ, _≤_}
 use native.Mathlib.Omega.{arith}
 use borrow.Author.Tests.{ltb-false, le-ltb}
 use lib.Bits.{bitAnd}
 use lib.Dec.{eqb, ltb}
 use lib.ListN.{length}
-use Rattle.wire.specs.Numbers.{u32At}
-use Rattle.protocol.specs.Verdict.{Kept, judge, firstOf, openLength}
+use Rattle.protocol.specs.Refusal.{contradiction}
+use Rattle.protocol.specs.Verdict.{Kept, rule, judge, firstOf, openLength}
 use Rattle.protocol.specs.DataClass.{maskOf}
 use Rattle.protocol.specs.declared.Verdict.{Verdict}
 use Rattle.protocol.specs.declared.Verdict.the-variants.{Fits, Fault}
 use Rattle.protocol.specs.declared.Version.{Version}
-use Rattle.protocol.specs.declared.Version.the-variants.{V1, V2}
+use Rattle.protocol.specs.declared.Version.the-variants.{V2}
+use Rattle.protocol.specs.declared.Written.the-variants.{Length}
 use Rattle.protocol.proofs.Tests.{and-cases, cases-and, or-none, none-or, equal-kept, kept-equal}
-use Rattle.protocol.proofs.Verdicts.{left-fits, right-fits, fits-kept, kept-fits, open-length, length-open}
+use Rattle.protocol.proofs.Verdicts.{left-fits, right-fits, fits-kept, kept-fits, open-length, length-open, written-both, both-written}
 use Rattle.pairs.specs.Pair.{rangeAt, verdictOf}
 use Rattle.pairs.specs.Claims.{PairFits}
 use Rattle.pairs.specs.declared.PairKind.the-variants.{Text}
-use Rattle.pairs.proofs.Laws.{fits-said, said-fits}
+use Rattle.pairs.proofs.Laws.{size-said, said-size, fits-said, said-fits}
+use Rattle.registration.specs.declared.RegistrationForm.{RegistrationForm}
+use Rattle.registration.specs.declared.RegistrationForm.the-variants.{V1 as Form1, V2 as Form2}
 use Rattle.registration.specs.declared.Registration.{Registration}
 use Rattle.registration.specs.declared.RegistrationTexts.{RegistrationTexts}
 use Rattle.registration.specs.declared.RegistrationRead.the-variants.{Info}
-use Rattle.registration.specs.Registration.{fixedPart, recordAt, textsAt, frontRules, textsVerdict, unregistered, backRules, shown, readOf}
-use Rattle.registration.specs.Claims.{FormFits, Acceptable, TextsSafe}
+use Rattle.registration.specs.Registration.{fixedPart, recordAt, textsAt, frontRules, textsVerdict, unregistered, preferredRules, backRules, shown, readOf, versionOf, sizeRules, writtenVerdict, bytesOf, writeOf}
+use Rattle.registration.proofs.Laws.{parts}
+use Rattle.registration.specs.Claims.{FormFits, NumbersFit, Acceptable, Writable, TextsSafe}
 
 -- ---- each rule as a fact
 
@@ -41,6 +45,51 @@ said-registered : (state class : ℕ) → (class ≡ 0) ⊎ ((3 ≤ state) × (s
 said-registered state class h =
     cases-and (not (eqb class 0)) (ltb state 3 || ltb 5 state)
     (⊎-map (kept-equal class 0) (λ k. none-or (ltb state 3) (ltb 5 state) (le-ltb state 3 (k .0)) (le-ltb 5 state (k .1))) h)
+
+-- ---- the rules on numbers, the same for the reader and the writer
+
+module _ (p : Registration) where
+  stray : Bool
+  stray = unregistered (p .«register_state») (p .«available_data_class»)
+
+  back-said : (f : RegistrationForm) → Kept (preferredRules f (rule stray contradiction 12 ∷ [])) → FormFits f × (stray ≡ false)
+  back-said Form1 k = (tt, k .0)
+  back-said (Form2 class) k = (equal-kept (bitAnd class (maskOf V2)) class (k .0), k .1 .0)
+
+  said-back : (f : RegistrationForm) → FormFits f → stray ≡ false → Kept (preferredRules f (rule stray contradiction 12 ∷ []))
+  said-back Form1 h e = (e, tt)
+  said-back (Form2 class) h e = (kept-equal (bitAnd class (maskOf V2)) class h, (e, tt))
+
+  pub numbers-said : (v : Version) → Kept (frontRules v p) → Kept (backRules p) → NumbersFit v p
+  unfolding frontRules backRules stray
+  numbers-said v k b =
+      let class = p .«available_data_class» in
+      let last = back-said (p .form) (b .1) in
+      record {
+        state = ltb-false 6 (p .«register_state») (k .0);
+        mode = ltb-false 2 (p .«register_mode») (k .1 .0);
+        available = equal-kept (bitAnd class (maskOf v)) class (k .1 .1 .0);
+        cellular = ltb-false 3 (p .«cellular_class») (k .1 .1 .1 .0);
+        flag = ltb-false 3 (p .«registration_flag») (b .0);
+        form = last .0;
+        registered = registered-said (p .«register_state») class (last .1);
+      }
+
+  pub said-front : (v : Version) → NumbersFit v p → Kept (frontRules v p)
+  unfolding frontRules
+  said-front v n =
+      let class = p .«available_data_class» in (
+        le-ltb 6 (p .«register_state») (n .state),
+        (
+          le-ltb 2 (p .«register_mode») (n .mode),
+          (kept-equal (bitAnd class (maskOf v)) class (n .available), (le-ltb 3 (p .«cellular_class») (n .cellular), tt)),
+        ),
+      )
+
+  pub said-rest : (v : Version) → NumbersFit v p → Kept (backRules p)
+  unfolding backRules stray
+  said-rest v n =
+      (le-ltb 3 (p .«registration_flag») (n .flag), said-back (p .form) (n .form) (said-registered (p .«register_state») (p .«available_data_class») (n .registered)))
 
 -- ---- the parts of the judgement
 
@@ -92,56 +141,24 @@ kept-all v s k =
 -- ---- the rules of a payload
 
 fields-said : (v : Version) (s : List ℕ) → Kept-all v s → Acceptable v s
-unfolding frontRules backRules recordAt
 fields-said v s k = record {
   fixed = open-length (fixedPart v) (length s) (k .long) .0;
   most = open-length (fixedPart v) (length s) (k .long) .1;
-  state = ltb-false 6 (u32At s 4) (k .front .0);
-  mode = ltb-false 2 (u32At s 8) (k .front .1 .0);
-  available = equal-kept (bitAnd (u32At s 12) (maskOf v)) (u32At s 12) (k .front .1 .1 .0);
-  cellular = ltb-false 3 (u32At s 16) (k .front .1 .1 .1 .0);
+  numbers = numbers-said (recordAt v s) v (k .front) (k .back);
   id = k .id;
   name = k .name;
   roaming = k .roaming;
-  flag = ltb-false 3 (u32At s 44) (k .back .0);
-  form = form-said v (k .back);
-  registered = registered-last v (k .back);
 }
-  where
-    form-said : (w : Version) → Kept (backRules (recordAt w s)) → FormFits w s
-    form-said V1 b = tt
-    form-said V2 b = equal-kept (bitAnd (u32At s 48) (maskOf V2)) (u32At s 48) (b .1 .0)
-
-    registered-last : (w : Version) → Kept (backRules (recordAt w s)) → (u32At s 12 ≡ 0) ⊎ ((3 ≤ u32At s 4) × (u32At s 4 ≤ 5))
-    registered-last V1 b = registered-said (u32At s 4) (u32At s 12) (b .1 .0)
-    registered-last V2 b = registered-said (u32At s 4) (u32At s 12) (b .1 .1 .0)
 
 said-fields : (v : Version) (s : List ℕ) → Acceptable v s → Kept-all v s
-unfolding frontRules backRules recordAt
 said-fields v s a = record {
   long = length-open (fixedPart v) (length s) (a .fixed) (a .most);
-  front = (
-    le-ltb 6 (u32At s 4) (a .state),
-    (
-      le-ltb 2 (u32At s 8) (a .mode),
-      (kept-equal (bitAnd (u32At s 12) (maskOf v)) (u32At s 12) (a .available), (le-ltb 3 (u32At s 16) (a .cellular), tt)),
-    ),
-  );
+  front = said-front (recordAt v s) v (a .numbers);
   id = a .id;
   name = a .name;
   roaming = a .roaming;
-  back = back v (a .form);
+  back = said-rest (recordAt v s) v (a .numbers);
 }
-  where
-    flag : ltb 3 (u32At s 44) ≡ false
-    flag = le-ltb 3 (u32At s 44) (a .flag)
-
-    last : unregistered (u32At s 4) (u32At s 12) ≡ false
-    last = said-registered (u32At s 4) (u32At s 12) (a .registered)
-
-    back : (w : Version) → FormFits w s → Kept (backRules (recordAt w s))
-    back V1 h = (flag, (last, tt))
-    back V2 h = (flag, (kept-equal (bitAnd (u32At s 48) (maskOf V2)) (u32At s 48) h, (last, tt)))
 
 -- ---- accepted exactly when the rules hold
 
@@ -172,3 +189,34 @@ unfolding textsAt
 texts-safe v s p t e =
     let k = accepted v s p t e in
     rw (k .1 .1) (record { id = k .0 .id .safe; name = k .0 .name .safe; roaming = k .0 .roaming .safe })
+
+-- ---- a writer accepts exactly what its rules allow, where it has room
+
+writable-said : (p : Registration) (id name roaming : ℕ) → writtenVerdict p id name roaming ≡ Fits → Writable p id name roaming
+unfolding sizeRules
+writable-said p id name roaming e =
+    let k = parts p id name roaming e in
+    record {
+      numbers = numbers-said p (versionOf p) (fits-kept (frontRules (versionOf p) p) (k .front)) (fits-kept (backRules p) (k .back));
+      id = size-said Text 12 id (k .sizes .0);
+      name = size-said Text 40 name (k .sizes .1 .0);
+      roaming = size-said Text 126 roaming (k .sizes .1 .1 .0);
+    }
+
+said-writable : (p : Registration) (id name roaming : ℕ) → Writable p id name roaming → writtenVerdict p id name roaming ≡ Fits
+unfolding writtenVerdict sizeRules firstOf
+said-writable p id name roaming w =
+    rw (
+      kept-fits (frontRules (versionOf p) p) (said-front p (versionOf p) (w .numbers)),
+      kept-fits (sizeRules id name roaming) (said-size Text 12 id (w .id), (said-size Text 40 name (w .name), (said-size Text 126 roaming (w .roaming), tt))),
+      kept-fits (backRules p) (said-rest p (versionOf p) (w .numbers)),
+    )
+
+pub written-exactly : (p : Registration) (x y z s : List ℕ)
+    → (writeOf p x y z s .answer ≡ Length (length (bytesOf p x y z))) ↔ (Writable p (length x) (length y) (length z) × (length (bytesOf p x y z) ≤ length s))
+unfolding writeOf
+written-exactly p x y z s =
+    let v = writtenVerdict p (length x) (length y) (length z) in (
+      λ e. let w = written-both v (bytesOf p x y z) s (length (bytesOf p x y z)) e in (writable-said p (length x) (length y) (length z) (w .0), w .1),
+      λ w. both-written v (bytesOf p x y z) s (said-writable p (length x) (length y) (length z) (w .0)) (w .1),
+    )

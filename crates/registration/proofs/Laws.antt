@@ -84,7 +84,7 @@ pub small : (p : Registration) (id name roaming : ℕ) → writtenVerdict p id n
 unfolding sizeRules
 small p id name roaming e =
     let k = parts p id name roaming e .sizes in
-    (size-said Text 12 id (k .0) .0, (size-said Text 40 name (k .1 .0) .0, size-said Text 126 roaming (k .1 .1 .0) .0))
+    (size-said Text 12 id (k .0) .small, (size-said Text 40 name (k .1 .0) .small, size-said Text 126 roaming (k .1 .1 .0) .small))
 
 -- what is written is far below 4,096 bytes, so number 5 is never given
 pub bytes-most : (p : Registration) (x y z : List ℕ) → writtenVerdict p (length x) (length y) (length z) ≡ Fits → length (bytesOf p x y z) ≤ 232

@@ -16,7 +16,7 @@ use Rattle.protocol.specs.declared.Verdict.{Verdict}
 use Rattle.protocol.specs.declared.Verdict.the-variants.{Fits, Fault}
 use Rattle.protocol.specs.declared.Version.the-variants.{V1, V2}
 use Rattle.protocol.proofs.Tests.{equal-kept, kept-equal}
-use Rattle.protocol.proofs.Verdicts.{fits-kept, kept-fits, open-short}
+use Rattle.protocol.proofs.Verdicts.{last-fits, fits-kept, kept-fits, open-short}
 use Rattle.protocol.proofs.Classes.{later-classes}
 use Rattle.pairs.specs.declared.PairKind.the-variants.{Text}
 use Rattle.pairs.proofs.Laws.{placed-inside, absent-fits}
@@ -40,11 +40,6 @@ back-earlier p = by-form (p .form) refl
     by-form : (f : RegistrationForm) → p .form ≡ f → Kept (backRules p) → judge (backRules (inForm Form1 p)) ≡ Fits
     by-form Form1 e k = let j = rw e at k in kept-fits (backRules (inForm Form1 p)) j
     by-form (Form2 class) e k = let j = rw e at k in kept-fits (backRules (inForm Form1 p)) (j .0, (j .1 .1 .0, tt))
-
-last-fits : (a : Verdict) → firstOf a Fits ≡ a
-unfolding firstOf
-last-fits Fits = refl
-last-fits (Fault r) = refl
 
 -- of those before them, only the classes are judged otherwise
 earlier-by : (p : Registration) (t : RegistrationTexts) → Kept (frontRules V2 p) → (b : Bool) → onlyClasses V1 (p .«available_data_class») ≡ b

@@ -7,14 +7,13 @@ use mathlib.Core.List.{List}
 use lib.Bits.{bitAnd}
 use lib.Dec.{eqb}
 use lib.ListN.{length}
-use Rattle.wire.specs.Numbers.{u32At}
 use Rattle.protocol.specs.Refusal.{refusal, tooShort, wrongOffset, outsideTable}
 use Rattle.protocol.specs.DataClass.{maskOf, onlyClasses}
 use Rattle.protocol.specs.declared.Refusal.{Refusal}
 use Rattle.protocol.specs.declared.Version.{Version}
 use Rattle.protocol.specs.declared.Version.the-variants.{V1, V2}
 use Rattle.pairs.specs.Pair.{rangeAt}
-use Rattle.pairs.specs.Claims.{Absent, Inside, PairFits, shownIn}
+use Rattle.pairs.specs.Claims.{Absent, Inside, SizeFits, PairFits, shownIn}
 use Rattle.pairs.specs.declared.PairKind.the-variants.{Text}
 use Rattle.registration.specs.declared.RegistrationForm.{RegistrationForm}
 use Rattle.registration.specs.declared.RegistrationForm.the-variants.{V1 as Form1, V2 as Form2}
@@ -22,7 +21,7 @@ use Rattle.registration.specs.declared.Registration.{Registration}
 use Rattle.registration.specs.declared.RegistrationTexts.{RegistrationTexts}
 use Rattle.registration.specs.declared.RegistrationRead.{RegistrationRead}
 use Rattle.registration.specs.declared.RegistrationRead.the-variants.{Info, Refused}
-use Rattle.registration.specs.Registration.{fixedPart, readOf, versionOf}
+use Rattle.registration.specs.Registration.{fixedPart, recordAt, readOf, versionOf}
 
 -- ---- the rules in words of fields
 
@@ -30,23 +29,35 @@ use Rattle.registration.specs.Registration.{fixedPart, readOf, versionOf
 abbrev pub OnlyClasses : Version → ℕ → Type 0
 OnlyClasses v class = bitAnd class (maskOf v) ≡ class
 
-abbrev pub FormFits : Version → List ℕ → Type 0
-FormFits V1 s = Unit
-FormFits V2 s = OnlyClasses V2 (u32At s 48)
+abbrev pub FormFits : RegistrationForm → Type 0
+FormFits Form1 = Unit
+FormFits (Form2 class) = OnlyClasses V2 class
 
+-- the numbers of a record, by the tables of a version
+pub record NumbersFit (v : Version) (p : Registration) : Type 0 where
+  pub state : p .«register_state» ≤ 6
+  pub mode : p .«register_mode» ≤ 2
+  pub available : OnlyClasses v (p .«available_data_class»)
+  pub cellular : p .«cellular_class» ≤ 3
+  pub flag : p .«registration_flag» ≤ 3
+  pub form : FormFits (p .form)
+  pub registered : (p .«available_data_class» ≡ 0) ⊎ ((3 ≤ p .«register_state») × (p .«register_state» ≤ 5))
+
+-- what a reader accepts
 pub record Acceptable (v : Version) (s : List ℕ) : Type 0 where
   pub fixed : fixedPart v ≤ length s
   pub most : length s ≤ 4096
-  pub state : u32At s 4 ≤ 6
-  pub mode : u32At s 8 ≤ 2
-  pub available : OnlyClasses v (u32At s 12)
-  pub cellular : u32At s 16 ≤ 3
+  pub numbers : NumbersFit v (recordAt v s)
   pub id : PairFits Text (fixedPart v) 12 (length s) (rangeAt s 20)
   pub name : PairFits Text (fixedPart v) 40 (length s) (rangeAt s 28)
   pub roaming : PairFits Text (fixedPart v) 126 (length s) (rangeAt s 36)
-  pub flag : u32At s 44 ≤ 3
-  pub form : FormFits v s
-  pub registered : (u32At s 12 ≡ 0) ⊎ ((3 ≤ u32At s 4) × (u32At s 4 ≤ 5))
+
+-- what a writer accepts, by the sizes a, b and c of the texts
+pub record Writable (p : Registration) (a b c : ℕ) : Type 0 where
+  pub numbers : NumbersFit (versionOf p) p
+  pub id : SizeFits Text 12 a
+  pub name : SizeFits Text 40 b
+  pub roaming : SizeFits Text 126 c
 
 -- ---- no text is read outside the payload or inside the fixed part
 

@@ -5,33 +5,37 @@ use mathlib.Core.Path.{_≡_, refl, sym, ap}
 use mathlib.Core.Logic.{_↔_, _⊎_, inl, inr, ⊎-map, ⊎-elim}
 use mathlib.Core.Bool.{Bool, true, false, not}
 use mathlib.Core.List.{List}
-use Prim.Native.Nat.{ℕ, _+_, _*_, _<_}
+use Prim.Native.Nat.{ℕ, _+_, _*_, _≤_, _<_}
 use native.Mathlib.Omega.{arith}
 use borrow.Author.Tests.{ltb-false, le-ltb, eqb-true, eqb-false, eq-eqb, ne-eqb}
 use lib.Dec.{eqb, ltb}
 use lib.ListN.{length}
 use Rattle.wire.specs.Numbers.{u32At}
-use Rattle.protocol.specs.Refusal.{contradiction}
+use Rattle.protocol.specs.Refusal.{wrongSize, contradiction}
 use Rattle.protocol.specs.Verdict.{Kept, judge, firstOf, faultIf, exactLength, openLength}
 use Rattle.protocol.specs.DataClass.{oneClass}
 use Rattle.protocol.specs.declared.Verdict.{Verdict}
 use Rattle.protocol.specs.declared.Verdict.the-variants.{Fits, Fault}
 use Rattle.protocol.specs.declared.Version.{Version}
 use Rattle.protocol.specs.declared.Version.the-variants.{V1, V2}
+use Rattle.protocol.specs.declared.Written.the-variants.{Length}
 use Rattle.protocol.proofs.Tests.{and-cases, cases-and, or-none, none-or, not-kept, kept-not, equal-kept, kept-equal}
 use Rattle.protocol.proofs.Classes.{class-said, said-class}
-use Rattle.protocol.proofs.Verdicts.{left-fits, right-fits, not-broken, fits-kept, kept-fits, then-kept, kept-then, exact-length, length-exact, open-length, length-open}
+use Rattle.protocol.proofs.Verdicts.{left-fits, right-fits, not-broken, fits-kept, kept-fits, then-kept, kept-then, exact-length, length-exact, open-length, length-open, written-both, both-written}
 use Rattle.below.proofs.Laws.{fits-each, each-fits, none-each, each-none}
-use Rattle.pairs.specs.Pair.{rangeAt, verdictOf}
+use Rattle.pairs.specs.Pair.{rangeAt, unfit, verdictOf}
 use Rattle.pairs.specs.declared.Range.{Range}
 use Rattle.pairs.specs.declared.PairKind.the-variants.{List as ListKind}
-use Rattle.pairs.proofs.Laws.{fits-said, said-fits}
+use Rattle.pairs.proofs.Laws.{size-said, said-size, fits-said, said-fits}
 use Rattle.signal_state.specs.declared.RsrpSnr.{RsrpSnr}
+use Rattle.signal_state.specs.declared.SignalForm.{SignalForm}
+use Rattle.signal_state.specs.declared.SignalForm.the-variants.{V1 as Form1, V2 as Form2}
 use Rattle.signal_state.specs.declared.SignalState.{SignalState}
 use Rattle.signal_state.specs.declared.SignalStateRead.the-variants.{Info, Refused}
 use Rattle.signal_state.specs.declared.SignalStateShown.{SignalStateShown}
-use Rattle.signal_state.specs.SignalState.{countAt, listPlace, entryPlace, entryAt, unmarked, numberRules, wrongCountOf, listRules, entryRules, entriesVerdict, isKnown, anyKnown, contradicts, bodyVerdict, headOf, headVerdict, verdictAt, shown, recordAt, shownEntries, readOf}
-use Rattle.signal_state.specs.Claims.{Marked, CountFits, EntryFits, Unknown, Acceptable}
+use Rattle.signal_state.specs.SignalState.{countAt, listPlace, entryPlace, entryAt, unmarked, numberRules, wrongCountOf, listRules, entryRules, entriesVerdict, isKnown, anyKnown, contradicts, bodyVerdict, headOf, headVerdict, verdictAt, shown, recordAt, shownEntries, readOf, entryIn, sizeOf, limitVerdict, listedVerdict, verdictIn, bytesOf, writtenVerdict, writeOf}
+use Rattle.signal_state.specs.Claims.{Marked, CountFits, EntryFits, Unknown, Acceptable, FormWritable, Writable}
+use Rattle.signal_state.proofs.Laws.{size-small, small-size}
 
 -- ---- each rule as a fact
 
@@ -117,19 +121,19 @@ module _ (rssi offset : ℕ) (f : ℕ → RsrpSnr) (n : ℕ) where
 
 -- ---- the rules of a payload
 
-numbers-said : (s : List ℕ) → Kept (numberRules (u32At s 0) (u32At s 4)) → Marked 31 (u32At s 0) × Marked 7 (u32At s 4)
+numbers-said : (rssi rate : ℕ) → Kept (numberRules rssi rate) → Marked 31 rssi × Marked 7 rate
 unfolding numberRules
-numbers-said s k = (marked-said 31 (u32At s 0) (k .0), marked-said 7 (u32At s 4) (k .1 .0))
+numbers-said rssi rate k = (marked-said 31 rssi (k .0), marked-said 7 rate (k .1 .0))
 
-said-numbers : (s : List ℕ) → Marked 31 (u32At s 0) → Marked 7 (u32At s 4) → Kept (numberRules (u32At s 0) (u32At s 4))
+said-numbers : (rssi rate : ℕ) → Marked 31 rssi → Marked 7 rate → Kept (numberRules rssi rate)
 unfolding numberRules
-said-numbers s a b = (said-marked 31 (u32At s 0) a, (said-marked 7 (u32At s 4) b, tt))
+said-numbers rssi rate a b = (said-marked 31 rssi a, (said-marked 7 rate b, tt))
 
 fields-said : (v : Version) (s : List ℕ) → verdictAt v s ≡ Fits → Acceptable v s
 unfolding verdictAt headOf
 fields-said V1 s e =
     let k = then-kept (exactLength 20 (length s)) (numberRules (u32At s 0) (u32At s 4)) e in
-    let n = numbers-said s (k .1) in
+    let n = numbers-said (u32At s 0) (u32At s 4) (k .1) in
     record { rssi = n .0; rate = n .1; form = exact-length 20 (length s) (k .0) }
 fields-said V2 s e =
     let head = left-fits (headVerdict s) _ e in
@@ -137,7 +141,7 @@ fields-said V2 s e =
     let fields = right-fits (openLength 28 (length s)) _ head in
     let later = right-fits (judge (numberRules (u32At s 0) (u32At s 4))) _ fields in
     let long = open-length 28 (length s) (left-fits _ _ head) in
-    let n = numbers-said s (fits-kept (numberRules (u32At s 0) (u32At s 4)) (left-fits _ _ fields)) in
+    let n = numbers-said (u32At s 0) (u32At s 4) (fits-kept (numberRules (u32At s 0) (u32At s 4)) (left-fits _ _ fields)) in
     let pair = verdictOf ListKind 28 324 20 (length s) (rangeAt s 20) in
     record {
       rssi = n .0;
@@ -159,12 +163,12 @@ fields-said V2 s e =
 said-fields : (v : Version) (s : List ℕ) → Acceptable v s → verdictAt v s ≡ Fits
 unfolding verdictAt headOf firstOf
 said-fields V1 s a =
-    kept-then (exactLength 20 (length s)) (numberRules (u32At s 0) (u32At s 4)) (length-exact 20 (length s) (a .form)) (said-numbers s (a .rssi) (a .rate))
+    kept-then (exactLength 20 (length s)) (numberRules (u32At s 0) (u32At s 4)) (length-exact 20 (length s) (a .form)) (said-numbers (u32At s 0) (u32At s 4) (a .rssi) (a .rate))
 said-fields V2 s a =
     let l = a .form .1 .1 in
     rw (
       length-open 28 (length s) (a .form .0) (a .form .1 .0),
-      kept-fits (numberRules (u32At s 0) (u32At s 4)) (said-numbers s (a .rssi) (a .rate)),
+      kept-fits (numberRules (u32At s 0) (u32At s 4)) (said-numbers (u32At s 0) (u32At s 4) (a .rssi) (a .rate)),
       said-fits ListKind 28 324 20 (length s) (rangeAt s 20) (l .pair),
       kept-fits (listRules (rangeAt s 20) (countAt s)) (said-list (rangeAt s 20) (countAt s) (l .list)),
     )
@@ -197,3 +201,46 @@ acceptable v s a = ap (λ (d : Verdict). shown d (recordAt v s) (shownEntries v 
 
 pub accepted-exactly : (v : Version) (s : List ℕ) → (readOf v s ≡ info (recordAt v s) (shownEntries v s)) ↔ Acceptable v s
 accepted-exactly v s = (λ e. accepted v s (recordAt v s) (shownEntries v s) e .0, acceptable v s)
+
+-- ---- a writer accepts exactly what its rules allow, where it has room
+
+limit-said : (n : ℕ) → unfit ListKind 324 (sizeOf n) ≡ false → n ≤ 16
+limit-said n e = size-small n (size-said ListKind 324 (sizeOf n) e .small)
+
+said-limit : (n : ℕ) → n ≤ 16 → unfit ListKind 324 (sizeOf n) ≡ false
+said-limit n h = said-size ListKind 324 (sizeOf n) (record { small = small-size n h; even = tt })
+
+module _ (p : SignalState) (f : ℕ → RsrpSnr) where
+  numbers : Verdict
+  numbers = judge (numberRules (p .rssi) (p .«error_rate»))
+
+  writable-said : (g : SignalForm) → verdictIn g p f ≡ Fits → (Marked 31 (p .rssi) × Marked 7 (p .«error_rate»)) × FormWritable g (p .rssi) f
+  unfolding listedVerdict limitVerdict numbers
+  writable-said Form1 e = (numbers-said (p .rssi) (p .«error_rate») (fits-kept (numberRules (p .rssi) (p .«error_rate»)) e), tt)
+  writable-said (Form2 n) e =
+      let limit = left-fits (limitVerdict p n) _ e in
+      let body = right-fits (limitVerdict p n) _ e in (
+        numbers-said (p .rssi) (p .«error_rate») (fits-kept (numberRules (p .rssi) (p .«error_rate»)) (left-fits numbers _ limit)),
+        record {
+          few = limit-said n (not-broken (unfit ListKind 324 (sizeOf n)) wrongSize 20 (right-fits numbers _ limit));
+          entries = entries-said (p .rssi) 28 f n body;
+          alone = alone-said (p .rssi) 28 f n body;
+        },
+      )
+
+  said-writable : (g : SignalForm) → Marked 31 (p .rssi) → Marked 7 (p .«error_rate») → FormWritable g (p .rssi) f → verdictIn g p f ≡ Fits
+  unfolding listedVerdict limitVerdict firstOf faultIf
+  said-writable Form1 a b w = kept-fits (numberRules (p .rssi) (p .«error_rate»)) (said-numbers (p .rssi) (p .«error_rate») a b)
+  said-writable (Form2 n) a b w =
+      rw (kept-fits (numberRules (p .rssi) (p .«error_rate»)) (said-numbers (p .rssi) (p .«error_rate») a b), said-limit n (w .few))
+      (said-body (p .rssi) 28 f n (w .entries) (w .alone))
+
+pub written-exactly : (p : SignalState) (es : List RsrpSnr) (s : List ℕ)
+    → (writeOf p es s .answer ≡ Length (length (bytesOf p es))) ↔ (Writable p (entryIn es) × (length (bytesOf p es) ≤ length s))
+unfolding writeOf
+written-exactly p es s = (
+  λ e. let w = written-both (writtenVerdict p es) (bytesOf p es) s (length (bytesOf p es)) e in
+      let k = writable-said p (entryIn es) (p .form) (w .0) in
+      (record { rssi = k .0 .0; rate = k .0 .1; form = k .1 }, w .1),
+  λ w. both-written (writtenVerdict p es) (bytesOf p es) s (said-writable p (entryIn es) (p .form) (w .0 .rssi) (w .0 .rate) (w .0 .form)) (w .1),
+)

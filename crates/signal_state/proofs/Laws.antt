@@ -71,7 +71,7 @@ small-size (suc n) h = omega (arith, size-is n)
 
 pub limit-small : (p : SignalState) (n : ℕ) → limitVerdict p n ≡ Fits → n ≤ 16
 unfolding limitVerdict
-limit-small p n e = size-small n (size-said ListKind 324 (sizeOf n) (not-broken _ wrongSize 20 (right-fits _ _ e)) .0)
+limit-small p n e = size-small n (size-said ListKind 324 (sizeOf n) (not-broken _ wrongSize 20 (right-fits _ _ e)) .small)
 
 -- a list that fits is absent, or has from 1 to 16 entries
 few : (p : Range) (n : ℕ) → Kept (listRules p n) → eqb (p .length) 0 ≡ false → n ≤ 16

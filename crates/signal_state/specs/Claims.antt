@@ -49,10 +49,27 @@ abbrev pub FormFits : Version → List ℕ → Type 0
 FormFits V1 s = length s ≡ 20
 FormFits V2 s = (28 ≤ length s) × ((length s ≤ 4096) × ListFits s)
 
+-- what a reader accepts
 pub record Acceptable (v : Version) (s : List ℕ) : Type 0 where
   pub rssi : Marked 31 (u32At s 0)
   pub rate : Marked 7 (u32At s 4)
   pub form : FormFits v s
+
+-- n entries to be written: at most 16, each of its table; Rssi 99 unless all is unknown
+pub record EntriesFit (rssi n : ℕ) (f : ℕ → RsrpSnr) : Type 0 where
+  pub few : n ≤ 16
+  pub entries : (i : ℕ) → i < n → EntryFits (f i)
+  pub alone : (rssi ≡ 99) ⊎ ((i : ℕ) → i < n → Unknown (f i))
+
+abbrev pub FormWritable : SignalForm → ℕ → (ℕ → RsrpSnr) → Type 0
+FormWritable Form1 rssi f = Unit
+FormWritable (Form2 n) rssi f = EntriesFit rssi n f
+
+-- what a writer accepts
+pub record Writable (p : SignalState) (f : ℕ → RsrpSnr) : Type 0 where
+  pub rssi : Marked 31 (p .rssi)
+  pub rate : Marked 7 (p .«error_rate»)
+  pub form : FormWritable (p .form) (p .rssi) f
 
 -- ---- what is shown of the entries written: the first `count`, and zeros
 
