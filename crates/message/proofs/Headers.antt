@@ -1,10 +1,10 @@
 -- What accepted headers say, and which headers are accepted.
 -- Assumes nothing.
-use mathlib.Core.Path.{_≡_, refl, _∙_}
+use mathlib.Core.Path.{_≡_, refl}
 use mathlib.Core.Logic.{_⊎_, inl, inr}
 use mathlib.Core.Bool.{Bool, true, false, not, cond, _&&_, _||_}
 use mathlib.Core.List.{List}
-use Prim.Native.Nat.{ℕ, _+_, _-_, _≤_, _<_}
+use Prim.Native.Nat.{ℕ, _-_, _≤_, _<_}
 use native.Mathlib.Omega.{arith}
 use borrow.Author.Tests.{ltb-false, leb-false, eqb-true, eqb-false, eq-eqb, ne-eqb, le-ltb, lt-leb, not-false}
 use lib.Dec.{ltb, eqb}
@@ -15,7 +15,7 @@ use Rattle.protocol.specs.Verdict.{judge}
 use Rattle.protocol.specs.declared.Verdict.{Verdict}
 use Rattle.protocol.specs.declared.Verdict.the-variants.{Fits, Fault}
 use Rattle.protocol.proofs.Verdicts.{fits-kept, kept-fits}
-use Rattle.message.specs.Message.{mostInformation, mostTransfer, headerAt, wrongTotal, fragmentRules, fragmentBy, fragmentOf, lengthPlace, firstLength, wordAt, messageAt, declaredAt, carriedBy, wrongWord, wrongAmount, firstRules, firstBy, firstHeaderOf}
+use Rattle.message.specs.Message.{mostInformation, mostTransfer, headerAt, wrongTotal, fragmentRules, fragmentBy, fragmentOf, lengthPlace, firstLength, messageAt, declaredAt, carriedBy, wrongWord, wrongAmount, firstRules, firstBy, firstHeaderOf}
 use Rattle.message.specs.declared.FragmentHeader.{FragmentHeader}
 use Rattle.message.specs.declared.FirstHeader.{FirstHeader}
 use Rattle.message.specs.declared.Fragment.the-variants as fragment

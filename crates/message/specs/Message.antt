@@ -18,7 +18,6 @@ use Rattle.message.specs.declared.FragmentHeader.{FragmentHeader}
 use Rattle.message.specs.declared.Fragment.{Fragment}
 use Rattle.message.specs.declared.Fragment.the-variants as fragment
 use Rattle.message.specs.declared.MessageHeader.{MessageHeader}
-use Rattle.message.specs.declared.FirstHeader.{FirstHeader}
 use Rattle.message.specs.declared.First.{First}
 use Rattle.message.specs.declared.First.the-variants as first
 

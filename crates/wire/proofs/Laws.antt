@@ -165,6 +165,10 @@ unfolding fitted
 fitted-take zero t h = refl
 fitted-take (suc n) t h = rw (fitted-take n t (omega arith), take-suc t n 0 h)
 
+-- all of a run
+pub fitted-all : (t : List ℕ) → fitted (length t) t ≡ t
+fitted-all t = fitted-take (length t) t (omega arith) ∙ take-length t
+
 -- a text and zeros after it
 pub fitted-pad : (k : ℕ) (t : List ℕ) → fitted (length t + k) t ≡ t ++ replicate k 0
 unfolding fitted

@@ -1,5 +1,4 @@
 -- By the two tests.
-use borrow.Author.Needs.{needs}
 use borrow.Author.Tests.{lt-ltb, le-ltb}
 use Rattle.message.specs.Message.{wrongAmount}
 use Rattle.message.proofs.is_wrong_amount.Statement.{statement}

@@ -1,5 +1,4 @@
 -- By the test for 0.
-use borrow.Author.Needs.{needs}
 use borrow.Author.Tests.{eq-eqb, ne-eqb}
 use Rattle.message.specs.Message.{wrongTotal}
 use Rattle.message.proofs.is_wrong_total.Statement.{statement}

@@ -1,5 +1,4 @@
 -- By the type of the message.
-use borrow.Author.Needs.{needs}
 use borrow.Author.Tests.{eq-eqb, ne-eqb}
 use Rattle.message.specs.Message.{wrongWord}
 use Rattle.message.proofs.is_wrong_word.Statement.{statement}

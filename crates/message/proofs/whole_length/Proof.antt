@@ -1,5 +1,4 @@
 -- By the type of the message.
-use borrow.Author.Needs.{needs}
 use borrow.Author.Tests.{eq-eqb, ne-eqb}
 use Rattle.message.specs.Message.{wholeLength}
 use Rattle.message.proofs.whole_length.Statement.{statement}
