@@ -66,7 +66,7 @@ pub clean-step : (a : Assembly) (p : List ℕ) (room : ℕ) → Clean a → Clea
 unfolding refused
 clean-step a p room C = go (step-view a p room)
   where
-    go : {s : Step} → StepView a p s → Clean (s .assembly)
+    go : {s : Step} → StepView a s → Clean (s .assembly)
     go (bad r e) = rw e clean-empty
     go {s} (starts h f xs G v) = clean-gather _ xs _ s (clean-begun a h f C (G .0 .2)) G v
     go {s} (joins xs G v) = clean-gather a xs _ s C G v

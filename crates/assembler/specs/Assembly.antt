@@ -1,5 +1,5 @@
 -- The assembler (document 01, "Messages and fragments"): "the assembly holds 4,096 bytes, all zero when empty, and zero past those gathered".
--- In this order: assemblies; what a feed gives; the bytes of a piece gathered; a first piece; a later piece; any piece.
+-- In this order: assemblies; what a feed gives; the bytes of a piece gathered; how a first piece is judged, a later piece, any piece; the whole step.
 -- That every assembly which feeding reaches is zero past the bytes gathered is a theorem (proofs/Clean).
 use Prim.Native.Nat.{ℕ, _+_, _-_}
 use mathlib.Core.Bool.{Bool, false, not, cond, _&&_}
@@ -23,6 +23,8 @@ use Rattle.assembler.specs.declared.Progress.{Progress}
 use Rattle.assembler.specs.declared.Assembly.{Assembly}
 use Rattle.assembler.specs.declared.Fed.{Fed}
 use Rattle.assembler.specs.declared.FedInPlace.{FedInPlace}
+use Rattle.assembler.specs.declared.Judged.{Judged}
+use Rattle.assembler.specs.declared.Judged.the-variants as judged
 use Rattle.assembler.specs.declared.Answer.{Answer}
 use Rattle.assembler.specs.declared.Answer.the-variants.{Pending, Complete, Refused}
 
@@ -100,7 +102,7 @@ gatherOf a xs dropped room =
     (cond (ltb room (a .progress .«information_length»)) (refused (refusal outputTooSmall (a .progress .«information_length»))) (completed a xs dropped))
     (waiting (grown a xs) dropped)
 
--- ---- a first piece: "it begins anew"; over an unfinished message the buffer is cleared
+-- ---- a first piece: "it begins anew"
 
 abbrev pub begunProgress : FragmentHeader → FirstHeader → Progress
 begunProgress h f = record {
@@ -111,13 +113,9 @@ begunProgress h f = record {
   gathered = 0;
 }
 
-unfoldable pub begunBytes : Bool → List ℕ → List ℕ
-begunBytes dropped bytes = cond dropped zeros bytes
-
-unfoldable pub startOf : Bool → List ℕ → FragmentHeader → List ℕ → ℕ → First → Step
-startOf dropped bytes h p room (first.Refused r) = refused r
-startOf dropped bytes h p room (first.Header f) =
-    gatherOf (assembly (begunProgress h f) (begunBytes dropped bytes)) (drop (firstLength (h .«message_type»)) p) dropped room
+unfoldable pub startOf : Bool → FragmentHeader → First → Judged
+startOf dropped h (first.Refused r) = judged.Refused r
+startOf dropped h (first.Header f) = judged.Gathers (begunProgress h f) (firstLength (h .«message_type»)) dropped
 
 -- ---- a later piece
 
@@ -134,19 +132,29 @@ joinRules p h n =
     ∷ rule (wrongAmount (eqb (h .number + 1) (h .total)) (p .gathered + (n - 20)) (p .«information_length»)) wrongLength 4
     ∷ []
 
-unfoldable pub joinBy : Verdict → Assembly → List ℕ → ℕ → Step
-joinBy Fits a p room = gatherOf a (drop 20 p) false room
-joinBy (Fault r) a p room = refused r
+unfoldable pub joinOf : Verdict → Progress → Judged
+joinOf Fits p = judged.Gathers p 20 false
+joinOf (Fault r) p = judged.Refused r
 
-unfoldable pub joinOf : Assembly → FragmentHeader → List ℕ → ℕ → Step
-joinOf a h p room = joinBy (judge (joinRules (a .progress) h (length p))) a p room
+-- ---- any piece s: refused, or its information from a place on joins a message
 
--- ---- any piece p, with room for so many bytes in the output
+unfoldable pub judgedBy : Progress → List ℕ → Fragment → Judged
+judgedBy p s (fragment.Refused r) = judged.Refused r
+judgedBy p s (fragment.Header h) =
+    cond (eqb (h .number) 0) (startOf (isPending p) h (firstHeaderOf s)) (joinOf (judge (joinRules p h (length s))) p)
 
-unfoldable pub stepBy : Assembly → List ℕ → ℕ → Fragment → Step
-stepBy a p room (fragment.Refused r) = refused r
-stepBy a p room (fragment.Header h) =
-    cond (eqb (h .number) 0) (startOf (isPending (a .progress)) (a .bytes) h p room (firstHeaderOf p)) (joinOf a h p room)
+unfoldable pub judgedOf : Progress → List ℕ → Judged
+judgedOf p s = judgedBy p s (fragmentOf s)
+
+-- ---- what feeding the piece s does, with room for so many bytes in the output
+
+-- a first piece over an unfinished message clears the buffer
+unfoldable pub begunBytes : Bool → List ℕ → List ℕ
+begunBytes dropped bytes = cond dropped zeros bytes
+
+unfoldable pub stepBy : List ℕ → List ℕ → ℕ → Judged → Step
+stepBy bytes s room (judged.Refused r) = refused r
+stepBy bytes s room (judged.Gathers p from dropped) = gatherOf (assembly p (begunBytes dropped bytes)) (drop from s) dropped room
 
 unfoldable pub stepOf : Assembly → List ℕ → ℕ → Step
-stepOf a p room = stepBy a p room (fragmentOf p)
+stepOf a s room = stepBy (a .bytes) s room (judgedOf (a .progress) s)

@@ -25,8 +25,8 @@ ghost use lib.ListN.{length, take};
 ghost use lib.Seq.{sets};
 ghost use Rattle.wire.specs.Runs.{over};
 ghost use Rattle.protocol.specs.Verdict.{judge};
-ghost use Rattle.message.specs.Message.{headerAt, firstHeaderOf};
-ghost use Rattle.assembler.specs.Assembly.{zeros, assembly, empty, byValue, inPlace, refused, grownProgress, gatherOf, begunProgress, begunBytes, startOf, continues, joinRules, joinOf, stepOf};
+ghost use Rattle.message.specs.Message.{firstHeaderOf};
+ghost use Rattle.assembler.specs.Assembly.{zeros, assembly, empty, byValue, inPlace, refused, grownProgress, gatherOf, begunProgress, begunBytes, startOf, continues, joinRules, joinOf, judgedOf, stepOf};
 
 // How far the pending message has come: 01's assembly without its buffer. Total 0 is no message.
 pub struct Progress {
@@ -64,6 +64,17 @@ pub struct Fed {
 pub struct FedInPlace {
     pub progress: Progress,
     pub answer: Answer,
+}
+
+// A piece that is refused, or whose information from `from` on joins the message that has come as
+// far as `progress` says.
+enum Judged {
+    Refused(Refusal),
+    Gathers {
+        progress: Progress,
+        from: usize,
+        dropped: bool,
+    },
 }
 
 impl Assembly {
@@ -131,14 +142,15 @@ pub fn feed_in_place(
     ensures { λ _. ⌜ now (bytes .exit) ≡ stepOf (assembly progress (now (bytes .entry))) (now (piece .entry)) (length (now (out .entry))) .assembly .bytes ⌝ }
     ensures { λ _. ⌜ now (out .exit) ≡ over (stepOf (assembly progress (now (bytes .entry))) (now (piece .entry)) (length (now (out .entry))) .information) (now (out .entry)) ⌝ }
 {
-    match judge_fragment(piece) {
-        Fragment::Refused(refusal) => refuse(refusal, bytes),
-        Fragment::Header(header) => {
-            let number = header.number;
-            if number == 0 {
-                return start(0 < progress.total, header, bytes, piece, out);
-            }
-            join(progress, header, bytes, piece, out)
+    match judge_piece(progress, piece) {
+        Judged::Refused(refusal) => refuse(refusal, bytes),
+        Judged::Gathers {
+            progress: gathering,
+            from,
+            dropped,
+        } => {
+            clear_if(dropped, bytes);
+            gather(gathering, bytes, &piece[from..], dropped, out)
         }
     }
 }
@@ -159,46 +171,52 @@ fn refuse(refusal: Refusal, bytes: &mut [u8; 4096]) -> FedInPlace
     FedInPlace { progress, answer }
 }
 
-// A first piece, with the header that every fragment has.
-fn start(
-    dropped: bool,
-    header: FragmentHeader,
-    bytes: &mut [u8; 4096],
-    piece: &[u8],
-    out: &mut [u8],
-) -> FedInPlace
-    requires { ⌜ (headerAt (now piece) ≡ header) × (header .number ≡ 0) × (0 < header .total) × (length (now piece) ≤ 4096) ⌝ }
-    ensures { λ r. ⌜ r ≡ inPlace (startOf dropped (now (bytes .entry)) header (now (piece .entry)) (length (now (out .entry))) (firstHeaderOf (now (piece .entry)))) ⌝ }
-    ensures { λ _. ⌜ now (bytes .exit) ≡ startOf dropped (now (bytes .entry)) header (now (piece .entry)) (length (now (out .entry))) (firstHeaderOf (now (piece .entry))) .assembly .bytes ⌝ }
-    ensures { λ _. ⌜ now (out .exit) ≡ over (startOf dropped (now (bytes .entry)) header (now (piece .entry)) (length (now (out .entry))) (firstHeaderOf (now (piece .entry))) .information) (now (out .entry)) ⌝ }
+// A piece is judged before anything is written.
+fn judge_piece(progress: Progress, piece: &[u8]) -> Judged
+    ensures { λ r. ⌜ r ≡ judgedOf progress (now (piece .entry)) ⌝ }
 {
-    match judge_first(piece) {
-        First::Refused(refusal) => refuse(refusal, bytes),
-        First::Header(first) => {
-            let from = length_place(header.message_type) + 4;
-            let progress = begin(header, first);
-            clear_if(dropped, bytes);
-            gather(progress, bytes, &piece[from..], dropped, out)
+    match judge_fragment(piece) {
+        Fragment::Refused(refusal) => Judged::Refused(refusal),
+        Fragment::Header(header) => {
+            let number = header.number;
+            if number == 0 {
+                return start(0 < progress.total, header, piece);
+            }
+            join(progress, header, piece.len())
         }
     }
 }
 
-// A later piece, with the header that every fragment has.
-fn join(
-    progress: Progress,
-    header: FragmentHeader,
-    bytes: &mut [u8; 4096],
-    piece: &[u8],
-    out: &mut [u8],
-) -> FedInPlace
-    requires { ⌜ (20 ≤ length (now piece)) × (length (now piece) ≤ 4096) × (header .number < header .total) ⌝ }
-    ensures { λ r. ⌜ r ≡ inPlace (joinOf (assembly progress (now (bytes .entry))) header (now (piece .entry)) (length (now (out .entry)))) ⌝ }
-    ensures { λ _. ⌜ now (bytes .exit) ≡ joinOf (assembly progress (now (bytes .entry))) header (now (piece .entry)) (length (now (out .entry))) .assembly .bytes ⌝ }
-    ensures { λ _. ⌜ now (out .exit) ≡ over (joinOf (assembly progress (now (bytes .entry))) header (now (piece .entry)) (length (now (out .entry))) .information) (now (out .entry)) ⌝ }
+// A first piece, with the header that every fragment has.
+fn start(dropped: bool, header: FragmentHeader, piece: &[u8]) -> Judged
+    ensures { λ r. ⌜ r ≡ startOf dropped header (firstHeaderOf (now (piece .entry))) ⌝ }
 {
-    match judge_join(progress, header, piece.len()) {
-        Verdict::Fits => gather(progress, bytes, &piece[20..], false, out),
-        Verdict::Fault(refusal) => refuse(refusal, bytes),
+    match judge_first(piece) {
+        First::Refused(refusal) => Judged::Refused(refusal),
+        First::Header(first) => {
+            let from = length_place(header.message_type) + 4;
+            let progress = begin(header, first);
+            Judged::Gathers {
+                progress,
+                from,
+                dropped,
+            }
+        }
+    }
+}
+
+// A later piece of n bytes, with the header that every fragment has.
+fn join(progress: Progress, header: FragmentHeader, n: usize) -> Judged
+    requires { ⌜ (20 ≤ n) × (n ≤ 4096) × (header .number < header .total) ⌝ }
+    ensures { λ r. ⌜ r ≡ joinOf (judge (joinRules progress header n)) progress ⌝ }
+{
+    match judge_join(progress, header, n) {
+        Verdict::Fits => Judged::Gathers {
+            progress,
+            from: 20,
+            dropped: false,
+        },
+        Verdict::Fault(refusal) => Judged::Refused(refusal),
     }
 }
 
