@@ -1,0 +1,5 @@
+pub mod Fragments
+pub mod Runs
+pub mod Sent
+pub mod Delivered
+pub mod Worked
