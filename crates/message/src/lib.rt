@@ -84,15 +84,21 @@ pub fn judge_whole(s: &[u8]) -> Whole
     }
 }
 
+// The length is judged first, so that the reads after it need no test of their own.
 pub fn judge_fragment(s: &[u8]) -> Fragment
     ensures { λ r. ⌜ r ≡ fragmentOf (now (s .entry)) ⌝ }
 {
     let n = s.len();
+    if n < 20 {
+        return Fragment::Refused(Refusal {
+            number: TOO_SHORT,
+            place: n,
+        });
+    }
     let message_type = u32_at(s, 0);
     let total = u32_at(s, 12);
     let number = u32_at(s, 16);
-    let short = also(Verdict::Fits, n < 20, TOO_SHORT, n);
-    let length = also(short, u32_at(s, 4) as usize != n, WRONG_LENGTH, 4);
+    let length = also(Verdict::Fits, u32_at(s, 4) as usize != n, WRONG_LENGTH, 4);
     let size = also(length, MOST_TRANSFER < n, WRONG_TRANSFER_SIZE, 4);
     let known = also(size, !is_fragmented(message_type), UNKNOWN, 0);
     let counted = also(known, is_wrong_total(total), WRONG_FRAGMENT, 12);
