@@ -3,3 +3,4 @@ pub mod Runs
 pub mod Sent
 pub mod Delivered
 pub mod Worked
+pub mod Collect
