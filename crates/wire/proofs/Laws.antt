@@ -124,6 +124,17 @@ pub sets-over : (b s : List ℕ) → length b ≤ length s → sets s 0 b ≡ ov
 unfolding over
 sets-over b s h = sets-eq b s 0 (omega arith) ∙ ap (λ (k : ℕ). b ++ drop k s) (zero-add (length b))
 
+-- what stands before the end of a run of stores, and after it
+pub take-sets : (b xs : List ℕ) (at : ℕ) → at + length xs ≤ length b → take (at + length xs) (sets b at xs) ≡ take at b ++ xs
+take-sets b xs at h =
+    let e : length (take at b ++ xs) ≡ at + length xs = length-append (take at b) xs ∙ ap (λ (k : ℕ). k + length xs) (length-take-le at b (omega arith)) in
+    ap (take (at + length xs)) (sets-eq xs b at h) ∙ take-at (take at b ++ xs) (drop (at + length xs) b) (at + length xs) e
+
+pub drop-sets : (b xs : List ℕ) (at : ℕ) → at + length xs ≤ length b → drop (at + length xs) (sets b at xs) ≡ drop (at + length xs) b
+drop-sets b xs at h =
+    let e : length (take at b ++ xs) ≡ at + length xs = length-append (take at b) xs ∙ ap (λ (k : ℕ). k + length xs) (length-take-le at b (omega arith)) in
+    ap (drop (at + length xs)) (sets-eq xs b at h) ∙ drop-at (take at b ++ xs) (drop (at + length xs) b) (at + length xs) e
+
 -- the front of such an output
 pub take-over : (b s : List ℕ) (n : ℕ) → length b ≡ n → take n (over b s) ≡ b
 unfolding over

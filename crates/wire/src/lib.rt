@@ -100,6 +100,33 @@ pub fn put_run(out: &mut [u8], at: usize, t: &[u8], n: usize)
     }
 }
 
+// All bytes of t.
+pub fn put_bytes(out: &mut [u8], at: usize, t: &[u8])
+    ensures { λ _. ⌜ now (out .exit) ≡ sets (now (out .entry)) at (now (t .entry)) ⌝ }
+{
+    if out.len() <= at {
+        return;
+    }
+    let room = out.len() - at;
+    if room < t.len() {
+        put_front(out, at, t, room);
+    } else {
+        put_front(out, at, t, t.len());
+    }
+}
+
+// The first n bytes of t, where they are there and have room: no test for each.
+fn put_front(out: &mut [u8], at: usize, t: &[u8], n: usize)
+    requires { ⌜ (at + n ≤ length (now out)) × (n ≤ length (now t)) ⌝ }
+    ensures { λ _. ⌜ now (out .exit) ≡ sets (now (out .entry)) at (fitted n (now (t .entry))) ⌝ }
+{
+    let mut i: usize = 0;
+    while i < n {
+        out[at + i] = t[i];
+        i += 1;
+    }
+}
+
 fn put_fitting(out: &mut [u8], at: usize, t: &[u8], n: usize)
     requires { ⌜ at + n ≤ length (now out) ⌝ }
     ensures { λ _. ⌜ now (out .exit) ≡ sets (now (out .entry)) at (fitted n (now (t .entry))) ⌝ }

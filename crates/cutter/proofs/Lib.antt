@@ -1,0 +1,3 @@
+pub mod Stored
+pub mod Later
+pub mod Whole

@@ -1,0 +1,12 @@
+-- The cases of specs/Cases, computed.
+-- Assumes nothing.
+use mathlib.Core.Path.{_≡_, refl}
+use mathlib.Core.List.{map}
+use Rattle.message.specs.Message.{lengthPlace}
+use Rattle.protocol.specs.Service.{idBytes}
+use Rattle.cutter.specs.Cut.{headerBytes, fragmentBytes, wordBytes, openingBytes, firstBytes, laterCount, laterFragments, fragmentsBy, fragmentsOf}
+use Rattle.exchange.specs.Cases.{Case, cases, lengthsOf}
+
+pub worked : map lengthsOf cases ≡ map (λ (c : Case). c .lengths) cases
+unfolding lengthsOf fragmentsOf fragmentsBy laterFragments laterCount firstBytes openingBytes wordBytes fragmentBytes headerBytes idBytes lengthPlace
+worked = refl

@@ -1,0 +1,4 @@
+pub mod Messages
+pub mod Delivery
+pub mod Cases
+pub mod Collected

@@ -1,0 +1,49 @@
+-- Messages from the cutter to the assembler (document 01, demand 3: "a single claim about whole runs").
+-- In this order: values of the header's real type; the fragments as pieces; what a receiver sees of a message.
+use Prim.Native.Nat.{ℕ, zero, suc, _+_, _^_, _<_}
+use mathlib.Core.Bool.{Bool, false, cond}
+use mathlib.Core.List.{List, [], _∷_}
+use lib.Dec.{eqb}
+use lib.ListN.{length, take, drop}
+use Rattle.protocol.specs.MessageType.{INDICATE-STATUS}
+use Rattle.message.specs.declared.MessageHeader.{MessageHeader}
+use Rattle.assembler.specs.Assembly.{empty}
+use Rattle.assembler.specs.Run.{Piece, Run, andThen}
+use Rattle.assembler.specs.declared.Answer.the-variants.{Pending, Complete}
+
+-- each field is a 32-bit number, as in every value of the code's type
+pub record Fits32 (m : MessageHeader) : Type 0 where
+  pub type32 : m .«message_type» < 2 ^ 32
+  pub transaction32 : m .transaction < 2 ^ 32
+  pub word0 : m .service .word0 < 2 ^ 32
+  pub word1 : m .service .word1 < 2 ^ 32
+  pub word2 : m .service .word2 < 2 ^ 32
+  pub word3 : m .service .word3 < 2 ^ 32
+  pub cid32 : m .cid < 2 ^ 32
+  pub word32 : m .word < 2 ^ 32
+
+-- the header that is carried: an indication has no word, and the receiver sees 0
+unfoldable pub carried : MessageHeader → MessageHeader
+carried m = record {
+  «message_type» = m .«message_type»;
+  transaction = m .transaction;
+  service = m .service;
+  cid = m .cid;
+  word = cond (eqb (m .«message_type») INDICATE-STATUS) 0 (m .word);
+}
+
+-- a stream of bytes in n parts, each of `size` bytes but the last, which has what is left
+unfoldable pub parts : ℕ → ℕ → List ℕ → List (List ℕ)
+parts zero size s = []
+parts (suc n) size s = take size s ∷ parts n size (drop size s)
+
+-- fragments numbered from k on as pieces, where `room` tells the room in the output for each
+unfoldable pub pieces : (ℕ → ℕ) → ℕ → List (List ℕ) → List Piece
+pieces room k [] = []
+pieces room k (p ∷ ps) = record { bytes = p; room = room k } ∷ pieces room (k + 1) ps
+
+-- n pieces that wait, and then the whole message, which leaves the empty assembly; the first one says whether a message was dropped
+unfoldable pub received : MessageHeader → List ℕ → Bool → ℕ → Run
+received m information dropped zero =
+    record { seen = record { answer = Complete (carried m) (length information) dropped; information = information } ∷ []; end = empty }
+received m information dropped (suc n) = andThen (record { answer = Pending dropped; information = [] }) (received m information false n)

@@ -1,0 +1,148 @@
+-- What accepted headers say, and which headers are accepted.
+-- Assumes nothing.
+use mathlib.Core.Path.{_≡_, refl}
+use mathlib.Core.Logic.{_⊎_, inl, inr}
+use mathlib.Core.Bool.{Bool, true, false, not, cond, _&&_, _||_}
+use mathlib.Core.List.{List}
+use Prim.Native.Nat.{ℕ, _-_, _≤_, _<_}
+use native.Mathlib.Omega.{arith}
+use borrow.Author.Tests.{ltb-false, leb-false, eqb-true, eqb-false, eq-eqb, ne-eqb, le-ltb, lt-leb, not-false}
+use lib.Dec.{ltb, eqb}
+use lib.ListN.{length}
+use Rattle.wire.specs.Numbers.{u32At}
+use Rattle.protocol.specs.MessageType.{INDICATE-STATUS, isFragmented}
+use Rattle.protocol.specs.Verdict.{judge}
+use Rattle.protocol.specs.declared.Verdict.{Verdict}
+use Rattle.protocol.specs.declared.Verdict.the-variants.{Fits, Fault}
+use Rattle.protocol.proofs.Verdicts.{fits-kept, kept-fits}
+use Rattle.message.specs.Message.{mostInformation, mostTransfer, headerAt, wrongTotal, fragmentRules, fragmentBy, fragmentOf, lengthPlace, firstLength, messageAt, declaredAt, carriedBy, wrongWord, wrongAmount, firstRules, firstBy, firstHeaderOf}
+use Rattle.message.specs.declared.FragmentHeader.{FragmentHeader}
+use Rattle.message.specs.declared.FirstHeader.{FirstHeader}
+use Rattle.message.specs.declared.Fragment.the-variants as fragment
+use Rattle.message.specs.declared.First.the-variants as first
+
+-- ---- places
+
+-- the information length stands at 40 or at 44
+pub place-cases : (t : ℕ) → (lengthPlace t ≡ 40) ⊎ (lengthPlace t ≡ 44)
+unfolding lengthPlace
+place-cases t = go (eqb t INDICATE-STATUS)
+  where
+    go : (b : Bool) → (_≡_ {A = ℕ} (cond b 40 44) 40) ⊎ (_≡_ {A = ℕ} (cond b 40 44) 44)
+    go true = inl refl
+    go false = inr refl
+
+pub place-most : (t : ℕ) → (40 ≤ lengthPlace t) × (lengthPlace t ≤ 44)
+place-most t = elim (place-cases t) [ inl e ↦ omega arith | inr e ↦ omega arith ]
+
+pub type-at : (s : List ℕ) → messageAt s .«message_type» ≡ u32At s 0
+unfolding messageAt
+type-at s = refl
+
+-- ---- amounts
+
+-- a right amount is at most the declared one, and all of it at the last fragment
+pub amount-right : (last : Bool) (g d : ℕ) → wrongAmount last g d ≡ false → (g ≤ d) × (last ≡ true → g ≡ d)
+unfolding wrongAmount
+amount-right last g d = go (ltb d g) refl last
+  where
+    go : (b : Bool) → ltb d g ≡ b → (l : Bool) → (b || (l && not (eqb g d))) ≡ false → (g ≤ d) × (l ≡ true → g ≡ d)
+    go true h l e = let z : _≡_ {A = ℕ} 0 1 = cc in absurd (omega arith)
+    go false h true e = (ltb-false d g h, λ _. eqb-true g d (not-false (eqb g d) e))
+    go false h false e = (ltb-false d g h, λ f. let z : _≡_ {A = ℕ} 0 1 = cc in absurd (omega arith))
+
+-- as much as the declared, or less before the last fragment, is right
+pub right-all : (last : Bool) (g d : ℕ) → g ≡ d → wrongAmount last g d ≡ false
+unfolding wrongAmount
+right-all true g d e = let h : g ≤ d = omega arith in rw (le-ltb d g h, eq-eqb g d e)
+right-all false g d e = let h : g ≤ d = omega arith in rw (le-ltb d g h)
+
+pub right-less : (last : Bool) (g d : ℕ) → last ≡ false → g ≤ d → wrongAmount last g d ≡ false
+unfolding wrongAmount
+right-less last g d e h = rw (e, le-ltb d g h)
+
+-- ---- the header of every fragment
+
+total-right : (n : ℕ) → wrongTotal n ≡ false → (0 < n) × (n ≤ 128)
+unfolding wrongTotal
+total-right n = go (eqb n 0) refl
+  where
+    go : (b : Bool) → eqb n 0 ≡ b → (b || ltb 128 n) ≡ false → (0 < n) × (n ≤ 128)
+    go true h e = let z : _≡_ {A = ℕ} 0 1 = cc in absurd (omega arith)
+    go false h e = let z : n ≡ 0 → ⊥ = eqb-false n 0 h in (omega arith, ltb-false 128 n e)
+
+right-total : (n : ℕ) → 0 < n → n ≤ 128 → wrongTotal n ≡ false
+unfolding wrongTotal
+right-total n h l = let z : n ≡ 0 → ⊥ = λ e. omega arith in rw (ne-eqb n 0 z, le-ltb 128 n l)
+
+-- the header h of a fragment s that is accepted
+pub record Accepted (s : List ℕ) (h : FragmentHeader) : Type 0 where
+  pub is : headerAt s ≡ h
+  pub long : 20 ≤ length s
+  pub short : length s ≤ mostTransfer
+  pub known : isFragmented (u32At s 0) ≡ true
+  pub some : 0 < h .total
+  pub few : h .total ≤ 128
+  pub within : h .number < h .total
+
+pub fragment-accepted : (s : List ℕ) (h : FragmentHeader) → fragmentOf s ≡ fragment.Header h → Accepted s h
+unfolding fragmentOf fragmentBy
+fragment-accepted s h e = go (judge (fragmentRules s)) refl e
+  where
+    go : (v : Verdict) → judge (fragmentRules s) ≡ v → fragmentBy v s ≡ fragment.Header h → Accepted s h
+    go Fits j q =
+        let k = fits-kept (fragmentRules s) j in
+        let same : headerAt s ≡ h = cc in
+        let t = total-right (u32At s 12) (k .1 .1 .1 .1 .0) in
+        rw (← same) (record {
+          is = refl;
+          long = ltb-false _ _ (k .0);
+          short = ltb-false _ _ (k .1 .1 .0);
+          known = not-false _ (k .1 .1 .1 .0);
+          some = t .0;
+          few = t .1;
+          within = leb-false _ _ (k .1 .1 .1 .1 .1 .0);
+        })
+    go (Fault r) j q = let z : _≡_ {A = ℕ} 0 1 = cc in absurd (omega arith)
+
+-- a fragment whose header keeps the rules is accepted
+pub accepted-fragment : (s : List ℕ) → 20 ≤ length s → u32At s 4 ≡ length s → length s ≤ mostTransfer → isFragmented (u32At s 0) ≡ true → 0 < u32At s 12 → u32At s 12 ≤ 128
+    → u32At s 16 < u32At s 12 → fragmentOf s ≡ fragment.Header (headerAt s)
+unfolding fragmentOf fragmentBy
+accepted-fragment s long all short known some few within =
+    rw (kept-fits (fragmentRules s)
+    (le-ltb _ _ long, (rw (eq-eqb _ _ all) refl, (le-ltb _ _ short, (rw known refl, (right-total _ some few, (lt-leb _ _ within, tt)))))))
+
+-- ---- the header of a first fragment
+
+-- what the first header f of a fragment s that is accepted says
+pub record Opened (s : List ℕ) (f : FirstHeader) : Type 0 where
+  pub message : f .message ≡ messageAt s
+  pub declared : f .«information_length» ≡ declaredAt s
+  pub long : firstLength (u32At s 0) ≤ length s
+  pub small : f .«information_length» ≤ mostInformation
+  pub amount : wrongAmount (eqb (u32At s 12) 1) (carriedBy s) (f .«information_length») ≡ false
+
+pub first-accepted : (s : List ℕ) (f : FirstHeader) → firstHeaderOf s ≡ first.Header f → Opened s f
+unfolding firstHeaderOf firstBy
+first-accepted s f e = go (judge (firstRules s)) refl e
+  where
+    go : (v : Verdict) → judge (firstRules s) ≡ v → firstBy v s ≡ first.Header f → Opened s f
+    go Fits j q =
+        let k = fits-kept (firstRules s) j in
+        let same : record { message = messageAt s; «information_length» = declaredAt s } ≡ f = cc in
+        rw (← same) (record {
+          message = refl;
+          declared = refl;
+          long = ltb-false _ _ (k .0);
+          small = ltb-false _ _ (k .1 .1 .0);
+          amount = k .1 .1 .1 .0;
+        })
+    go (Fault r) j q = let z : _≡_ {A = ℕ} 0 1 = cc in absurd (omega arith)
+
+-- a first header that keeps the rules is accepted
+pub accepted-first : (s : List ℕ) → firstLength (u32At s 0) ≤ length s → wrongWord (messageAt s) ≡ false → declaredAt s ≤ mostInformation
+    → wrongAmount (eqb (u32At s 12) 1) (carriedBy s) (declaredAt s) ≡ false
+    → firstHeaderOf s ≡ first.Header (record { message = messageAt s; «information_length» = declaredAt s })
+unfolding firstHeaderOf firstBy
+accepted-first s long word small amount = rw (kept-fits (firstRules s) (le-ltb _ _ long, (word, (le-ltb _ _ small, (amount, tt)))))

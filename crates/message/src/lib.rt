@@ -1,0 +1,227 @@
+// Headers of messages, judged by themselves: of a whole message, of one fragment, and what only a
+// first fragment has. No fragment is put together here, and no payload is looked at.
+use protocol::MOST_INFORMATION;
+use protocol::OUTSIDE_TABLE;
+use protocol::Refusal;
+use protocol::TOO_LONG;
+use protocol::TOO_SHORT;
+use protocol::UNKNOWN;
+use protocol::Verdict;
+use protocol::WRONG_FRAGMENT;
+use protocol::WRONG_LENGTH;
+use protocol::WRONG_TRANSFER_SIZE;
+use protocol::also;
+use protocol::message_type::CLOSE;
+use protocol::message_type::COMMAND;
+use protocol::message_type::INDICATE_STATUS;
+use protocol::message_type::is_fragmented;
+use protocol::message_type::is_whole;
+use protocol::service::ServiceId;
+use protocol::service::id_at;
+use wire::u32_at;
+ghost use mathlib.Core.Path.{_≡_};
+ghost use Prim.Native.Nat.{_+_, _-_};
+ghost use Rattle.message.specs.Message.{wholeLength, wholeOf, lengthPlace, wrongTotal, fragmentOf, wordAt, messageAt, wrongWord, wrongAmount, firstHeaderOf};
+
+// The most bytes of a fragment.
+pub const MOST_TRANSFER: usize = 4096;
+
+// What a whole message's header says.
+pub enum Whole {
+    Message { message_type: u32, transaction: u32 },
+    Refused(Refusal),
+}
+
+// What every fragment's header says.
+pub struct FragmentHeader {
+    pub message_type: u32,
+    pub transaction: u32,
+    pub total: u32,
+    pub number: u32,
+}
+
+pub enum Fragment {
+    Header(FragmentHeader),
+    Refused(Refusal),
+}
+
+// A fragmented message without its information. The word is a command's type or a reply's status;
+// an indication has none and shows 0.
+pub struct MessageHeader {
+    pub message_type: u32,
+    pub transaction: u32,
+    pub service: ServiceId,
+    pub cid: u32,
+    pub word: u32,
+}
+
+// What a first fragment's header says: the message, and how much information it declares.
+pub struct FirstHeader {
+    pub message: MessageHeader,
+    pub information_length: u32,
+}
+
+pub enum First {
+    Header(FirstHeader),
+    Refused(Refusal),
+}
+
+pub fn judge_whole(s: &[u8]) -> Whole
+    ensures { λ r. ⌜ r ≡ wholeOf (now (s .entry)) ⌝ }
+{
+    let n = s.len();
+    let message_type = u32_at(s, 0);
+    let short = also(Verdict::Fits, n < 12, TOO_SHORT, n);
+    let length = also(short, u32_at(s, 4) as usize != n, WRONG_LENGTH, 4);
+    let known = also(length, !is_whole(message_type), UNKNOWN, 0);
+    let exact = also(known, whole_length(message_type) != n, WRONG_LENGTH, 4);
+    match exact {
+        Verdict::Fits => Whole::Message {
+            message_type,
+            transaction: u32_at(s, 8),
+        },
+        Verdict::Fault(refusal) => Whole::Refused(refusal),
+    }
+}
+
+// The length is judged first, so that the reads after it need no test of their own.
+pub fn judge_fragment(s: &[u8]) -> Fragment
+    ensures { λ r. ⌜ r ≡ fragmentOf (now (s .entry)) ⌝ }
+{
+    let n = s.len();
+    if n < 20 {
+        return Fragment::Refused(Refusal {
+            number: TOO_SHORT,
+            place: n,
+        });
+    }
+    let message_type = u32_at(s, 0);
+    let total = u32_at(s, 12);
+    let number = u32_at(s, 16);
+    let length = also(Verdict::Fits, u32_at(s, 4) as usize != n, WRONG_LENGTH, 4);
+    let size = also(length, MOST_TRANSFER < n, WRONG_TRANSFER_SIZE, 4);
+    let known = also(size, !is_fragmented(message_type), UNKNOWN, 0);
+    let counted = also(known, is_wrong_total(total), WRONG_FRAGMENT, 12);
+    let numbered = also(counted, total <= number, WRONG_FRAGMENT, 16);
+    match numbered {
+        Verdict::Fits => Fragment::Header(FragmentHeader {
+            message_type,
+            transaction: u32_at(s, 8),
+            total,
+            number,
+        }),
+        Verdict::Fault(refusal) => Fragment::Refused(refusal),
+    }
+}
+
+// Judges what a first fragment has beside the header of every fragment.
+pub fn judge_first(s: &[u8]) -> First
+    ensures { λ r. ⌜ r ≡ firstHeaderOf (now (s .entry)) ⌝ }
+{
+    let n = s.len();
+    let message = message_at(s);
+    let place = length_place(message.message_type);
+    let information_length = u32_at(s, place);
+    let declared = information_length as usize;
+    let carried = minus(n, place + 4);
+    let alone = u32_at(s, 12) == 1;
+    let short = also(Verdict::Fits, n < place + 4, TOO_SHORT, n);
+    let word = also(short, is_wrong_word(message), OUTSIDE_TABLE, 40);
+    let long = also(word, MOST_INFORMATION < declared, TOO_LONG, place);
+    let amount = also(
+        long,
+        is_wrong_amount(alone, carried, declared),
+        WRONG_LENGTH,
+        place,
+    );
+    match amount {
+        Verdict::Fits => First::Header(FirstHeader {
+            message,
+            information_length,
+        }),
+        Verdict::Fault(refusal) => First::Refused(refusal),
+    }
+}
+
+// Where a first fragment has its information length; the information follows it.
+pub fn length_place(message_type: u32) -> usize
+    ensures { λ r. ⌜ r ≡ lengthPlace «message_type» ⌝ }
+{
+    if message_type == INDICATE_STATUS {
+        return 40;
+    }
+    44
+}
+
+// Whether a command's type is outside its table.
+pub fn is_wrong_word(message: MessageHeader) -> bool
+    ensures { λ r. ⌜ r ≡ wrongWord message ⌝ }
+{
+    if message.message_type == COMMAND {
+        return 1 < message.word;
+    }
+    false
+}
+
+// Whether so much information is gathered that the message cannot have it.
+pub fn is_wrong_amount(last: bool, gathered: usize, declared: usize) -> bool
+    ensures { λ r. ⌜ r ≡ wrongAmount last gathered declared ⌝ }
+{
+    if declared < gathered {
+        return true;
+    }
+    if last {
+        return gathered != declared;
+    }
+    false
+}
+
+fn whole_length(message_type: u32) -> usize
+    ensures { λ r. ⌜ r ≡ wholeLength «message_type» ⌝ }
+{
+    if message_type == CLOSE {
+        return 12;
+    }
+    16
+}
+
+fn is_wrong_total(total: u32) -> bool
+    ensures { λ r. ⌜ r ≡ wrongTotal total ⌝ }
+{
+    if total == 0 {
+        return true;
+    }
+    128 < total
+}
+
+fn word_at(message_type: u32, s: &[u8]) -> u32
+    ensures { λ r. ⌜ r ≡ wordAt «message_type» (now (s .entry)) ⌝ }
+{
+    if message_type == INDICATE_STATUS {
+        return 0;
+    }
+    u32_at(s, 40)
+}
+
+fn message_at(s: &[u8]) -> MessageHeader
+    ensures { λ r. ⌜ r ≡ messageAt (now (s .entry)) ⌝ }
+{
+    let message_type = u32_at(s, 0);
+    let service = id_at(s, 20);
+    MessageHeader {
+        message_type,
+        transaction: u32_at(s, 8),
+        service,
+        cid: u32_at(s, 36),
+        word: word_at(message_type, s),
+    }
+}
+
+fn minus(a: usize, b: usize) -> usize
+    ensures { λ r. ⌜ r ≡ a - b ⌝ }
+{
+    if a < b {
+        return 0;
+    }
+    a - b
+}

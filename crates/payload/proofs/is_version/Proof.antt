@@ -1,0 +1,28 @@
+-- By the kinds.
+use borrow.Author.Needs.{needs}
+use Rattle.payload.specs.Payload.{isVersion}
+use Rattle.payload.proofs.is_version.Statement.{statement}
+use Rattle.payload.proofs.is_version.Tie as tie
+
+returns : tie.Need-returns
+unfolding isVersion
+returns c = rw (c .enum-told .given .1)
+
+returns-2 : tie.Need-returns-2
+unfolding isVersion
+returns-2 c = rw (c .enum-told2 .given .1)
+
+returns-3 : tie.Need-returns-3
+unfolding isVersion
+returns-3 c = rw (c .enum-told3 .given .1)
+
+returns-4 : tie.Need-returns-4
+unfolding isVersion
+returns-4 c = rw (c .enum-told4 .given .1)
+
+returns-5 : tie.Need-returns-5
+unfolding isVersion
+returns-5 c = rw (c .enum-told5 .given .1)
+
+pub is-version-spec : {M : Type 1} → statement M
+is-version-spec = tie.close (tie.spec (λ c. search needs) (λ c. search needs) (λ c. search needs) (λ c. search needs) (λ c. search needs) returns returns-2 returns-3 returns-4 returns-5)
