@@ -1,14 +1,18 @@
 -- Every case of the list holds: each side computes to the other.
 -- Assumes nothing.
 use mathlib.Core.Path.{refl}
+use lib.Ieee.{odd, ofBits}
 use Rattle.wire.specs.Numbers.{u16At, u32At, u64At}
-use Rattle.wire.specs.Runs.{over}
-use Rattle.protocol.specs.Verdict.{faultIf, firstOf, judgeFrom, exactLength, given, withRoom, writing}
-use Rattle.protocol.specs.DataClass.{classBits, isBit}
+use Rattle.wire.specs.Runs.{over, fitted}
+use Rattle.protocol.specs.Verdict.{faultIf, firstOf, judgeFrom, exactLength, openLength, given, withRoom, writing}
+use Rattle.protocol.specs.DataClass.{classBits, sumOfBits, maskOf, isBit}
 use Rattle.packet_service.specs.PacketService.{recordAt as packetAt, laterRules, formRules, rules as packetRules, verdictOf as packetVerdict, readOf as packetRead}
 use Rattle.version_info.specs.VersionInfo.{recordAt as versionAt, rules as versionRules, verdictOf as versionVerdict, readOf as versionRead, bytesOf as versionBytes, writeOf as versionWrite}
+use Rattle.pairs.specs.Pair.{rangeAt, rules as pairRules, verdictOf as pairVerdict, rangeBytes}
+use Rattle.registration.specs.Registration.{recordAt as registrationAt, textsAt, frontRules, textsVerdict, backRules, readOf as registrationRead, sizeRules, writtenVerdict, laidTexts, frontBytes, textsBytes, backBytes, fixedBytes, bytesOf as registrationBytes, writeOf as registrationWrite}
+use Rattle.signal_quality.specs.Decibels.{exactly, coded, rsrpOf, snrOf}
 use Rattle.cases.specs.Cases.{AllHold, cases}
 
 pub as-worked : AllHold cases
-unfolding cases u16At u32At u64At over faultIf firstOf judgeFrom exactLength given withRoom writing classBits isBit packetAt laterRules formRules packetRules packetVerdict packetRead versionAt versionRules versionVerdict versionRead versionBytes versionWrite
-as-worked = (refl, (refl, (refl, (refl, (refl, (refl, (refl, tt)))))))
+unfolding cases odd ofBits u16At u32At u64At over fitted faultIf firstOf judgeFrom exactLength openLength given withRoom writing classBits sumOfBits maskOf isBit packetAt laterRules formRules packetRules packetVerdict packetRead versionAt versionRules versionVerdict versionRead versionBytes versionWrite rangeAt pairRules pairVerdict rangeBytes registrationAt textsAt frontRules textsVerdict backRules registrationRead sizeRules writtenVerdict laidTexts frontBytes textsBytes backBytes fixedBytes registrationBytes registrationWrite exactly coded rsrpOf snrOf
+as-worked = (refl, (refl, (refl, (refl, (refl, (refl, (refl, (refl, (refl, (refl, (refl, (refl, (refl, (refl, (refl, (refl, (refl, (refl, (refl, (refl, tt))))))))))))))))))))

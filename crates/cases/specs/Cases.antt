@@ -4,8 +4,11 @@ use Prim.Native.Nat.{ℕ}
 use mathlib.Core.Path.{_≡_}
 use mathlib.Core.List.{List, [], _∷_}
 use lib.ListN.{replicate}
-use Rattle.protocol.specs.Refusal.{refusal, tooShort, wrongLength}
+use lib.Ieee.{binary32, ofBits}
+use Rattle.protocol.specs.Refusal.{refusal, tooShort, wrongLength, wrongOffset, pastEnd, outsideTable}
 use Rattle.protocol.specs.Verdict.{Writing}
+use Rattle.protocol.specs.declared.Verdict.{Verdict}
+use Rattle.protocol.specs.declared.Verdict.the-variants.{Fault}
 use Rattle.protocol.specs.declared.Version.{Version}
 use Rattle.protocol.specs.declared.Version.the-variants.{V1, V2}
 use Rattle.protocol.specs.declared.Written.the-variants.{Length}
@@ -14,6 +17,19 @@ use Rattle.packet_service.specs.declared.PacketForm.the-variants.{V2 as Form2}
 use Rattle.packet_service.specs.declared.PacketService.{PacketService}
 use Rattle.packet_service.specs.declared.PacketServiceRead.{PacketServiceRead}
 use Rattle.packet_service.specs.declared.PacketServiceRead.the-variants.{Info as PacketInfo, Refused as PacketRefused}
+use Rattle.pairs.specs.Pair.{range, verdictOf}
+use Rattle.pairs.specs.declared.Range.{Range}
+use Rattle.pairs.specs.declared.PairKind.the-variants.{Text}
+use Rattle.registration.specs.Registration.{texts, readOf as registrationRead, bytesOf as registrationBytes, writeOf as registrationWrite}
+use Rattle.registration.specs.declared.RegistrationForm.{RegistrationForm}
+use Rattle.registration.specs.declared.RegistrationForm.the-variants.{V1 as RegistrationForm1, V2 as RegistrationForm2}
+use Rattle.registration.specs.declared.Registration.{Registration}
+use Rattle.registration.specs.declared.RegistrationRead.{RegistrationRead}
+use Rattle.registration.specs.declared.RegistrationRead.the-variants.{Info as RegistrationInfo, Refused as RegistrationRefused}
+use Rattle.signal_quality.specs.Decibels.{rsrpOf, snrOf}
+use Rattle.signal_quality.specs.declared.Reading.the-variants.{Dbm, Db}
+use Rattle.signal_quality.specs.declared.ReadingRead.{ReadingRead}
+use Rattle.signal_quality.specs.declared.ReadingRead.the-variants.{Info as Read}
 use Rattle.version_info.specs.VersionInfo.{readOf as versionRead, writeOf as versionWrite}
 use Rattle.version_info.specs.declared.VersionInfo.{VersionInfo}
 use Rattle.version_info.specs.declared.VersionInfoRead.{VersionInfoRead}
@@ -28,11 +44,25 @@ pub data Case : Type 0 where
   versionShown : List ℕ → VersionInfoRead → Case
   -- the PACKET_SERVICE reader of a version answers
   packetShown : Version → List ℕ → PacketServiceRead → Case
+  -- the REGISTER_STATE writer, given a record with a ProviderId and no other text, leaves in an output of so many zeros
+  registrationWritten : Registration → List ℕ → ℕ → Writing → Case
+  -- the REGISTER_STATE reader of a version answers
+  registrationShown : Version → List ℕ → RegistrationRead → Case
+  -- the pair of a text, by fixed part, limit, place and payload length, is judged
+  pairJudged : ℕ → ℕ → ℕ → ℕ → Range → Verdict → Case
+  -- a code is read
+  rsrpRead : ℕ → ReadingRead → Case
+  snrRead : ℕ → ReadingRead → Case
 
 abbrev pub Holds : Case → Type 0
 Holds (versionWritten i s w) = versionWrite i s ≡ w
 Holds (versionShown s a) = versionRead s ≡ a
 Holds (packetShown v s a) = packetRead v s ≡ a
+Holds (registrationWritten p id n w) = registrationWrite p id [] [] (replicate n 0) ≡ w
+Holds (registrationShown v s a) = registrationRead v s ≡ a
+Holds (pairJudged fixed limit place n p v) = verdictOf Text fixed limit place n p ≡ v
+Holds (rsrpRead c r) = rsrpOf c ≡ r
+Holds (snrRead c r) = snrOf c ≡ r
 
 abbrev pub AllHold : List Case → Type 0
 AllHold [] = Unit
@@ -64,6 +94,34 @@ attached = record {
   form = Form2 0x40 1;
 }
 
+-- "00101" in UTF-16
+abbrev pub providerId : List ℕ
+providerId = 0x30 ∷ 0x00 ∷ 0x30 ∷ 0x00 ∷ 0x31 ∷ 0x00 ∷ 0x30 ∷ 0x00 ∷ 0x31 ∷ 0x00 ∷ []
+
+-- state 3 with an AvailableDataClass
+abbrev pub home : RegistrationForm → ℕ → Registration
+home form class = record {
+  «nw_error» = 0;
+  «register_state» = 3;
+  «register_mode» = 1;
+  «available_data_class» = class;
+  «cellular_class» = 1;
+  «registration_flag» = 0;
+  form = form;
+}
+
+abbrev pub homeBytes : RegistrationForm → ℕ → List ℕ
+homeBytes form class = registrationBytes (home form class) providerId [] []
+
+-- offset 52, size 10, length 64
+abbrev pub homeWritten : List ℕ
+homeWritten =
+    0x00 ∷ 0x00 ∷ 0x00 ∷ 0x00 ∷ 0x03 ∷ 0x00 ∷ 0x00 ∷ 0x00 ∷ 0x01 ∷ 0x00 ∷ 0x00 ∷ 0x00 ∷ 0x20 ∷ 0x00 ∷ 0x00 ∷ 0x00 ∷ 0x01 ∷ 0x00 ∷ 0x00 ∷ 0x00
+    ∷ 52 ∷ 0x00 ∷ 0x00 ∷ 0x00 ∷ 10 ∷ 0x00 ∷ 0x00 ∷ 0x00
+    ∷ 0x00 ∷ 0x00 ∷ 0x00 ∷ 0x00 ∷ 0x00 ∷ 0x00 ∷ 0x00 ∷ 0x00 ∷ 0x00 ∷ 0x00 ∷ 0x00 ∷ 0x00 ∷ 0x00 ∷ 0x00 ∷ 0x00 ∷ 0x00
+    ∷ 0x00 ∷ 0x00 ∷ 0x00 ∷ 0x00 ∷ 0x00 ∷ 0x00 ∷ 0x00 ∷ 0x00
+    ∷ 0x30 ∷ 0x00 ∷ 0x30 ∷ 0x00 ∷ 0x31 ∷ 0x00 ∷ 0x30 ∷ 0x00 ∷ 0x31 ∷ 0x00 ∷ 0x00 ∷ 0x00 ∷ []
+
 -- ---- the cases
 
 unfoldable pub cases : List Case
@@ -72,7 +130,21 @@ cases =
     ∷ versionShown latestBytes (VersionGiven latest)
     ∷ packetShown V2 attachedBytes (PacketInfo attached)
     ∷ packetShown V1 attachedBytes (PacketRefused (refusal wrongLength 32))
+    ∷ registrationWritten (home (RegistrationForm2 0) 0x20) providerId 64 (record { answer = Length 64; output = homeWritten })
+    ∷ registrationShown V1 (homeBytes (RegistrationForm2 0) 0x20) (RegistrationInfo (home RegistrationForm1 0x20) (texts (range 52 10) (range 0 0) (range 0 0)))
+    ∷ registrationShown V1 (homeBytes (RegistrationForm2 0) 0x60) (RegistrationRefused (refusal outsideTable 12))
+    ∷ registrationWritten (home RegistrationForm1 0x20) providerId 60 (record { answer = Length 60; output = homeBytes RegistrationForm1 0x20 })
+    ∷ registrationShown V2 (homeBytes RegistrationForm1 0x20) (RegistrationRefused (refusal wrongOffset 20))
+    ∷ pairJudged 52 12 20 64 (range 0xFFFFFFFC 8) (Fault (refusal pastEnd 20))
+    ∷ pairJudged 52 12 20 64 (range 52 0) (Fault (refusal wrongOffset 20))
     ∷ versionShown [] (VersionRefused (refusal tooShort 0))
     ∷ packetShown V1 [] (PacketRefused (refusal tooShort 0))
     ∷ packetShown V2 [] (PacketRefused (refusal tooShort 0))
+    ∷ registrationShown V1 [] (RegistrationRefused (refusal tooShort 0))
+    ∷ registrationShown V2 [] (RegistrationRefused (refusal tooShort 0))
+    -- −156 and −31 dBm, −23 and 40 dB, by their bit patterns
+    ∷ rsrpRead 1 (Read (Dbm (ofBits binary32 0xC31C0000)))
+    ∷ rsrpRead 126 (Read (Dbm (ofBits binary32 0xC1F80000)))
+    ∷ snrRead 1 (Read (Db (ofBits binary32 0xC1B80000)))
+    ∷ snrRead 127 (Read (Db (ofBits binary32 0x42200000)))
     ∷ []
