@@ -24,7 +24,7 @@ within fixed s p (inl a) = omega (arith, a .nowhere, a .empty)
 within fixed s p (inr i) = i .within
 
 listable : (fixed limit : ℕ) (s : List ℕ) (p : Range) → limit ≤ 126 → PairFits Text fixed limit (length s) p → Listable p s
-listable fixed limit s p l f = record { within = within fixed s p (f .safe); short = omega (arith, f .small) }
+listable fixed limit s p l f = record { within = within fixed s p (f .safe); short = omega (arith, f .size .small) }
 
 pub listable-texts : (v : Version) (s : List ℕ) (p : Registration) (t : RegistrationTexts) → readOf v s ≡ Info p t → ListableTexts t s
 unfolding textsAt
