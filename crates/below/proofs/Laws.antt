@@ -101,6 +101,24 @@ unfolding firstIndex anyOf
 index-none t zero e = refl
 index-none t (suc n) e = let k = or-none (anyOf t n) (t n) e in rw (k .0, k .1)
 
+-- what is found after the tests below i: nothing, which n stands for, or the first
+abbrev pub Sought : (ℕ → Bool) → ℕ → ℕ → ℕ → Type 0
+Sought t n i found = ((found ≡ n) × (anyOf t i ≡ false)) ⊎ ((found < i) × (firstIndex t n ≡ found))
+
+pub sought-hit : (t : ℕ → Bool) (n i found : ℕ) → i ≤ n → Sought t n i found → i < found → t i ≡ true → Sought t n (i + 1) i
+sought-hit t n i found l (inl k) h e = inr (omega arith, index-at t n i (k .1) (omega (arith, k .0)) e)
+sought-hit t n i found l (inr k) h e = absurd (omega (arith, k .0))
+
+pub sought-miss : (t : ℕ → Bool) (n i found : ℕ) → Sought t n i found → i < found → t i ≡ false → Sought t n (i + 1) found
+sought-miss t n i found (inl k) h e = inl (k .0, none-next t i (k .1) e)
+sought-miss t n i found (inr k) h e = absurd (omega (arith, k .0))
+
+pub sought-end : (t : ℕ → Bool) (n i found : ℕ) → i ≤ n → Sought t n i found → found ≤ i → found ≡ firstIndex t n
+sought-end t n i found l (inl k) h =
+    let e : i ≡ n = omega (arith, k .0) in
+    k .0 ∙ sym (index-none t n (ap (anyOf t) (sym e) ∙ k .1))
+sought-end t n i found l (inr k) h = sym (k .1)
+
 -- two tests that agree on each have one first
 pub index-same : (t u : ℕ → Bool) (n : ℕ) → ((i : ℕ) → i < n → t i ≡ u i) → firstIndex t n ≡ firstIndex u n
 unfolding firstIndex
