@@ -17,7 +17,7 @@ use wire::u32_at;
 ghost use mathlib.Core.Path.{_≡_};
 ghost use Rattle.below.specs.Below.{firstFault};
 ghost use Rattle.protocol.specs.Verdict.{judge};
-ghost use Rattle.device_services.specs.DeviceServices.{pairPlace, headAt, offsetOf, elementAt, cidAt, lengthVerdict, contentRules, elementVerdict, verdictOf, readOf};
+ghost use Rattle.device_services.specs.DeviceServices.{countOf, headAt, pairPlace, offsetOf, cidCountAt, elementAt, cidAt, lengthVerdict, contentRules, elementVerdict, verdictOf, readOf};
 
 // What stands before the pairs.
 pub struct DeviceServices {
@@ -80,7 +80,7 @@ pub fn read(payload: &[u8]) -> DeviceServicesRead
 pub fn judge_list(payload: &[u8]) -> Verdict
     ensures { λ r. ⌜ r ≡ verdictOf (now (payload .entry)) ⌝ }
 {
-    let count = u32_at(payload, COUNT);
+    let count = count_of(payload);
     match judge_length(payload.len(), count) {
         Verdict::Fits => judge_elements(payload, PAIRS + PAIR_SIZE * count, count),
         Verdict::Fault(refusal) => Verdict::Fault(refusal),
@@ -110,7 +110,7 @@ pub fn judge_content(payload: &[u8], place: usize, pair: Range) -> Verdict
 {
     let size = pair.length;
     let count_place = pair.start as usize + CID_COUNT;
-    let count = u32_at(payload, count_place);
+    let count = cid_count_at(payload, pair.start);
     let whole = also(Verdict::Fits, size < ELEMENT_FIXED_PART, WRONG_SIZE, place);
     let counted = also(whole, MOST_CIDS < count, WRONG_COUNT, count_place);
     also(
@@ -125,9 +125,15 @@ pub fn head_at(payload: &[u8]) -> DeviceServices
     ensures { λ r. ⌜ r ≡ headAt (now (payload .entry)) ⌝ }
 {
     DeviceServices {
-        device_services_count: u32_at(payload, COUNT),
+        device_services_count: count_of(payload),
         max_dss_sessions: u32_at(payload, MAX_DSS_SESSIONS),
     }
+}
+
+pub fn count_of(payload: &[u8]) -> u32
+    ensures { λ r. ⌜ r ≡ countOf (now (payload .entry)) ⌝ }
+{
+    u32_at(payload, COUNT)
 }
 
 // Where an element of the list starts.
@@ -147,8 +153,14 @@ pub fn element_at(payload: &[u8], offset: u32) -> DeviceService
         device_service_id,
         dss_payload: u32_at(payload, at + DSS_PAYLOAD),
         max_dss_instances: u32_at(payload, at + MAX_DSS_INSTANCES),
-        cid_count: u32_at(payload, at + CID_COUNT),
+        cid_count: cid_count_at(payload, offset),
     }
+}
+
+pub fn cid_count_at(payload: &[u8], offset: u32) -> u32
+    ensures { λ r. ⌜ r ≡ cidCountAt (now (payload .entry)) offset ⌝ }
+{
+    u32_at(payload, offset as usize + CID_COUNT)
 }
 
 // A CID of the element that starts at an offset, by its number.
