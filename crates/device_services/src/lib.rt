@@ -48,23 +48,22 @@ pub const ELEMENT_FIXED_PART: u32 = 28;
 
 pub const ELEMENT_LIMIT: u32 = 540;
 
-const COUNT: usize = 0;
-
-const MAX_DSS_SESSIONS: usize = 4;
-
 // The fixed part of a list without elements; the pairs follow it.
 const PAIRS: u32 = 8;
 
 const PAIR_SIZE: u32 = 8;
 
-// Places in an element.
-const DSS_PAYLOAD: usize = 16;
+// Places in the payload.
+pub const DEVICE_SERVICES_COUNT: usize = 0;
 
-const MAX_DSS_INSTANCES: usize = 20;
+pub const MAX_DSS_SESSIONS: usize = 4;
 
-const CID_COUNT: usize = 24;
+// Places in an element; its CIDs follow its fixed part.
+pub const DSS_PAYLOAD: usize = 16;
 
-const CIDS: usize = 28;
+pub const MAX_DSS_INSTANCES: usize = 20;
+
+pub const CID_COUNT: usize = 24;
 
 pub fn read(payload: &[u8]) -> DeviceServicesRead
     ensures { λ r. ⌜ r ≡ readOf (now (payload .entry)) ⌝ }
@@ -115,7 +114,7 @@ pub fn judge_content(payload: &[u8], place: usize, pair: Range) -> Verdict
     let counted = also(whole, MOST_CIDS < count, WRONG_COUNT, count_place);
     also(
         counted,
-        size as usize != CIDS + 4 * count as usize,
+        size as usize != ELEMENT_FIXED_PART as usize + 4 * count as usize,
         WRONG_SIZE,
         place,
     )
@@ -133,7 +132,7 @@ pub fn head_at(payload: &[u8]) -> DeviceServices
 pub fn count_of(payload: &[u8]) -> u32
     ensures { λ r. ⌜ r ≡ countOf (now (payload .entry)) ⌝ }
 {
-    u32_at(payload, COUNT)
+    u32_at(payload, DEVICE_SERVICES_COUNT)
 }
 
 // Where an element of the list starts.
@@ -167,7 +166,8 @@ pub fn cid_count_at(payload: &[u8], offset: u32) -> u32
 pub fn cid_at(payload: &[u8], offset: u32, number: u32) -> u32
     ensures { λ r. ⌜ r ≡ cidAt (now (payload .entry)) offset number ⌝ }
 {
-    u32_at(payload, offset as usize + CIDS + 4 * number as usize)
+    let first = offset as usize + ELEMENT_FIXED_PART as usize;
+    u32_at(payload, first + 4 * number as usize)
 }
 
 // Where the pair of an element stands.
@@ -182,7 +182,12 @@ fn judge_length(n: usize, count: u32) -> Verdict
     ensures { λ r. ⌜ r ≡ lengthVerdict n count ⌝ }
 {
     let begun = also(Verdict::Fits, n < PAIRS as usize, TOO_SHORT, n);
-    let counted = also(begun, MOST_SERVICES < count, WRONG_COUNT, COUNT);
+    let counted = also(
+        begun,
+        MOST_SERVICES < count,
+        WRONG_COUNT,
+        DEVICE_SERVICES_COUNT,
+    );
     let whole = judge_open_length(pair_place(count), n);
     first(counted, whole)
 }

@@ -10,4 +10,4 @@ unfolding contentRules judgeFrom
 returns c = simp (c .also3 .ensures, c .before .also2 .ensures, c .before .before .also .ensures, c .before .before .before .cid-count-at .ensures)
 
 pub judge-content-spec : {M : Type 1} → statement M
-judge-content-spec = tie.close (tie.spec (λ c. search needs) (λ c. search needs) (λ c. search needs) (λ c. search needs) (λ c. search needs) (λ c. search needs) (λ c. search needs) (λ c. search needs) (λ c. search needs) (λ c. search needs) returns)
+judge-content-spec = tie.close (tie.spec (λ c. search needs) (λ c. search needs) (λ c. search needs) (λ c. search needs) (λ c. search needs) (λ c. search needs) (λ c. search needs) (λ c. search needs) (λ c. search needs) (λ c. search needs) (λ c. search needs) returns)
