@@ -45,7 +45,7 @@ module _ (s : List ℕ) (fixed i : ℕ) where
       let some : cidCountAt s (p .start) ≤ 128 = f .few in
       let size : p .length ≡ 28 + 4 * cidCountAt s (p .start) = f .size in
       let there : Inside fixed (length s) p = record { some = omega arith; behind = f .behind; aligned = f .aligned; within = f .within } in
-      let pair : PairFits ListKind fixed 540 (length s) p = record { small = omega arith; even = tt; safe = inr there } in
+      let pair : PairFits ListKind fixed 540 (length s) p = record { size = record { small = omega arith; even = tt }; safe = inr there } in
       kept-then (pairVerdict ListKind fixed 540 (pairPlace i) (length s) p) (contentRules s (pairPlace i) p)
       (said-fits ListKind fixed 540 (pairPlace i) (length s) p pair)
       (le-ltb (p .length) 28 (omega arith), (le-ltb 128 _ some, (kept-equal _ _ size, tt)))

@@ -14,7 +14,7 @@ struct Answered {
 
 fn main() {
     let mut line = [0u8; 16640];
-    let mut out = [0u8; 131072];
+    let mut out = [0u8; 524288];
     let have = answer_all(&mut line, &mut out);
     if 0 < have {
         answer(&line, have, &mut out);
@@ -23,7 +23,7 @@ fn main() {
 
 // A proved loop has to end, and nothing says that an input does: the loop counts its turns down
 // from a number that no run uses up.
-fn answer_all(line: &mut [u8; 16640], out: &mut [u8; 131072]) -> usize
+fn answer_all(line: &mut [u8; 16640], out: &mut [u8; 524288]) -> usize
     ensures { λ r. ⌜ r ≤ 16640 ⌝ }
 {
     let mut chunk = io::large_buffer();
@@ -45,7 +45,7 @@ fn answer_some(
     chunk: &mut [u8; 65536],
     line: &mut [u8; 16640],
     kept: usize,
-    out: &mut [u8; 131072],
+    out: &mut [u8; 524288],
 ) -> Answered
     requires { ⌜ kept ≤ 16640 ⌝ }
     ensures { λ r. ⌜ r .have ≤ 16640 ⌝ }
@@ -67,7 +67,7 @@ fn answer_chunk(
     chunk: &[u8],
     line: &mut [u8; 16640],
     kept: usize,
-    out: &mut [u8; 131072],
+    out: &mut [u8; 524288],
 ) -> Answered
     requires { ⌜ kept ≤ 16640 ⌝ }
     ensures { λ r. ⌜ r .have ≤ 16640 ⌝ }
@@ -94,7 +94,7 @@ fn answer_chunk(
     }
 }
 
-fn answer(line: &[u8; 16640], have: usize, out: &mut [u8; 131072]) -> bool
+fn answer(line: &[u8; 16640], have: usize, out: &mut [u8; 524288]) -> bool
     requires { ⌜ have ≤ 16640 ⌝ }
 {
     let all = &line[..];

@@ -14,7 +14,7 @@ use Rattle.protocol.specs.declared.Version.{Version}
 use Rattle.listing.specs.Request.{WordRow, alsoWord, reachFrom, kindWords, versionWords, kindOf, kindLength, versionOf, digitsAt, payloadAt, byVersion, byKind, requestOf}
 use Rattle.listing.specs.Listing.{payloadText, spelledText, requestText, lineText}
 use Rattle.listing.specs.declared.request.ListingKind.{ListingKind}
-use Rattle.listing.specs.declared.request.ListingKind.the-variants.{PacketService, Version as VersionKind, Registration, SignalState}
+use Rattle.listing.specs.declared.request.ListingKind.the-variants.{PacketService, Version as VersionKind, Registration, SignalState, DeviceServices}
 use Rattle.listing.specs.declared.request.Request.{Request}
 use Rattle.listing.specs.declared.request.Request.the-variants.{Payload, BadLine}
 use Rattle.listing.specs.declared.request.Reached.{Reached}
@@ -77,29 +77,30 @@ version-cut : (kind : ListingKind) (at n : ℕ) (s : List ℕ) (r : Reached) →
 version-cut kind at n s (Column c) h l = refl
 version-cut kind at n s (Word w) h l = payload-cut (at + 5) n s kind (versionOf w) (omega arith) l
 
-after-kind : (kind : ListingKind) (n : ℕ) (s : List ℕ) → 16406 ≤ n → n ≤ length s
+after-kind : (kind : ListingKind) (n : ℕ) (s : List ℕ) → 16407 ≤ n → n ≤ length s
     → byVersion (take n s) kind (kindLength kind) (reachFrom (Column (kindLength kind)) (take n s) (kindLength kind) versionWords)
     ≡ byVersion s kind (kindLength kind) (reachFrom (Column (kindLength kind)) s (kindLength kind) versionWords)
 after-kind kind n s h l =
     let at = kindLength kind in
-    let k : at ≤ 15 = short kind in
+    let k : at ≤ 16 = short kind in
     ap (byVersion (take n s) kind at) (reach-cut versionWords (Column at) at n s (omega arith, (omega arith, tt)))
     ∙ version-cut kind at n s (reachFrom (Column at) s at versionWords) (omega arith) l
   where
-    short : (x : ListingKind) → kindLength x ≤ 15
+    short : (x : ListingKind) → kindLength x ≤ 16
     short PacketService = omega arith
     short VersionKind = omega arith
     short Registration = omega arith
     short SignalState = omega arith
+    short DeviceServices = omega arith
 
-kind-cut : (n : ℕ) (s : List ℕ) (r : Reached) → 16406 ≤ n → n ≤ length s → byKind (take n s) r ≡ byKind s r
+kind-cut : (n : ℕ) (s : List ℕ) (r : Reached) → 16407 ≤ n → n ≤ length s → byKind (take n s) r ≡ byKind s r
 kind-cut n s (Column c) h l = refl
 kind-cut n s (Word w) h l = after-kind (kindOf w) n s h l
 
-request-cut : (n : ℕ) (s : List ℕ) → 16406 ≤ n → n ≤ length s → requestOf (take n s) ≡ requestOf s
+request-cut : (n : ℕ) (s : List ℕ) → 16407 ≤ n → n ≤ length s → requestOf (take n s) ≡ requestOf s
 unfolding requestOf
 request-cut n s h l =
-    ap (byKind (take n s)) (reach-cut kindWords (Column 0) 0 n s (omega arith, (omega arith, (omega arith, (omega arith, tt))))) ∙ kind-cut n s (reachFrom (Column 0) s 0 kindWords) h l
+    ap (byKind (take n s)) (reach-cut kindWords (Column 0) 0 n s (omega arith, (omega arith, (omega arith, (omega arith, (omega arith, tt)))))) ∙ kind-cut n s (reachFrom (Column 0) s 0 kindWords) h l
 
 -- ---- the listing
 
@@ -110,8 +111,8 @@ text-cut n s (Payload k v f m) e =
     let w = within (take n s) k v f m e in
     ap (λ (x : List ℕ). payloadText k v (unhexed (m / 2) x)) (part-front f m n s (omega (arith, w .0, length-take n s)))
 
--- a line and its front of at least 16,406 bytes have the same listing
-pub line-cut : (n : ℕ) (s : List ℕ) → 16406 ≤ n → lineText (take n s) ≡ lineText s
+-- a line and its front of at least 16,407 bytes have the same listing
+pub line-cut : (n : ℕ) (s : List ℕ) → 16407 ≤ n → lineText (take n s) ≡ lineText s
 unfolding lineText
 line-cut n s h = go (leb n (length s)) refl
   where

@@ -3,3 +3,4 @@ pub mod Requests
 pub mod Cut
 pub mod Registrations
 pub mod Signals
+pub mod Services

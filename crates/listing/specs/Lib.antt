@@ -3,4 +3,5 @@ pub mod Request
 pub mod Lines
 pub mod Registrations
 pub mod Signals
+pub mod Services
 pub mod Listing

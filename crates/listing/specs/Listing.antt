@@ -18,11 +18,13 @@ use Rattle.version_info.specs.VersionInfo.{readOf as versionRead}
 use Rattle.listing.specs.Rows.{header, row, refusedLine, badLine}
 use Rattle.registration.specs.Registration.{readOf as registrationRead}
 use Rattle.signal_state.specs.SignalState.{readOf as signalRead}
+use Rattle.device_services.specs.DeviceServices.{readOf as servicesRead}
 use Rattle.listing.specs.Request.{requestOf}
 use Rattle.listing.specs.Registrations.{registrationText}
 use Rattle.listing.specs.Signals.{signalText}
+use Rattle.listing.specs.Services.{servicesText}
 use Rattle.listing.specs.declared.request.ListingKind.{ListingKind}
-use Rattle.listing.specs.declared.request.ListingKind.the-variants.{PacketService as PacketKind, Version as VersionKind, Registration as RegistrationKind, SignalState as SignalKind}
+use Rattle.listing.specs.declared.request.ListingKind.the-variants.{PacketService as PacketKind, Version as VersionKind, Registration as RegistrationKind, SignalState as SignalKind, DeviceServices as ServicesKind}
 use Rattle.listing.specs.declared.request.Request.{Request}
 use Rattle.listing.specs.declared.request.Request.the-variants.{Payload, BadLine}
 
@@ -58,6 +60,7 @@ payloadText PacketKind version s = packetText (packetRead version s)
 payloadText VersionKind version s = versionText (versionRead s)
 payloadText RegistrationKind version s = registrationText s (registrationRead version s)
 payloadText SignalKind version s = signalText (signalRead version s)
+payloadText ServicesKind version s = servicesText s (servicesRead s)
 
 -- the payload that n digits of a line spell, from a place of it on
 unfoldable pub spelledText : List ℕ → ListingKind → Version → ℕ → ℕ → List ℕ

@@ -10,7 +10,7 @@ use Rattle.protocol.specs.declared.Version.{Version}
 use Rattle.protocol.specs.declared.Version.the-variants.{V1, V2}
 use Rattle.listing.specs.Rows.{lineFeed}
 use Rattle.listing.specs.declared.request.ListingKind.{ListingKind}
-use Rattle.listing.specs.declared.request.ListingKind.the-variants.{PacketService, Version as VersionKind, Registration, SignalState}
+use Rattle.listing.specs.declared.request.ListingKind.the-variants.{PacketService, Version as VersionKind, Registration, SignalState, DeviceServices}
 use Rattle.listing.specs.declared.request.Request.{Request}
 use Rattle.listing.specs.declared.request.Request.the-variants.{Payload, BadLine}
 use Rattle.listing.specs.declared.request.Reached.{Reached}
@@ -26,16 +26,17 @@ abbrev pub word : List ℕ → ℕ → WordRow
 word t n = record { text = t; number = n }
 
 abbrev pub kindWords : List WordRow
-kindWords = word (ascii "packet_service\t") 0 ∷ word (ascii "version\t") 1 ∷ word (ascii "registration\t") 2 ∷ word (ascii "signal_state\t") 3 ∷ []
+kindWords = word (ascii "packet_service\t") 0 ∷ word (ascii "version\t") 1 ∷ word (ascii "registration\t") 2 ∷ word (ascii "signal_state\t") 3 ∷ word (ascii "device_services\t") 4 ∷ []
 
 abbrev pub kindOf : ℕ → ListingKind
-kindOf n = cond (eqb n 0) PacketService (cond (eqb n 1) VersionKind (cond (eqb n 2) Registration SignalState))
+kindOf n = cond (eqb n 0) PacketService (cond (eqb n 1) VersionKind (cond (eqb n 2) Registration (cond (eqb n 3) SignalState DeviceServices)))
 
 abbrev pub kindLength : ListingKind → ℕ
 kindLength PacketService = length (ascii "packet_service\t")
 kindLength VersionKind = length (ascii "version\t")
 kindLength Registration = length (ascii "registration\t")
 kindLength SignalState = length (ascii "signal_state\t")
+kindLength DeviceServices = length (ascii "device_services\t")
 
 abbrev pub versionWords : List WordRow
 versionWords = word (ascii "1.00\t") 0 ∷ word (ascii "2.00\t") 1 ∷ []

@@ -4,6 +4,7 @@ pub mod lines;
 mod packet_rows;
 mod registration_rows;
 pub mod request;
+mod services_rows;
 mod signal_rows;
 mod version_rows;
 
@@ -26,17 +27,17 @@ ghost use Rattle.listing.specs.Rows.{Put, field, row, indexedRow, textRo
 ghost use Rattle.listing.specs.Listing.{payloadText, spelledText, lineText};
 
 // Puts the listing of a line at the front of the output, and answers its length.
-pub fn list_line(line: &[u8], out: &mut [u8; 131072]) -> usize
+pub fn list_line(line: &[u8], out: &mut [u8; 524288]) -> usize
     ensures { λ r. ⌜ r ≡ length (lineText (now (line .entry))) ⌝ }
     ensures { λ _. ⌜ now (out .exit) ≡ over (lineText (now (line .entry))) (now (out .entry)) ⌝ }
-    ensures { λ r. ⌜ r ≤ 131072 ⌝ }
+    ensures { λ r. ⌜ r ≤ 524288 ⌝ }
 {
     put_line(line, &mut out[..])
 }
 
 fn put_line(line: &[u8], out: &mut [u8]) -> usize
     ensures { λ r. ⌜ Put (now (out .entry)) 0 (lineText (now (line .entry))) (now (out .exit)) r ⌝ }
-    ensures { λ r. ⌜ r ≤ 131072 ⌝ }
+    ensures { λ r. ⌜ r ≤ 524288 ⌝ }
 {
     match request_of(line) {
         Request::BadLine(column) => put_row(out, 0, b"bad line", column as u64),
@@ -60,7 +61,7 @@ fn put_spelled(
 ) -> usize
     requires { ⌜ (from + digits ≤ length (now line)) × (digits ≤ 16384) ⌝ }
     ensures { λ r. ⌜ Put (now (out .entry)) 0 (spelledText (now (line .entry)) kind version from digits) (now (out .exit)) r ⌝ }
-    ensures { λ r. ⌜ r ≤ 131072 ⌝ }
+    ensures { λ r. ⌜ r ≤ 524288 ⌝ }
 {
     let mut payload = payload_room();
     let end = from + digits;
@@ -79,13 +80,14 @@ fn payload_room() -> [u8; 8192]
 
 fn put_payload(kind: ListingKind, version: Version, payload: &[u8], out: &mut [u8]) -> usize
     ensures { λ r. ⌜ Put (now (out .entry)) 0 (payloadText kind version (now (payload .entry))) (now (out .exit)) r ⌝ }
-    ensures { λ r. ⌜ r ≤ 131072 ⌝ }
+    ensures { λ r. ⌜ r ≤ 524288 ⌝ }
 {
     match kind {
         ListingKind::PacketService => packet_rows::put(version, payload, out),
         ListingKind::Version => version_rows::put(payload, out),
         ListingKind::Registration => registration_rows::put(version, payload, out),
         ListingKind::SignalState => signal_rows::put(version, payload, out),
+        ListingKind::DeviceServices => services_rows::put(payload, out),
     }
 }
 
@@ -101,7 +103,7 @@ fn put_refused(out: &mut [u8], refusal: Refusal) -> usize
 }
 
 fn put_row(out: &mut [u8], at: usize, name: &[u8], value: u64) -> usize
-    requires { ⌜ (at ≤ 131072) × (length (now name) ≤ 50) ⌝ }
+    requires { ⌜ (at ≤ 524288) × (length (now name) ≤ 50) ⌝ }
     ensures { λ r. ⌜ Put (now (out .entry)) at (row (now (name .entry)) value) (now (out .exit)) r ⌝ }
     ensures { λ r. ⌜ r ≤ at + 100 ⌝ }
 {
@@ -112,7 +114,7 @@ fn put_row(out: &mut [u8], at: usize, name: &[u8], value: u64) -> usize
 
 // A row of entry i of a list.
 fn put_indexed_row(out: &mut [u8], at: usize, name: &[u8], i: usize, value: u64) -> usize
-    requires { ⌜ (at ≤ 131072) × (length (now name) ≤ 50) ⌝ }
+    requires { ⌜ (at ≤ 524288) × (length (now name) ≤ 50) ⌝ }
     ensures { λ r. ⌜ Put (now (out .entry)) at (indexedRow (now (name .entry)) i value) (now (out .exit)) r ⌝ }
     ensures { λ r. ⌜ r ≤ at + 100 ⌝ }
 {
@@ -126,7 +128,7 @@ fn put_indexed_row(out: &mut [u8], at: usize, name: &[u8], i: usize, value: u64)
 
 // A row whose value is a text, in hexadecimal.
 fn put_text_row(out: &mut [u8], at: usize, name: &[u8], text: &[u8]) -> usize
-    requires { ⌜ (at ≤ 131072) × (length (now name) ≤ 50) × (length (now text) ≤ 126) ⌝ }
+    requires { ⌜ (at ≤ 524288) × (length (now name) ≤ 50) × (length (now text) ≤ 126) ⌝ }
     ensures { λ r. ⌜ Put (now (out .entry)) at (textRow (now (name .entry)) (now (text .entry))) (now (out .exit)) r ⌝ }
     ensures { λ r. ⌜ r ≤ at + 400 ⌝ }
 {
@@ -138,7 +140,7 @@ fn put_text_row(out: &mut [u8], at: usize, name: &[u8], text: &[u8]) -> usize
 
 // The digits of a text.
 fn put_digits(out: &mut [u8], at: usize, text: &[u8]) -> usize
-    requires { ⌜ (at ≤ 140000) × (length (now text) ≤ 126) ⌝ }
+    requires { ⌜ (at ≤ 530000) × (length (now text) ≤ 126) ⌝ }
     ensures { λ r. ⌜ Put (now (out .entry)) at (hexed (now (text .entry))) (now (out .exit)) r ⌝ }
     ensures { λ r. ⌜ r ≡ at + 2 * length (now (text .entry)) ⌝ }
 {
@@ -151,7 +153,7 @@ fn put_digits(out: &mut [u8], at: usize, text: &[u8]) -> usize
 }
 
 fn put_number(out: &mut [u8], at: usize, value: u64) -> usize
-    requires { ⌜ at ≤ 140000 ⌝ }
+    requires { ⌜ at ≤ 530000 ⌝ }
     ensures { λ r. ⌜ Put (now (out .entry)) at (decimal value) (now (out .exit)) r ⌝ }
     ensures { λ r. ⌜ r ≤ at + 20 ⌝ }
 {
@@ -161,7 +163,7 @@ fn put_number(out: &mut [u8], at: usize, value: u64) -> usize
 
 // A tab and a number.
 fn put_field(out: &mut [u8], at: usize, value: u64) -> usize
-    requires { ⌜ at ≤ 140000 ⌝ }
+    requires { ⌜ at ≤ 530000 ⌝ }
     ensures { λ r. ⌜ Put (now (out .entry)) at (field value) (now (out .exit)) r ⌝ }
     ensures { λ r. ⌜ r ≤ at + 21 ⌝ }
 {
@@ -171,7 +173,7 @@ fn put_field(out: &mut [u8], at: usize, value: u64) -> usize
 }
 
 fn put_text(out: &mut [u8], at: usize, text: &[u8]) -> usize
-    requires { ⌜ at + length (now text) ≤ 150000 ⌝ }
+    requires { ⌜ at + length (now text) ≤ 540000 ⌝ }
     ensures { λ r. ⌜ Put (now (out .entry)) at (now (text .entry)) (now (out .exit)) r ⌝ }
 {
     put_run(out, at, text, text.len());

@@ -65,7 +65,7 @@ fn put_texts(texts: RegistrationTexts, payload: &[u8], out: &mut [u8], at: usize
 
 // The text of a range of the payload.
 fn put_range_row(out: &mut [u8], at: usize, name: &[u8], payload: &[u8], range: Range) -> usize
-    requires { ⌜ (at ≤ 131072) × (length (now name) ≤ 50) × Listable range (now payload) ⌝ }
+    requires { ⌜ (at ≤ 524288) × (length (now name) ≤ 50) × Listable range (now payload) ⌝ }
     ensures { λ r. ⌜ Put (now (out .entry)) at (textRow (now (name .entry)) (shownIn (now (payload .entry)) range)) (now (out .exit)) r ⌝ }
     ensures { λ r. ⌜ r ≤ at + 400 ⌝ }
 {

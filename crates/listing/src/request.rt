@@ -15,6 +15,7 @@ pub enum ListingKind {
     Version,
     Registration,
     SignalState,
+    DeviceServices,
 }
 
 pub enum Request {
@@ -100,7 +101,8 @@ fn kind_at(line: &[u8]) -> Reached
     let packet = also_word(Reached::Column(0), line, 0, b"packet_service\t", 0);
     let version = also_word(packet, line, 0, b"version\t", 1);
     let registration = also_word(version, line, 0, b"registration\t", 2);
-    also_word(registration, line, 0, b"signal_state\t", 3)
+    let signal = also_word(registration, line, 0, b"signal_state\t", 3);
+    also_word(signal, line, 0, b"device_services\t", 4)
 }
 
 fn kind_of(number: u32) -> ListingKind
@@ -110,7 +112,8 @@ fn kind_of(number: u32) -> ListingKind
         0 => ListingKind::PacketService,
         1 => ListingKind::Version,
         2 => ListingKind::Registration,
-        _ => ListingKind::SignalState,
+        3 => ListingKind::SignalState,
+        _ => ListingKind::DeviceServices,
     }
 }
 
@@ -123,6 +126,7 @@ fn kind_length(kind: ListingKind) -> usize
         ListingKind::Version => 8,
         ListingKind::Registration => 13,
         ListingKind::SignalState => 13,
+        ListingKind::DeviceServices => 16,
     }
 }
 

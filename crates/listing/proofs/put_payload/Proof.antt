@@ -21,5 +21,9 @@ returns-4 : tie.Need-returns-4
 unfolding payloadText
 returns-4 c = (rw (c .before .before .before .before .enum-told4 .given .1) (c .before .before .put4 .ensures .0), omega (arith, c .before .before .put4 .ensures .1))
 
+returns-5 : tie.Need-returns-5
+unfolding payloadText
+returns-5 c = (rw (c .before .before .before .before .enum-told5 .given .1) (c .before .before .put5 .ensures .0), omega (arith, c .before .before .put5 .ensures .1))
+
 pub put-payload-spec : {M : Type 1} → statement M
-put-payload-spec = tie.close (tie.spec (λ c. search needs) (λ c. search needs) (λ c. search needs) (λ c. search needs) (λ c. search needs) (λ c. search needs) (λ c. search needs) (λ c. search needs) (λ c. search needs) returns (λ c. search needs) returns-2 (λ c. search needs) returns-3 (λ c. search needs) returns-4)
+put-payload-spec = tie.close (tie.spec (λ c. search needs) (λ c. search needs) (λ c. search needs) (λ c. search needs) (λ c. search needs) (λ c. search needs) (λ c. search needs) (λ c. search needs) (λ c. search needs) (λ c. search needs) (λ c. search needs) returns (λ c. search needs) returns-2 (λ c. search needs) returns-3 (λ c. search needs) returns-4 (λ c. search needs) returns-5)
