@@ -130,8 +130,8 @@ pub fn feed(old: Assembly, piece: &[u8], out: &mut [u8]) -> Fed
     Fed { assembly, answer }
 }
 
-// The same with the buffer in place. A piece that leaves its message pending touches no byte of the
-// buffer but its own.
+// The same with the buffer in place. A later piece that leaves its message pending touches no byte
+// of the buffer but its own.
 pub fn feed_in_place(
     progress: Progress,
     bytes: &mut [u8; 4096],
@@ -153,22 +153,6 @@ pub fn feed_in_place(
             gather(gathering, bytes, &piece[from..], dropped, out)
         }
     }
-}
-
-fn clear(bytes: &mut [u8; 4096])
-    ensures { λ _. ⌜ now (bytes .exit) ≡ zeros ⌝ }
-{
-    *bytes = [0; 4096];
-}
-
-fn refuse(refusal: Refusal, bytes: &mut [u8; 4096]) -> FedInPlace
-    ensures { λ r. ⌜ r ≡ inPlace (refused refusal) ⌝ }
-    ensures { λ _. ⌜ now (bytes .exit) ≡ refused refusal .assembly .bytes ⌝ }
-{
-    clear(bytes);
-    let progress = Progress::none();
-    let answer = Answer::Refused(refusal);
-    FedInPlace { progress, answer }
 }
 
 // A piece is judged before anything is written.
@@ -260,6 +244,19 @@ fn is_next(progress: Progress, header: FragmentHeader) -> bool
     progress.information_length as usize <= MOST_INFORMATION
 }
 
+fn begin(header: FragmentHeader, first: FirstHeader) -> Progress
+    ensures { λ r. ⌜ r ≡ begunProgress header first ⌝ }
+{
+    let message = first.message;
+    Progress {
+        message,
+        total: header.total,
+        next: 0,
+        information_length: first.information_length,
+        gathered: 0,
+    }
+}
+
 // The information in `source` joins the message, which then waits or is complete.
 fn gather(
     progress: Progress,
@@ -318,19 +315,6 @@ fn put_in_buffer(bytes: &mut [u8; 4096], gathered: usize, source: &[u8])
     put_bytes(&mut bytes[..], gathered, source);
 }
 
-fn begin(header: FragmentHeader, first: FirstHeader) -> Progress
-    ensures { λ r. ⌜ r ≡ begunProgress header first ⌝ }
-{
-    let message = first.message;
-    Progress {
-        message,
-        total: header.total,
-        next: 0,
-        information_length: first.information_length,
-        gathered: 0,
-    }
-}
-
 // One more piece, of n bytes of information.
 fn grow(progress: Progress, n: usize) -> Progress
     requires { ⌜ (progress .gathered + n ≤ 4096) × (progress .next < progress .total) ⌝ }
@@ -346,10 +330,26 @@ fn grow(progress: Progress, n: usize) -> Progress
     }
 }
 
+fn refuse(refusal: Refusal, bytes: &mut [u8; 4096]) -> FedInPlace
+    ensures { λ r. ⌜ r ≡ inPlace (refused refusal) ⌝ }
+    ensures { λ _. ⌜ now (bytes .exit) ≡ refused refusal .assembly .bytes ⌝ }
+{
+    clear(bytes);
+    let progress = Progress::none();
+    let answer = Answer::Refused(refusal);
+    FedInPlace { progress, answer }
+}
+
 fn clear_if(dropped: bool, bytes: &mut [u8; 4096])
     ensures { λ _. ⌜ now (bytes .exit) ≡ begunBytes dropped (now (bytes .entry)) ⌝ }
 {
     if dropped {
         clear(bytes);
     }
+}
+
+fn clear(bytes: &mut [u8; 4096])
+    ensures { λ _. ⌜ now (bytes .exit) ≡ zeros ⌝ }
+{
+    *bytes = [0; 4096];
 }

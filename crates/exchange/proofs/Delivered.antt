@@ -1,4 +1,4 @@
--- The claim of specs/Delivery.
+-- The two claims of specs/Delivery.
 -- Assumes nothing.
 use mathlib.Core.Path.{_≡_, refl, sym, ap, _∙_}
 use mathlib.Core.List.{List, [], _∷_, _++_}
@@ -14,7 +14,12 @@ use Rattle.assembler.proofs.Clean.{reached}
 use Rattle.cutter.specs.Cut.{laterCount, fragmentsOf}
 use Rattle.cutter.proofs.Whole.{count-holds, count-few}
 use Rattle.exchange.specs.Messages.{pieces, received}
-use Rattle.exchange.specs.Delivery.{thenRun, Delivered}
+use Rattle.exchange.specs.Delivery.{thenRun, CutInto, Delivered, Passed}
+use Rattle.exchange.specs.Collected.{before, collected}
+use Rattle.exchange.proofs.Passed.{collected-run}
+use Rattle.assembler.specs.declared.Answer.the-variants.{Pending}
+use Rattle.message.specs.declared.MessageHeader.{MessageHeader}
+use mathlib.Core.Bool.{false}
 use Rattle.exchange.proofs.Runs.{all-run}
 use Rattle.exchange.proofs.Sent.{sent, sent-parts}
 
@@ -24,19 +29,33 @@ unfolding runOf
 run-append a [] qs = refl
 run-append a (p ∷ ps) qs = ap (andThen (seenOf (stepOf a (p .bytes) (p .room)))) (run-append (stepOf a (p .bytes) (p .room) .assembly) ps qs)
 
-pub delivered : Delivered
+-- the fragments themselves, fed to an assembly that earlier pieces left
+pub fragments-received : (m : MessageHeader) (size : ℕ) (information out : List ℕ) (count n : ℕ) (room : ℕ → ℕ) → CutInto m size information out count n room → (earlier : List Piece)
+    → runOf (runOf empty earlier .end) (pieces room 0 (fragmentsOf m size information))
+    ≡ received m information (isPending (runOf empty earlier .end .progress)) (count - 1)
 unfolding fragmentsOf
-delivered m size information out count n room C earlier =
+fragments-received m size information out count n room C earlier =
     let S = sent m size information out count n (C .accepted) in
     let a = runOf empty earlier .end in
     let first = size - firstLength (m .«message_type») in
     let later = laterCount first (size - 20) (length information) in
     let e : count - 1 ≡ later = omega (arith, S .counted) in
     let h = place-most (m .«message_type») in
-    let all : runOf a (pieces room 0 (fragmentsOf m size information)) ≡ received m information (isPending (a .progress)) later =
     all-run m (C .real) (S .known) (S .word) a (reached earlier .whole) room first (size - 20) information later (omega (arith, S .low, S .high)) (omega (arith, S .low, S .high)) (S .small)
     (rw e at (C .roomy)) (count-few first (size - 20) (length information) (omega (arith, S .low)) (S .small))
-    (count-holds first (size - 20) (length information) (omega (arith, S .low)) (S .small)) in
-    ap (λ (ps : List (List ℕ)). runOf empty (earlier ++ pieces room 0 ps)) (sent-parts m size information out count n S)
-    ∙ run-append empty earlier (pieces room 0 (fragmentsOf m size information)) ∙ ap (thenRun (runOf empty earlier)) all
-    ∙ ap (λ (k : ℕ). thenRun (runOf empty earlier) (received m information (isPending (a .progress)) k)) (sym e)
+    (count-holds first (size - 20) (length information) (omega (arith, S .low)) (S .small))
+    ∙ ap (received m information (isPending (a .progress))) (sym e)
+
+pub delivered : Delivered
+delivered m size information out count n room C earlier =
+    ap (λ (ps : List (List ℕ)). runOf empty (earlier ++ pieces room 0 ps)) (sent-parts m size information out count n (sent m size information out count n (C .accepted)))
+    ∙ run-append empty earlier (pieces room 0 (fragmentsOf m size information))
+    ∙ ap (thenRun (runOf empty earlier)) (fragments-received m size information out count n room C earlier)
+
+-- the same with one output for all parts
+pub passed : Passed
+passed m size information stream count n earlier out C =
+    let a = runOf empty earlier .end in
+    ap (collected (before (a .progress) (a .bytes) out)) (sent-parts m size information stream count n (sent m size information stream count n (C .accepted)))
+    ∙ collected-run m information (length out) (fragmentsOf m size information) (count - 1) 0 (isPending (a .progress)) a (Pending false) out refl
+    (fragments-received m size information stream count n (λ _. length out) C earlier)

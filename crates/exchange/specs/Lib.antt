@@ -1,4 +1,4 @@
 pub mod Messages
+pub mod Collected
 pub mod Delivery
 pub mod Cases
-pub mod Collected
