@@ -26,7 +26,7 @@ ghost use lib.Seq.{sets};
 ghost use Rattle.wire.specs.Runs.{over};
 ghost use Rattle.protocol.specs.Verdict.{judge};
 ghost use Rattle.message.specs.Message.{firstHeaderOf};
-ghost use Rattle.assembler.specs.Assembly.{zeros, assembly, empty, byValue, inPlace, refused, grownProgress, gatherOf, begunProgress, begunBytes, startOf, continues, joinRules, joinOf, judgedOf, stepOf};
+ghost use Rattle.assembler.specs.Assembly.{zeros, assemblyOf, empty, byValue, inPlace, refused, grownProgress, gatherOf, begunProgress, begunBytes, startOf, continues, joinRules, joinOf, judgedOf, stepOf};
 
 // How far the pending message has come: 01's assembly without its buffer. Total 0 is no message.
 pub struct Progress {
@@ -117,12 +117,12 @@ impl Progress {
 }
 
 // Feeds one piece. A complete message's information goes to the front of `out`.
-pub fn feed(old: Assembly, piece: &[u8], out: &mut [u8]) -> Fed
-    ensures { λ r. ⌜ r ≡ byValue (stepOf old (now (piece .entry)) (length (now (out .entry)))) ⌝ }
-    ensures { λ _. ⌜ now (out .exit) ≡ over (stepOf old (now (piece .entry)) (length (now (out .entry))) .information) (now (out .entry)) ⌝ }
+pub fn feed(assembly: Assembly, piece: &[u8], out: &mut [u8]) -> Fed
+    ensures { λ r. ⌜ r ≡ byValue (stepOf assembly (now (piece .entry)) (length (now (out .entry)))) ⌝ }
+    ensures { λ _. ⌜ now (out .exit) ≡ over (stepOf assembly (now (piece .entry)) (length (now (out .entry))) .information) (now (out .entry)) ⌝ }
 {
-    let mut bytes = old.bytes;
-    let progress = old.progress;
+    let mut bytes = assembly.bytes;
+    let progress = assembly.progress;
     let fed = feed_in_place(progress, &mut bytes, piece, out);
     let progress = fed.progress;
     let answer = fed.answer;
@@ -138,9 +138,9 @@ pub fn feed_in_place(
     piece: &[u8],
     out: &mut [u8],
 ) -> FedInPlace
-    ensures { λ r. ⌜ r ≡ inPlace (stepOf (assembly progress (now (bytes .entry))) (now (piece .entry)) (length (now (out .entry)))) ⌝ }
-    ensures { λ _. ⌜ now (bytes .exit) ≡ stepOf (assembly progress (now (bytes .entry))) (now (piece .entry)) (length (now (out .entry))) .assembly .bytes ⌝ }
-    ensures { λ _. ⌜ now (out .exit) ≡ over (stepOf (assembly progress (now (bytes .entry))) (now (piece .entry)) (length (now (out .entry))) .information) (now (out .entry)) ⌝ }
+    ensures { λ r. ⌜ r ≡ inPlace (stepOf (assemblyOf progress (now (bytes .entry))) (now (piece .entry)) (length (now (out .entry)))) ⌝ }
+    ensures { λ _. ⌜ now (bytes .exit) ≡ stepOf (assemblyOf progress (now (bytes .entry))) (now (piece .entry)) (length (now (out .entry))) .assembly .bytes ⌝ }
+    ensures { λ _. ⌜ now (out .exit) ≡ over (stepOf (assemblyOf progress (now (bytes .entry))) (now (piece .entry)) (length (now (out .entry))) .information) (now (out .entry)) ⌝ }
 {
     match judge_piece(progress, piece) {
         Judged::Refused(refusal) => refuse(refusal, bytes),
@@ -267,9 +267,9 @@ fn gather(
 ) -> FedInPlace
     requires { ⌜ (progress .gathered + length (now source) ≤ progress .«information_length») × (progress .«information_length» ≤ 4096) × (progress .next < progress .total) ⌝ }
     requires { ⌜ (progress .next + 1 ≡ progress .total → progress .gathered + length (now source) ≡ progress .«information_length») ⌝ }
-    ensures { λ r. ⌜ r ≡ inPlace (gatherOf (assembly progress (now (bytes .entry))) (now (source .entry)) dropped (length (now (out .entry)))) ⌝ }
-    ensures { λ _. ⌜ now (bytes .exit) ≡ gatherOf (assembly progress (now (bytes .entry))) (now (source .entry)) dropped (length (now (out .entry))) .assembly .bytes ⌝ }
-    ensures { λ _. ⌜ now (out .exit) ≡ over (gatherOf (assembly progress (now (bytes .entry))) (now (source .entry)) dropped (length (now (out .entry))) .information) (now (out .entry)) ⌝ }
+    ensures { λ r. ⌜ r ≡ inPlace (gatherOf (assemblyOf progress (now (bytes .entry))) (now (source .entry)) dropped (length (now (out .entry)))) ⌝ }
+    ensures { λ _. ⌜ now (bytes .exit) ≡ gatherOf (assemblyOf progress (now (bytes .entry))) (now (source .entry)) dropped (length (now (out .entry))) .assembly .bytes ⌝ }
+    ensures { λ _. ⌜ now (out .exit) ≡ over (gatherOf (assemblyOf progress (now (bytes .entry))) (now (source .entry)) dropped (length (now (out .entry))) .information) (now (out .entry)) ⌝ }
 {
     let gathered = progress.gathered as usize;
     let length = progress.information_length as usize;

@@ -19,7 +19,7 @@ use Rattle.message.specs.Message.{mostInformation, mostTransfer, firstLength, w
 use Rattle.message.specs.declared.FragmentHeader.{FragmentHeader}
 use Rattle.message.specs.declared.MessageHeader.{MessageHeader}
 use Rattle.message.proofs.Headers.{right-all, right-less}
-use Rattle.assembler.specs.Assembly.{assembly, isPending, waiting, completed, grown, gatherOf, startOf, continues, joinRules, joinOf, judgedBy, judgedOf, begunBytes, stepBy, stepOf}
+use Rattle.assembler.specs.Assembly.{assemblyOf, isPending, waiting, completed, grown, gatherOf, startOf, continues, joinRules, joinOf, judgedBy, judgedOf, begunBytes, stepBy, stepOf}
 use Rattle.assembler.specs.Run.{andThen, runOf}
 use Rattle.assembler.specs.declared.Assembly.{Assembly}
 use Rattle.assembler.specs.declared.Answer.the-variants.{Pending}
@@ -31,7 +31,7 @@ use Rattle.exchange.proofs.Fragments.{fragment-judged, drop-fragment, f
 -- an assembly in the middle of m: `number` comes next, and the first `gathered` of `bytes` are there
 abbrev held : MessageHeader → ℕ → ℕ → ℕ → ℕ → List ℕ → Assembly
 held m total declared number gathered bytes =
-    assembly (record { message = carried m; total = total; next = number; «information_length» = declared; gathered = gathered }) bytes
+    assemblyOf (record { message = carried m; total = total; next = number; «information_length» = declared; gathered = gathered }) bytes
 
 -- ---- one step
 
