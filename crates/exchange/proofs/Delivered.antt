@@ -30,11 +30,11 @@ run-append a [] qs = refl
 run-append a (p ∷ ps) qs = ap (andThen (seenOf (stepOf a (p .bytes) (p .room)))) (run-append (stepOf a (p .bytes) (p .room) .assembly) ps qs)
 
 -- the fragments themselves, fed to an assembly that earlier pieces left
-pub fragments-received : (m : MessageHeader) (size : ℕ) (information out : List ℕ) (count n : ℕ) (room : ℕ → ℕ) → CutInto m size information out count n room → (earlier : List Piece)
+fragments-received : (m : MessageHeader) (size : ℕ) (information out : List ℕ) (count n : ℕ) → CutInto m size information out count n → (room : ℕ → ℕ) (earlier : List Piece)
     → runOf (runOf empty earlier .end) (pieces room 0 (fragmentsOf m size information))
-    ≡ received m information (isPending (runOf empty earlier .end .progress)) (count - 1)
+    ≡ received m information (isPending (runOf empty earlier .end .progress)) (room (count - 1)) (count - 1)
 unfolding fragmentsOf
-fragments-received m size information out count n room C earlier =
+fragments-received m size information out count n C room earlier =
     let S = sent m size information out count n (C .accepted) in
     let a = runOf empty earlier .end in
     let first = size - firstLength (m .«message_type») in
@@ -42,20 +42,20 @@ fragments-received m size information out count n room C earlier =
     let e : count - 1 ≡ later = omega (arith, S .counted) in
     let h = place-most (m .«message_type») in
     all-run m (C .real) (S .known) (S .word) a (reached earlier .whole) room first (size - 20) information later (omega (arith, S .low, S .high)) (omega (arith, S .low, S .high)) (S .small)
-    (rw e at (C .roomy)) (count-few first (size - 20) (length information) (omega (arith, S .low)) (S .small))
+    (count-few first (size - 20) (length information) (omega (arith, S .low)) (S .small))
     (count-holds first (size - 20) (length information) (omega (arith, S .low)) (S .small))
-    ∙ ap (received m information (isPending (a .progress))) (sym e)
+    ∙ ap (λ (k : ℕ). received m information (isPending (a .progress)) (room k) k) (sym e)
 
 pub delivered : Delivered
-delivered m size information out count n room C earlier =
+delivered m size information out count n C room earlier =
     ap (λ (ps : List (List ℕ)). runOf empty (earlier ++ pieces room 0 ps)) (sent-parts m size information out count n (sent m size information out count n (C .accepted)))
     ∙ run-append empty earlier (pieces room 0 (fragmentsOf m size information))
-    ∙ ap (thenRun (runOf empty earlier)) (fragments-received m size information out count n room C earlier)
+    ∙ ap (thenRun (runOf empty earlier)) (fragments-received m size information out count n C room earlier)
 
 -- the same with one output for all parts
 pub passed : Passed
-passed m size information stream count n earlier out C =
+passed m size information stream count n C earlier out =
     let a = runOf empty earlier .end in
     ap (collected (before (a .progress) (a .bytes) out)) (sent-parts m size information stream count n (sent m size information stream count n (C .accepted)))
     ∙ collected-run m information (length out) (fragmentsOf m size information) (count - 1) 0 (isPending (a .progress)) a (Pending false) out refl
-    (fragments-received m size information stream count n (λ _. length out) C earlier)
+    (fragments-received m size information stream count n C (λ _. length out) earlier)

@@ -12,16 +12,16 @@ use Rattle.assembler.specs.Assembly.{empty, stepOf}
 use Rattle.assembler.specs.Run.{Seen, Run, runOf}
 use Rattle.assembler.specs.declared.Assembly.{Assembly}
 use Rattle.assembler.specs.declared.Answer.{Answer}
-use Rattle.assembler.specs.declared.Answer.the-variants.{Complete}
-use Rattle.exchange.specs.Messages.{carried, pieces, received}
+use Rattle.exchange.specs.Messages.{pieces, lastSeen, received}
 use Rattle.exchange.specs.Collected.{Collected, after, collected}
 use Rattle.exchange.specs.Delivery.{lastSays}
 
 abbrev gives : Assembly → Answer → List ℕ → Collected
 gives a t out = record { assembly = a; answer = t; output = out }
 
-abbrev result : MessageHeader → List ℕ → Bool → List ℕ → Collected
-result m information d out = gives empty (Complete (carried m) (length information) d) (over information out)
+abbrev result : MessageHeader → List ℕ → ℕ → Bool → List ℕ → Collected
+result m information room d out =
+    gives empty (lastSeen m information d room .answer) (over (lastSeen m information d room .information) out)
 
 false-says : (n : ℕ) → lastSays n false ≡ false
 false-says zero = refl
@@ -51,7 +51,7 @@ over-nothing out = refl
 
 module _ (m : MessageHeader) (information : List ℕ) (room : ℕ) where
   pub collected-run : (ps : List (List ℕ)) (n k : ℕ) (d : Bool) (a : Assembly) (t : Answer) (out : List ℕ) → length out ≡ room
-      → runOf a (pieces (λ _. room) k ps) ≡ received m information d n → collected (gives a t out) ps ≡ result m information (lastSays n d) out
+      → runOf a (pieces (λ _. room) k ps) ≡ received m information d room n → collected (gives a t out) ps ≡ result m information room (lastSays n d) out
   unfolding runOf pieces received collected
   collected-run [] zero k d a t out e r = absurd (some-none (sym (ap (λ (x : Run). x .seen) r)))
   collected-run [] (suc n) k d a t out e r = absurd (some-none (sym (ap (λ (x : Run). x .seen) r)))
@@ -68,4 +68,4 @@ module _ (m : MessageHeader) (information : List ℕ) (room : ℕ) where
       after-is a t p out room e ∙ ap (gives (s .assembly) (s .answer)) (ap (λ (x : Seen). over (x .information) out) h ∙ over-nothing out) in
       ap (λ (c : Collected). collected c ps) here
       ∙ collected-run ps n (k + 1) false (s .assembly) (s .answer) out e (λ i. record { seen = l i; end = r i .end })
-      ∙ ap (λ (b : Bool). result m information b out) (false-says n)
+      ∙ ap (λ (b : Bool). result m information room b out) (false-says n)
