@@ -4,22 +4,22 @@ use mathlib.Core.Path.{_≡_, refl, sym, ap, _∙_}
 use mathlib.Core.List.{List, [], _∷_, _++_}
 use Prim.Native.Nat.{ℕ, _+_, _-_}
 use native.Mathlib.Omega.{arith}
-use lib.ListN.{length}
+use lib.ListN.{length, take}
 use Rattle.message.specs.Message.{firstLength}
 use Rattle.message.proofs.Headers.{place-most}
-use Rattle.assembler.specs.Assembly.{empty, isPending, stepOf}
+use Rattle.assembler.specs.Assembly.{zeros, empty, isPending, stepOf}
 use Rattle.assembler.specs.Run.{Piece, seenOf, andThen, runOf}
 use Rattle.assembler.specs.declared.Assembly.{Assembly}
 use Rattle.assembler.proofs.Clean.{reached}
-use Rattle.cutter.specs.Cut.{laterCount, fragmentsOf}
+use Rattle.cutter.specs.Cut.{laterCount, fragmentsOf, cutOf}
 use Rattle.cutter.proofs.Whole.{count-holds, count-few}
-use Rattle.exchange.specs.Messages.{pieces, received}
-use Rattle.exchange.specs.Delivery.{thenRun, CutInto, Delivered, Passed}
+use Rattle.exchange.specs.Messages.{parts, pieces, received}
+use Rattle.exchange.specs.Delivery.{thenRun, CutInto, Delivered, passedOn, Passed}
 use Rattle.exchange.specs.Collected.{before, collected}
-use Rattle.exchange.proofs.Passed.{collected-run}
+use Rattle.exchange.proofs.Passed.{collected-run, false-says}
 use Rattle.assembler.specs.declared.Answer.the-variants.{Pending}
 use Rattle.message.specs.declared.MessageHeader.{MessageHeader}
-use mathlib.Core.Bool.{false}
+use mathlib.Core.Bool.{Bool, false}
 use Rattle.exchange.proofs.Runs.{all-run}
 use Rattle.exchange.proofs.Sent.{sent, sent-parts}
 
@@ -59,3 +59,10 @@ passed m size information stream count n C earlier out =
     ap (collected (before (a .progress) (a .bytes) out)) (sent-parts m size information stream count n (sent m size information stream count n (C .accepted)))
     ∙ collected-run m information (length out) (fragmentsOf m size information) (count - 1) 0 (isPending (a .progress)) a (Pending false) out refl
     (fragments-received m size information stream count n C (λ _. length out) earlier)
+
+-- from the empty assembly nothing is dropped
+pub passed-empty : (m : MessageHeader) (size : ℕ) (information stream : List ℕ) (count n : ℕ) → CutInto m size information stream count n → (out : List ℕ)
+    → collected (before (empty .progress) zeros out) (parts count size (take n (cutOf m size information stream .output))) ≡ passedOn m information false out
+unfolding runOf empty
+passed-empty m size information stream count n C out =
+    passed m size information stream count n C [] out ∙ ap (λ (d : Bool). passedOn m information d out) (false-says (count - 1))

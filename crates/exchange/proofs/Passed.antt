@@ -23,7 +23,7 @@ abbrev result : MessageHeader → List ℕ → ℕ → Bool → List ℕ → Col
 result m information room d out =
     gives empty (lastSeen m information d room .answer) (over (lastSeen m information d room .information) out)
 
-false-says : (n : ℕ) → lastSays n false ≡ false
+pub false-says : (n : ℕ) → lastSays n false ≡ false
 false-says zero = refl
 false-says (suc n) = refl
 
