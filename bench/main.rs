@@ -3,11 +3,18 @@
 use std::hint::black_box;
 use std::time::Instant;
 
+// A slice is passed as a pointer and a length.
 extern "C" {
-    #[allow(improper_ctypes)]
-    fn bench_collect(stream: &[u8], size: usize, bytes: &mut [u8; 4096], out: &mut [u8]) -> usize;
-    #[allow(improper_ctypes)]
-    fn bench_cut(information: &[u8], size: usize, out: &mut [u8]) -> usize;
+    fn bench_collect(stream: *const u8, length: usize, size: usize, bytes: *mut u8, out: *mut u8, room: usize) -> usize;
+    fn bench_cut(information: *const u8, length: usize, size: usize, out: *mut u8, room: usize) -> usize;
+}
+
+fn proved_collect(stream: &[u8], size: usize, bytes: &mut [u8; 4096], out: &mut [u8]) -> usize {
+    unsafe { bench_collect(stream.as_ptr(), stream.len(), size, bytes.as_mut_ptr(), out.as_mut_ptr(), out.len()) }
+}
+
+fn proved_cut(information: &[u8], size: usize, out: &mut [u8]) -> usize {
+    unsafe { bench_cut(information.as_ptr(), information.len(), size, out.as_mut_ptr(), out.len()) }
 }
 
 const COMMAND: u32 = 3;
@@ -260,16 +267,16 @@ fn main() {
     for (size, n) in [(64usize, 4008usize), (512, 4096), (4096, 4048)] {
         let information: Vec<u8> = (0..n).map(|i| (i * 7 + 1) as u8).collect();
         let length = plain_cut(&message, size, &information, &mut stream);
-        assert_eq!(length, unsafe { bench_cut(&information, size, &mut again) });
+        assert_eq!(length, proved_cut(&information, size, &mut again));
         assert!(stream[..length] == again[..length]);
         let pieces = length.div_ceil(size);
         let all = &stream[..length];
-        assert_eq!(n, unsafe { bench_collect(all, size, &mut bytes, &mut out) });
+        assert_eq!(n, proved_collect(all, size, &mut bytes, &mut out));
         assert!(out[..n] == information[..]);
         assert_eq!(n, plain_collect(all, size, &mut assembly, &mut again));
         assert!(again[..n] == information[..]);
         let proved = time(|| {
-            black_box(unsafe { bench_collect(black_box(all), size, &mut bytes, &mut out) });
+            black_box(proved_collect(black_box(all), size, &mut bytes, &mut out));
         });
         let plain = time(|| {
             black_box(plain_collect(black_box(all), size, &mut assembly, &mut again));
@@ -280,7 +287,7 @@ fn main() {
     let information: Vec<u8> = (0..4000).map(|i| (i * 7 + 1) as u8).collect();
     for size in [64usize, 512, 4096] {
         let proved = time(|| {
-            black_box(unsafe { bench_cut(black_box(&information), size, &mut out) });
+            black_box(proved_cut(black_box(&information), size, &mut out));
         });
         let plain = time(|| {
             black_box(plain_cut(&message, size, black_box(&information), &mut again));

@@ -11,7 +11,7 @@ use lib.Seq.{length-sets, drop-drop}
 use Rattle.wire.proofs.Laws.{drop-sets}
 use Rattle.message.specs.declared.FragmentHeader.{FragmentHeader}
 use Rattle.message.specs.declared.FirstHeader.{FirstHeader}
-use Rattle.assembler.specs.Assembly.{Step, zeros, assembly, empty, isPending, refused, waiting, completed, grown, begunProgress, begunBytes, stepOf}
+use Rattle.assembler.specs.Assembly.{Step, zeros, assemblyOf, empty, isPending, refused, waiting, completed, grown, begunProgress, begunBytes, stepOf}
 use Rattle.assembler.specs.Run.{Piece, runOf, Clean}
 use Rattle.assembler.specs.declared.Assembly.{Assembly}
 use Rattle.assembler.proofs.Laws.{Gathers}
@@ -36,7 +36,7 @@ begun-zeros a C = go (isPending (a .progress)) refl
     go false e = ap (λ (x : Assembly). x .bytes) (C .idle (let l : a .progress .total ≤ 0 = ltb-false 0 (a .progress .total) e in omega arith))
 
 clean-begun : (a : Assembly) (h : FragmentHeader) (f : FirstHeader) → Clean a → 0 < h .total
-    → Clean (assembly (begunProgress h f) (begunBytes (isPending (a .progress)) (a .bytes)))
+    → Clean (assemblyOf (begunProgress h f) (begunBytes (isPending (a .progress)) (a .bytes)))
 clean-begun a h f C some = record {
   whole = ap length (begun-zeros a C) ∙ length-replicate {A = ℕ} 4096 0;
   past = ap (drop 0) (begun-zeros a C) ∙ drop-zeros 0 4096 4096 refl;

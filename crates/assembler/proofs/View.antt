@@ -13,7 +13,7 @@ use Rattle.message.specs.declared.FragmentHeader.{FragmentHeader}
 use Rattle.message.specs.declared.FirstHeader.{FirstHeader}
 use Rattle.message.specs.declared.Fragment.the-variants as fragment
 use Rattle.message.specs.declared.First.the-variants as first
-use Rattle.assembler.specs.Assembly.{Step, assembly, isPending, refused, waiting, completed, grown, gatherOf, begunProgress, begunBytes, stepBy, stepOf}
+use Rattle.assembler.specs.Assembly.{Step, assemblyOf, isPending, refused, waiting, completed, grown, gatherOf, begunProgress, begunBytes, stepBy, stepOf}
 use Rattle.assembler.specs.declared.Assembly.{Assembly}
 use Rattle.assembler.specs.declared.Judged.{Judged}
 use Rattle.assembler.proofs.Laws as judge
@@ -38,7 +38,7 @@ gather-view a xs dropped room = go (eqb (a .progress .next + 1) (a .progress .to
 pub data StepView (a : Assembly) (s : Step) : Type 0 where
   bad : (r : Refusal) → s ≡ refused r → StepView a s
   starts : (h : FragmentHeader) (f : FirstHeader) (xs : List ℕ) → Gathers (begunProgress h f) xs
-      → GatherView (assembly (begunProgress h f) (begunBytes (isPending (a .progress)) (a .bytes))) xs (isPending (a .progress)) s → StepView a s
+      → GatherView (assemblyOf (begunProgress h f) (begunBytes (isPending (a .progress)) (a .bytes))) xs (isPending (a .progress)) s → StepView a s
   joins : (xs : List ℕ) → Gathers (a .progress) xs → GatherView a xs false s → StepView a s
 
 pub step-view : (a : Assembly) (p : List ℕ) (room : ℕ) → StepView a (stepOf a p room)

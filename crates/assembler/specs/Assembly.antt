@@ -33,8 +33,8 @@ use Rattle.assembler.specs.declared.Answer.the-variants.{Pending, Comple
 abbrev pub zeros : List ℕ
 zeros = replicate 4096 0
 
-abbrev pub assembly : Progress → List ℕ → Assembly
-assembly p b = record { progress = p; bytes = b }
+abbrev pub assemblyOf : Progress → List ℕ → Assembly
+assemblyOf p b = record { progress = p; bytes = b }
 
 unfoldable pub empty : Assembly
 empty = record {
@@ -93,7 +93,7 @@ grownProgress p n = record {
 }
 
 unfoldable pub grown : Assembly → List ℕ → Assembly
-grown a xs = assembly (grownProgress (a .progress) (length xs)) (sets (a .bytes) (a .progress .gathered) xs)
+grown a xs = assemblyOf (grownProgress (a .progress) (length xs)) (sets (a .bytes) (a .progress .gathered) xs)
 
 -- "at completion output too small for the information is 11"
 unfoldable pub gatherOf : Assembly → List ℕ → Bool → ℕ → Step
@@ -154,7 +154,7 @@ begunBytes dropped bytes = cond dropped zeros bytes
 
 unfoldable pub stepBy : List ℕ → List ℕ → ℕ → Judged → Step
 stepBy bytes s room (judged.Refused r) = refused r
-stepBy bytes s room (judged.Gathers p from dropped) = gatherOf (assembly p (begunBytes dropped bytes)) (drop from s) dropped room
+stepBy bytes s room (judged.Gathers p from dropped) = gatherOf (assemblyOf p (begunBytes dropped bytes)) (drop from s) dropped room
 
 unfoldable pub stepOf : Assembly → List ℕ → ℕ → Step
 stepOf a s room = stepBy (a .bytes) s room (judgedOf (a .progress) s)

@@ -26,7 +26,7 @@ ghost use lib.Seq.{sets};
 ghost use Rattle.wire.specs.Runs.{over};
 ghost use Rattle.protocol.specs.Verdict.{judge};
 ghost use Rattle.message.specs.Message.{firstHeaderOf};
-ghost use Rattle.assembler.specs.Assembly.{zeros, assembly, empty, byValue, inPlace, refused, grownProgress, gatherOf, begunProgress, begunBytes, startOf, continues, joinRules, joinOf, judgedOf, stepOf};
+ghost use Rattle.assembler.specs.Assembly.{zeros, assemblyOf, empty, byValue, inPlace, refused, grownProgress, gatherOf, begunProgress, begunBytes, startOf, continues, joinRules, joinOf, judgedOf, stepOf};
 
 // How far the pending message has come: 01's assembly without its buffer. Total 0 is no message.
 pub struct Progress {
@@ -117,12 +117,12 @@ impl Progress {
 }
 
 // Feeds one piece. A complete message's information goes to the front of `out`.
-pub fn feed(old: Assembly, piece: &[u8], out: &mut [u8]) -> Fed
-    ensures { λ r. ⌜ r ≡ byValue (stepOf old (now (piece .entry)) (length (now (out .entry)))) ⌝ }
-    ensures { λ _. ⌜ now (out .exit) ≡ over (stepOf old (now (piece .entry)) (length (now (out .entry))) .information) (now (out .entry)) ⌝ }
+pub fn feed(assembly: Assembly, piece: &[u8], out: &mut [u8]) -> Fed
+    ensures { λ r. ⌜ r ≡ byValue (stepOf assembly (now (piece .entry)) (length (now (out .entry)))) ⌝ }
+    ensures { λ _. ⌜ now (out .exit) ≡ over (stepOf assembly (now (piece .entry)) (length (now (out .entry))) .information) (now (out .entry)) ⌝ }
 {
-    let mut bytes = old.bytes;
-    let progress = old.progress;
+    let mut bytes = assembly.bytes;
+    let progress = assembly.progress;
     let fed = feed_in_place(progress, &mut bytes, piece, out);
     let progress = fed.progress;
     let answer = fed.answer;
@@ -130,17 +130,17 @@ pub fn feed(old: Assembly, piece: &[u8], out: &mut [u8]) -> Fed
     Fed { assembly, answer }
 }
 
-// The same with the buffer in place. A piece that leaves its message pending touches no byte of the
-// buffer but its own.
+// The same with the buffer in place. A later piece that leaves its message pending touches no byte
+// of the buffer but its own.
 pub fn feed_in_place(
     progress: Progress,
     bytes: &mut [u8; 4096],
     piece: &[u8],
     out: &mut [u8],
 ) -> FedInPlace
-    ensures { λ r. ⌜ r ≡ inPlace (stepOf (assembly progress (now (bytes .entry))) (now (piece .entry)) (length (now (out .entry)))) ⌝ }
-    ensures { λ _. ⌜ now (bytes .exit) ≡ stepOf (assembly progress (now (bytes .entry))) (now (piece .entry)) (length (now (out .entry))) .assembly .bytes ⌝ }
-    ensures { λ _. ⌜ now (out .exit) ≡ over (stepOf (assembly progress (now (bytes .entry))) (now (piece .entry)) (length (now (out .entry))) .information) (now (out .entry)) ⌝ }
+    ensures { λ r. ⌜ r ≡ inPlace (stepOf (assemblyOf progress (now (bytes .entry))) (now (piece .entry)) (length (now (out .entry)))) ⌝ }
+    ensures { λ _. ⌜ now (bytes .exit) ≡ stepOf (assemblyOf progress (now (bytes .entry))) (now (piece .entry)) (length (now (out .entry))) .assembly .bytes ⌝ }
+    ensures { λ _. ⌜ now (out .exit) ≡ over (stepOf (assemblyOf progress (now (bytes .entry))) (now (piece .entry)) (length (now (out .entry))) .information) (now (out .entry)) ⌝ }
 {
     match judge_piece(progress, piece) {
         Judged::Refused(refusal) => refuse(refusal, bytes),
@@ -153,22 +153,6 @@ pub fn feed_in_place(
             gather(gathering, bytes, &piece[from..], dropped, out)
         }
     }
-}
-
-fn clear(bytes: &mut [u8; 4096])
-    ensures { λ _. ⌜ now (bytes .exit) ≡ zeros ⌝ }
-{
-    *bytes = [0; 4096];
-}
-
-fn refuse(refusal: Refusal, bytes: &mut [u8; 4096]) -> FedInPlace
-    ensures { λ r. ⌜ r ≡ inPlace (refused refusal) ⌝ }
-    ensures { λ _. ⌜ now (bytes .exit) ≡ refused refusal .assembly .bytes ⌝ }
-{
-    clear(bytes);
-    let progress = Progress::none();
-    let answer = Answer::Refused(refusal);
-    FedInPlace { progress, answer }
 }
 
 // A piece is judged before anything is written.
@@ -260,6 +244,19 @@ fn is_next(progress: Progress, header: FragmentHeader) -> bool
     progress.information_length as usize <= MOST_INFORMATION
 }
 
+fn begin(header: FragmentHeader, first: FirstHeader) -> Progress
+    ensures { λ r. ⌜ r ≡ begunProgress header first ⌝ }
+{
+    let message = first.message;
+    Progress {
+        message,
+        total: header.total,
+        next: 0,
+        information_length: first.information_length,
+        gathered: 0,
+    }
+}
+
 // The information in `source` joins the message, which then waits or is complete.
 fn gather(
     progress: Progress,
@@ -270,9 +267,9 @@ fn gather(
 ) -> FedInPlace
     requires { ⌜ (progress .gathered + length (now source) ≤ progress .«information_length») × (progress .«information_length» ≤ 4096) × (progress .next < progress .total) ⌝ }
     requires { ⌜ (progress .next + 1 ≡ progress .total → progress .gathered + length (now source) ≡ progress .«information_length») ⌝ }
-    ensures { λ r. ⌜ r ≡ inPlace (gatherOf (assembly progress (now (bytes .entry))) (now (source .entry)) dropped (length (now (out .entry)))) ⌝ }
-    ensures { λ _. ⌜ now (bytes .exit) ≡ gatherOf (assembly progress (now (bytes .entry))) (now (source .entry)) dropped (length (now (out .entry))) .assembly .bytes ⌝ }
-    ensures { λ _. ⌜ now (out .exit) ≡ over (gatherOf (assembly progress (now (bytes .entry))) (now (source .entry)) dropped (length (now (out .entry))) .information) (now (out .entry)) ⌝ }
+    ensures { λ r. ⌜ r ≡ inPlace (gatherOf (assemblyOf progress (now (bytes .entry))) (now (source .entry)) dropped (length (now (out .entry)))) ⌝ }
+    ensures { λ _. ⌜ now (bytes .exit) ≡ gatherOf (assemblyOf progress (now (bytes .entry))) (now (source .entry)) dropped (length (now (out .entry))) .assembly .bytes ⌝ }
+    ensures { λ _. ⌜ now (out .exit) ≡ over (gatherOf (assemblyOf progress (now (bytes .entry))) (now (source .entry)) dropped (length (now (out .entry))) .information) (now (out .entry)) ⌝ }
 {
     let gathered = progress.gathered as usize;
     let length = progress.information_length as usize;
@@ -318,19 +315,6 @@ fn put_in_buffer(bytes: &mut [u8; 4096], gathered: usize, source: &[u8])
     put_bytes(&mut bytes[..], gathered, source);
 }
 
-fn begin(header: FragmentHeader, first: FirstHeader) -> Progress
-    ensures { λ r. ⌜ r ≡ begunProgress header first ⌝ }
-{
-    let message = first.message;
-    Progress {
-        message,
-        total: header.total,
-        next: 0,
-        information_length: first.information_length,
-        gathered: 0,
-    }
-}
-
 // One more piece, of n bytes of information.
 fn grow(progress: Progress, n: usize) -> Progress
     requires { ⌜ (progress .gathered + n ≤ 4096) × (progress .next < progress .total) ⌝ }
@@ -346,10 +330,26 @@ fn grow(progress: Progress, n: usize) -> Progress
     }
 }
 
+fn refuse(refusal: Refusal, bytes: &mut [u8; 4096]) -> FedInPlace
+    ensures { λ r. ⌜ r ≡ inPlace (refused refusal) ⌝ }
+    ensures { λ _. ⌜ now (bytes .exit) ≡ refused refusal .assembly .bytes ⌝ }
+{
+    clear(bytes);
+    let progress = Progress::none();
+    let answer = Answer::Refused(refusal);
+    FedInPlace { progress, answer }
+}
+
 fn clear_if(dropped: bool, bytes: &mut [u8; 4096])
     ensures { λ _. ⌜ now (bytes .exit) ≡ begunBytes dropped (now (bytes .entry)) ⌝ }
 {
     if dropped {
         clear(bytes);
     }
+}
+
+fn clear(bytes: &mut [u8; 4096])
+    ensures { λ _. ⌜ now (bytes .exit) ≡ zeros ⌝ }
+{
+    *bytes = [0; 4096];
 }

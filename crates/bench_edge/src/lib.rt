@@ -17,8 +17,7 @@ ghost use Rattle.exchange.specs.Collected.{before, collected};
 ghost use Rattle.bench_edge.specs.Bench.{command, completeLength, fragmentsLength, partCount};
 
 // Feeds a stream in parts of `size` bytes; the length of the message that the last one completes, or
-// 0. (Its arguments fill the six registers of a C call; a slice that is split between registers and
-// the stack would not arrive.)
+// 0.
 #[no_mangle]
 pub extern "C" fn bench_collect(
     stream: &[u8],

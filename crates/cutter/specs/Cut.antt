@@ -71,8 +71,11 @@ joined (p ∷ ps) = p ++ joined ps
 
 -- ---- rules: "it judges 16, type 3, transaction (9 at 8 ..), command type 9 at 40, 5, 11"
 
+abbrev pub leastTransfer : ℕ
+leastTransfer = 64
+
 unfoldable pub wrongSize : ℕ → Bool
-wrongSize size = ltb size 64 || ltb mostTransfer size
+wrongSize size = ltb size leastTransfer || ltb mostTransfer size
 
 -- "0 for COMMAND or DONE, nonzero for INDICATE"
 unfoldable pub wrongTransaction : MessageHeader → Bool

@@ -7,7 +7,7 @@ use native.Mathlib.Omega.{arith}
 use lib.ListN.{length, take, drop, length-drop}
 use lib.Seq.{drop-drop}
 use Rattle.wire.specs.Runs.{over}
-use Rattle.assembler.specs.Assembly.{assembly, inPlace, stepOf}
+use Rattle.assembler.specs.Assembly.{assemblyOf, inPlace, stepOf}
 use Rattle.assembler.specs.declared.FedInPlace.{FedInPlace}
 use Rattle.cutter.proofs.Later.{cut-take, cut-drop}
 use Rattle.exchange.specs.Messages.{parts}
@@ -15,7 +15,7 @@ use Rattle.exchange.specs.Collected.{Collected, after, collected}
 
 -- what a loop has come to
 abbrev pub now : FedInPlace → List ℕ → List ℕ → Collected
-now f bytes out = record { assembly = assembly (f .progress) bytes; answer = f .answer; output = out }
+now f bytes out = record { assembly = assemblyOf (f .progress) bytes; answer = f .answer; output = out }
 
 next : (c : Collected) (size count k : ℕ) (s : List ℕ) → k < count
     → collected c (parts (count - k) size s) ≡ collected (after c (take size s)) (parts (count - (k + 1)) size (drop size s))
@@ -31,9 +31,9 @@ module _ (start : Collected) (stream : List ℕ) (size count : ℕ) where
     pub same : length out ≡ length (start .output)
 
   pub turn : {f f′ : FedInPlace} {bytes bytes′ out out′ : List ℕ} {at k end : ℕ} → Going f bytes out at k → k < count → end ≡ at + min (length stream - at) size
-      → f′ ≡ inPlace (stepOf (assembly (f .progress) bytes) (take (end - at) (drop at stream)) (length out))
-      → bytes′ ≡ stepOf (assembly (f .progress) bytes) (take (end - at) (drop at stream)) (length out) .assembly .bytes
-      → out′ ≡ over (stepOf (assembly (f .progress) bytes) (take (end - at) (drop at stream)) (length out) .information) out
+      → f′ ≡ inPlace (stepOf (assemblyOf (f .progress) bytes) (take (end - at) (drop at stream)) (length out))
+      → bytes′ ≡ stepOf (assemblyOf (f .progress) bytes) (take (end - at) (drop at stream)) (length out) .assembly .bytes
+      → out′ ≡ over (stepOf (assemblyOf (f .progress) bytes) (take (end - at) (drop at stream)) (length out) .information) out
       → length out′ ≡ length out → Going f′ bytes′ out′ end (k + 1)
   turn {f} {f′} {bytes} {bytes′} {out} {out′} {at} {k} {end} g less ee ef eb eo el =
       let xs = drop at stream in

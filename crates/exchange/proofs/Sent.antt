@@ -15,7 +15,7 @@ use Rattle.protocol.specs.MessageType.{isFragmented}
 use Rattle.protocol.specs.Verdict.{judge, withRoom}
 use Rattle.protocol.specs.declared.Verdict.{Verdict}
 use Rattle.protocol.specs.declared.Verdict.the-variants.{Fits, Fault}
-use Rattle.protocol.proofs.Verdicts.{fits-kept, was-fit}
+use Rattle.protocol.proofs.Verdicts.{fits-kept, was-fit, has-room}
 use Rattle.message.specs.Message.{mostInformation, mostTransfer, firstLength, wrongWord}
 use Rattle.message.specs.declared.MessageHeader.{MessageHeader}
 use Rattle.message.proofs.Headers.{place-most}
@@ -34,6 +34,7 @@ pub record Sent (m : MessageHeader) (size : ℕ) (information out : List ℕ) (c
   pub high : size ≤ mostTransfer
   pub small : length information ≤ mostInformation
   pub counted : count ≡ 1 + laterCount (size - firstLength (m .«message_type»)) (size - 20) (length information)
+  pub room : n ≤ length out
   pub front : take n (cutOf m size information out .output) ≡ joined (fragmentsOf m size information)
 
 pub sent : (m : MessageHeader) (size : ℕ) (information out : List ℕ) (count n : ℕ) → cutOf m size information out .answer ≡ Fragments count n → Sent m size information out count n
@@ -56,6 +57,7 @@ sent m size information out count n = go (withRoom (judge (messageRules m size (
           high = z .1;
           small = ltb-false _ _ (k .1 .1 .1 .1 .0);
           counted = let c : length (fragmentsOf m size information) ≡ count = cc in sym c ∙ many m size information;
+          room = rw (← l) (has-room _ b out ev);
           front = rw ev (take-over b out n l);
         }
     go (Fault r) ev e = let z : _≡_ {A = ℕ} 0 1 = cc in absurd (omega arith)

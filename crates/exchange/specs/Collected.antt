@@ -4,7 +4,7 @@ use mathlib.Core.Bool.{false}
 use mathlib.Core.List.{List, [], _∷_}
 use lib.ListN.{length}
 use Rattle.wire.specs.Runs.{over}
-use Rattle.assembler.specs.Assembly.{stepOf, assembly}
+use Rattle.assembler.specs.Assembly.{stepOf, assemblyOf}
 use Rattle.assembler.specs.declared.Progress.{Progress}
 use Rattle.assembler.specs.declared.Assembly.{Assembly}
 use Rattle.assembler.specs.declared.FedInPlace.{FedInPlace}
@@ -19,7 +19,7 @@ pub record Collected : Type 0 where
 
 -- before any part
 abbrev pub before : Progress → List ℕ → List ℕ → Collected
-before p bytes out = record { assembly = assembly p bytes; answer = Pending false; output = out }
+before p bytes out = record { assembly = assemblyOf p bytes; answer = Pending false; output = out }
 
 -- after the part p
 abbrev pub after : Collected → List ℕ → Collected

@@ -1,4 +1,5 @@
 pub mod Messages
-pub mod Delivery
-pub mod Cases
 pub mod Collected
+pub mod Delivery
+pub mod Pass
+pub mod Cases

@@ -3,13 +3,14 @@
 use Prim.Native.Nat.{ℕ, zero, suc, _+_, _^_, _<_}
 use mathlib.Core.Bool.{Bool, false, cond}
 use mathlib.Core.List.{List, [], _∷_}
-use lib.Dec.{eqb}
+use lib.Dec.{eqb, ltb}
 use lib.ListN.{length, take, drop}
+use Rattle.protocol.specs.Refusal.{refusal, outputTooSmall}
 use Rattle.protocol.specs.MessageType.{INDICATE-STATUS}
 use Rattle.message.specs.declared.MessageHeader.{MessageHeader}
 use Rattle.assembler.specs.Assembly.{empty}
-use Rattle.assembler.specs.Run.{Piece, Run, andThen}
-use Rattle.assembler.specs.declared.Answer.the-variants.{Pending, Complete}
+use Rattle.assembler.specs.Run.{Piece, Seen, Run, andThen}
+use Rattle.assembler.specs.declared.Answer.the-variants.{Pending, Complete, Refused}
 
 -- each field is a 32-bit number, as in every value of the code's type
 pub record Fits32 (m : MessageHeader) : Type 0 where
@@ -42,8 +43,13 @@ unfoldable pub pieces : (ℕ → ℕ) → ℕ → List (List ℕ) → List Piece
 pieces room k [] = []
 pieces room k (p ∷ ps) = record { bytes = p; room = room k } ∷ pieces room (k + 1) ps
 
--- n pieces that wait, and then the whole message, which leaves the empty assembly; the first one says whether a message was dropped
-unfoldable pub received : MessageHeader → List ℕ → Bool → ℕ → Run
-received m information dropped zero =
-    record { seen = record { answer = Complete (carried m) (length information) dropped; information = information } ∷ []; end = empty }
-received m information dropped (suc n) = andThen (record { answer = Pending dropped; information = [] }) (received m information false n)
+-- what the last piece shows: the whole message, or 11 where the output has no room for the information
+abbrev pub lastSeen : MessageHeader → List ℕ → Bool → ℕ → Seen
+lastSeen m information dropped room =
+    cond (ltb room (length information)) (record { answer = Refused (refusal outputTooSmall (length information)); information = [] })
+    (record { answer = Complete (carried m) (length information) dropped; information = information })
+
+-- n pieces that wait, and then the last one, which leaves the empty assembly; the first one says whether a message was dropped
+unfoldable pub received : MessageHeader → List ℕ → Bool → ℕ → ℕ → Run
+received m information dropped room zero = record { seen = lastSeen m information dropped room ∷ []; end = empty }
+received m information dropped room (suc n) = andThen (record { answer = Pending dropped; information = [] }) (received m information false room n)

@@ -4,19 +4,43 @@ use assembler::Answer;
 use assembler::FedInPlace;
 use assembler::Progress;
 use assembler::feed_in_place;
+use cutter::Cutting;
+use cutter::cut;
 use message::MessageHeader;
 ghost use mathlib.Core.Path.{_≡_};
-ghost use mathlib.Core.Bool.{true};
 ghost use Prim.Native.Nat.{_+_, _-_, _≤_, min};
 ghost use lib.ListN.{length};
-ghost use Rattle.exchange.specs.Messages.{Fits32, parts};
+ghost use Rattle.exchange.specs.Messages.{parts};
+ghost use Rattle.cutter.specs.Cut.{cutOf};
+ghost use Rattle.exchange.specs.Pass.{passOf};
 ghost use Rattle.exchange.specs.Collected.{before, collected, told};
 
-// Every header that code holds has the 32-bit fields that specs/Delivery asks for.
-pub fn is_real(message: MessageHeader) -> bool
-    ensures { λ r. ⌜ (r ≡ true) × Fits32 message ⌝ }
+// Cuts a message into `stream` and feeds it from there, part by part, to an empty assembly whose
+// buffer is `bytes`: what comes out is what went in.
+pub fn pass(
+    message: MessageHeader,
+    size: usize,
+    information: &[u8],
+    stream: &mut [u8],
+    bytes: &mut [u8; 4096],
+    out: &mut [u8],
+) -> Answer
+    ensures { λ r. ⌜ r ≡ passOf message size (now (information .entry)) (now (stream .entry)) (now (bytes .entry)) (now (out .entry)) .answer ⌝ }
+    ensures { λ _. ⌜ now (stream .exit) ≡ cutOf message size (now (information .entry)) (now (stream .entry)) .output ⌝ }
+    ensures { λ _. ⌜ now (bytes .exit) ≡ passOf message size (now (information .entry)) (now (stream .entry)) (now (bytes .entry)) (now (out .entry)) .bytes ⌝ }
+    ensures { λ _. ⌜ now (out .exit) ≡ passOf message size (now (information .entry)) (now (stream .entry)) (now (bytes .entry)) (now (out .entry)) .output ⌝ }
 {
-    true
+    match cut(message, size, information, stream) {
+        Cutting::Refused(refusal) => Answer::Refused(refusal),
+        Cutting::Fragments { count, length } => {
+            *bytes = [0; 4096];
+            let none = Progress::none();
+            let parts = count as usize;
+            let fed = feed_parts(none, bytes, &stream[..length], size, parts, out);
+            let answer = fed.answer;
+            answer
+        }
+    }
 }
 
 // Feeds a stream in `count` parts, each of `size` bytes but the last, which has what is left. What is

@@ -29,6 +29,10 @@ mostInformation = 4096
 abbrev pub mostTransfer : ℕ
 mostTransfer = 4096
 
+-- the most fragments of a message
+abbrev pub mostFragments : ℕ
+mostFragments = 128
+
 -- ---- whole messages
 
 -- "exact length": CLOSE has 12 bytes, each other one 16
@@ -57,7 +61,7 @@ headerAt s = record { «message_type» = u32At s 0; transaction = u32At s 8; tot
 
 -- "total is 1 to 128"
 unfoldable pub wrongTotal : ℕ → Bool
-wrongTotal total = eqb total 0 || ltb 128 total
+wrongTotal total = eqb total 0 || ltb mostFragments total
 
 abbrev pub fragmentRules : List ℕ → List Rule
 fragmentRules s =

@@ -23,8 +23,10 @@ ghost use mathlib.Core.Path.{_≡_};
 ghost use Prim.Native.Nat.{_+_, _-_};
 ghost use Rattle.message.specs.Message.{wholeLength, wholeOf, lengthPlace, wrongTotal, fragmentOf, wordAt, messageAt, wrongWord, wrongAmount, firstHeaderOf};
 
-// The most bytes of a fragment.
+// The most bytes of a fragment, and the most fragments of a message.
 pub const MOST_TRANSFER: usize = 4096;
+
+pub const MOST_FRAGMENTS: u32 = 128;
 
 // What a whole message's header says.
 pub enum Whole {
@@ -191,7 +193,7 @@ fn is_wrong_total(total: u32) -> bool
     if total == 0 {
         return true;
     }
-    128 < total
+    MOST_FRAGMENTS < total
 }
 
 fn word_at(message_type: u32, s: &[u8]) -> u32
