@@ -1,0 +1,2 @@
+// What the writer of DEVICE_SERVICES gives, its reader and the questions show again. Definitions
+// and theorems only; no code.
