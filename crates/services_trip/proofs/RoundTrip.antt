@@ -8,15 +8,16 @@ use native.Mathlib.Nat.{add-zero}
 use native.Mathlib.Omega.{arith}
 use borrow.Author.Tests.{ltb-true}
 use lib.Dec.{ltb, eqb}
-use lib.ListN.{getD, take}
+use lib.ListN.{length, getD, take}
 use Rattle.wire.specs.Numbers.{u32At}
 use Rattle.wire.proofs.Laws.{num-digits}
 use Rattle.protocol.specs.Service.{idAt, idBytes}
+use Rattle.protocol.specs.Verdict.{withRoom, writing}
 use Rattle.protocol.specs.declared.Verdict.the-variants.{Fits}
 use Rattle.protocol.specs.declared.Written.the-variants.{Length}
 use Rattle.protocol.specs.declared.service.ServiceId.{ServiceId}
-use Rattle.protocol.proofs.Verdicts.{written-fits, written-front}
-use Rattle.below.specs.Below.{joined, sumOf}
+use Rattle.protocol.proofs.Verdicts.{has-room, told-length, written-fits, written-front}
+use Rattle.below.specs.Below.{anyOf, joined, sumOf}
 use Rattle.below.specs.Stands.{Stands}
 use Rattle.below.proofs.Laws.{any-same, index-same, list-same, list-take}
 use Rattle.below.proofs.Standing.{whole, left, right, part, inside, word}
@@ -25,8 +26,8 @@ use Rattle.device_services.specs.DeviceServices.{headAt, pairPlace, fixedPart, 
 use Rattle.device_services.specs.Claims.{ElementFits}
 use Rattle.device_services.proofs.Acceptance.{said-list}
 use Rattle.services_query.specs.declared.ElementAnswer.the-variants.{NotListed}
+use Rattle.services_query.specs.declared.ListedAnswer.the-variants.{Listed, NotListed as IsNotListed}
 use Rattle.services_query.specs.ServicesQuery.{isOf, isCid, hasCid, holds, plain, elementShown, chosenShown, elementOf as shownOf, cidsOf, listedOf}
-use Rattle.services_writer.specs.declared.ServiceElement.{ServiceElement}
 use Rattle.services_writer.specs.declared.ServiceList.{ServiceList}
 use Rattle.services_writer.specs.ServicesWriter.{elementOf, sizeOf, startOf, lengthOf, writtenVerdict, fieldBytes, cidPiece, cidBytes, elementBytes, headBytes, pairBytes, piece, bytesOf, writeOf}
 use Rattle.services_writer.proofs.Laws.{length-fields, length-cids, length-pairs, length-pieces, length-bytes, start-within, Fitting, fitting, size-within}
@@ -193,3 +194,20 @@ pub round-trip : (p : ServiceList) (s : List ℕ) (n : ℕ) → Sized p → writ
 unfolding writeOf
 round-trip p s n z e =
     rw (written-front (writtenVerdict p) (bytesOf p) s n e) (bytes-read p z (written-fits (writtenVerdict p) (bytesOf p) s n e))
+
+-- what is written has room
+pub written-within : (p : ServiceList) (s : List ℕ) (n : ℕ) → writeOf p s .answer ≡ Length n → n ≤ length s
+unfolding writeOf writing
+written-within p s n e =
+    let t = told-length (withRoom (writtenVerdict p) (bytesOf p) s) (bytesOf p) s n e in
+    omega (arith, t .1, has-room (writtenVerdict p) (bytesOf p) s (t .0))
+
+-- and its count fits
+pub written-few : (p : ServiceList) (s : List ℕ) (n : ℕ) → writeOf p s .answer ≡ Length n → p .«device_services_count» ≤ 32
+unfolding writeOf
+written-few p s n e = fitting p (written-fits (writtenVerdict p) (bytesOf p) s n e) .few
+
+-- what is listed in an output t as the writer leaves it
+pub listed-written : (p : ServiceList) (s t : List ℕ) (n : ℕ) (service : ServiceId) (cid : ℕ) → Sized p → writeOf p s .answer ≡ Length n → t ≡ writeOf p s .output
+    → listedOf (take n t) service cid ≡ cond (anyOf (holdsIn p service cid) (p .«device_services_count»)) Listed IsNotListed
+listed-written p s t n service cid z e q = rw q (round-trip p s n z e .listed service cid)

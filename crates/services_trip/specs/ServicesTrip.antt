@@ -1,5 +1,5 @@
 -- What a record of a services list says, in the words of the reader's answers, and what it means that bytes return the record.
--- In this order: the record asked; the bytes that return it; the width of each number.
+-- In this order: the record asked; the bytes that return it; a record written and asked; the width of each number.
 use Prim.Native.Nat.{ℕ, _*_, _<_, _^_}
 use mathlib.Core.Path.{_≡_}
 use mathlib.Core.Bool.{Bool, cond, _&&_}
@@ -9,6 +9,8 @@ use lib.ListN.{length, getD, take}
 use Rattle.wire.specs.Runs.{over}
 use Rattle.protocol.specs.Refusal.{refusal, outputTooSmall}
 use Rattle.protocol.specs.Service.{sameId}
+use Rattle.protocol.specs.declared.Written.{Written}
+use Rattle.protocol.specs.declared.Written.the-variants.{Length, Refused as NotWritten}
 use Rattle.protocol.specs.declared.service.ServiceId.{ServiceId}
 use Rattle.below.specs.Below.{anyOf, firstIndex}
 use Rattle.device_services.specs.declared.DeviceServices.{DeviceServices}
@@ -16,11 +18,12 @@ use Rattle.device_services.specs.declared.DeviceService.{DeviceService}
 use Rattle.device_services.specs.declared.DeviceServicesRead.the-variants.{Info}
 use Rattle.device_services.specs.DeviceServices.{readOf}
 use Rattle.services_query.specs.declared.ElementAnswer.the-variants.{Listed, NotListed, Refused}
-use Rattle.services_query.specs.declared.ListedAnswer.the-variants.{Listed as IsListed, NotListed as IsNotListed}
+use Rattle.services_query.specs.declared.ListedAnswer.{ListedAnswer}
+use Rattle.services_query.specs.declared.ListedAnswer.the-variants.{Listed as IsListed, NotListed as IsNotListed, Refused as IsRefused}
 use Rattle.services_query.specs.ServicesQuery.{Shown, plain, elementOf as shownOf, cidsOf, listedOf}
 use Rattle.services_writer.specs.declared.ServiceElement.{ServiceElement}
 use Rattle.services_writer.specs.declared.ServiceList.{ServiceList}
-use Rattle.services_writer.specs.ServicesWriter.{elementOf}
+use Rattle.services_writer.specs.ServicesWriter.{elementOf, writeOf}
 
 -- ---- the record asked
 
@@ -56,6 +59,15 @@ pub record Returned (p : ServiceList) (s : List ℕ) : Type 0 where
   pub element : (i : ℕ) (out : List ℕ) → shownOf s i out ≡ chosenIn p i out
   pub service : (service : ServiceId) (out : List ℕ) → cidsOf s service out ≡ chosenIn p (firstIndex (servesIn p service) (p .«device_services_count»)) out
   pub listed : (service : ServiceId) (cid : ℕ) → listedOf s service cid ≡ cond (anyOf (holdsIn p service cid) (p .«device_services_count»)) IsListed IsNotListed
+
+-- ---- written and asked: the writer's refusal, or whether the record holds both
+
+abbrev pub asked : Written → Bool → ListedAnswer
+asked (Length n) any = cond any IsListed IsNotListed
+asked (NotWritten r) any = IsRefused r
+
+unfoldable pub askedOf : ServiceList → ServiceId → ℕ → List ℕ → ListedAnswer
+askedOf p service cid s = asked (writeOf p s .answer) (anyOf (holdsIn p service cid) (p .«device_services_count»))
 
 -- ---- each number is of its width, and each array of its length
 

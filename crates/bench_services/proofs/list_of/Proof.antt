@@ -1,5 +1,4 @@
 -- The fields as they stand, and equal elements.
-use borrow.Author.Needs.{needs}
 use mathlib.Core.Path.{refl}
 use Rattle.bench_services.specs.Bench.{listOf}
 use Rattle.bench_services.proofs.list_of.Statement.{statement}
