@@ -2,14 +2,14 @@
 -- Assumes nothing.
 use mathlib.Core.Path.{_≡_, refl, sym, ap, _∙_}
 use mathlib.Core.Logic.{_⊎_, inl, inr, ⊎-elim}
-use mathlib.Core.Bool.{Bool, true, false, cond, _||_}
+use mathlib.Core.Bool.{Bool, true, false, _||_}
 use mathlib.Core.List.{List, [], _∷_, _++_, append-assoc, append-nil}
 use Prim.Native.Nat.{ℕ, zero, suc, _+_, _*_, _≤_, _<_}
 use native.Mathlib.Nat.{eq-or-lt-of-le, zero-add, mul-zero, mul-suc}
 use native.Mathlib.Numerals.{add-one}
 use native.Mathlib.Omega.{arith}
-use lib.ListN.{length, length-append, getD, set}
-use lib.Seq.{sets, getD-append-add}
+use lib.ListN.{length, length-append, getD, set, take}
+use lib.Seq.{sets, getD-append-add, take-suc}
 use Rattle.wire.proofs.Laws.{sets-append}
 use Rattle.protocol.specs.Verdict.{firstOf}
 use Rattle.protocol.specs.declared.Refusal.{Refusal}
@@ -163,6 +163,12 @@ module _ {A : Type 0} (f : ℕ → A) where
       let s : (listOf f n ++ (f n ∷ [])) ++ rest ≡ listOf f n ++ (f n ∷ rest) = append-assoc (listOf f n) (f n ∷ []) rest in
       let here : getD (listOf f n ++ (f n ∷ rest)) (length (listOf f n) + 0) d ≡ f n = getD-append-add (listOf f n) (f n ∷ rest) 0 d in
       rw s (last i n h (λ l. list-at d (f n ∷ rest) n i l) (λ l. ap (λ (k : ℕ). getD (listOf f n ++ (f n ∷ rest)) k d) (omega arith) ∙ here ∙ ap f (sym l)))
+
+-- the front of a list of numbers
+pub list-take : (xs : List ℕ) (n : ℕ) → n ≤ length xs → listOf (λ k. getD xs k 0) n ≡ take n xs
+unfolding listOf
+list-take xs zero h = refl
+list-take xs (suc n) h = rw (list-take xs n (omega arith), take-suc xs n 0 h)
 
 -- one number more is stored
 pub list-next : (f : ℕ → ℕ) (i : ℕ) (s : List ℕ) {s₁ s₂ : List ℕ} {v : ℕ} → s₁ ≡ sets s 0 (listOf f i) → v ≡ f i → s₂ ≡ set s₁ i v

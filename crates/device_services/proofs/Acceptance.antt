@@ -1,9 +1,9 @@
 -- A list is accepted exactly when it meets the rules in words of fields, and then the numbers shown are those at their places.
 -- Assumes nothing.
 use mathlib.Core.Path.{_≡_, refl, sym}
-use mathlib.Core.Logic.{_↔_, inl, inr, ⊎-elim}
+use mathlib.Core.Logic.{_↔_, inr, ⊎-elim}
 use mathlib.Core.List.{List, [], _∷_}
-use Prim.Native.Nat.{ℕ, _+_, _*_, _≤_, _<_}
+use Prim.Native.Nat.{ℕ, _+_, _*_, _≤_}
 use native.Mathlib.Omega.{arith}
 use borrow.Author.Tests.{ltb-false, le-ltb}
 use lib.Dec.{ltb}
@@ -16,7 +16,7 @@ use Rattle.protocol.proofs.Tests.{equal-kept, kept-equal}
 use Rattle.protocol.proofs.Verdicts.{left-fits, right-fits, fits-kept, kept-fits, kept-then, open-length, length-open}
 use Rattle.below.proofs.Laws.{fits-each, each-fits}
 use Rattle.pairs.specs.Pair.{verdictOf as pairVerdict}
-use Rattle.pairs.specs.Claims.{Absent, Inside, PairFits}
+use Rattle.pairs.specs.Claims.{Inside, PairFits}
 use Rattle.pairs.specs.declared.PairKind.the-variants.{List as ListKind}
 use Rattle.pairs.proofs.Laws.{fits-said, said-fits}
 use Rattle.device_services.specs.declared.DeviceServices.{DeviceServices}

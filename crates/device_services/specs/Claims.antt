@@ -3,7 +3,6 @@ use Prim.Native.Nat.{ℕ, _+_, _*_, _%_, _≤_, _<_}
 use mathlib.Core.Path.{_≡_}
 use mathlib.Core.List.{List}
 use lib.ListN.{length}
-use Rattle.pairs.specs.declared.Range.{Range}
 use Rattle.device_services.specs.DeviceServices.{countOf, fixedPart, pairOf, cidCountAt}
 
 -- element i: at most 128 CIDs, a size that is theirs, and its bytes behind the pairs, at a multiple of 4, and inside the payload

@@ -86,6 +86,21 @@ pub fn judge_list(payload: &[u8]) -> Verdict
     }
 }
 
+// The verdict on a payload of n bytes with a count.
+pub fn judge_length(n: usize, count: u32) -> Verdict
+    ensures { λ r. ⌜ r ≡ lengthVerdict n count ⌝ }
+{
+    let begun = also(Verdict::Fits, n < PAIRS as usize, TOO_SHORT, n);
+    let counted = also(
+        begun,
+        MOST_SERVICES < count,
+        WRONG_COUNT,
+        DEVICE_SERVICES_COUNT,
+    );
+    let whole = judge_open_length(pair_place(count), n);
+    first(counted, whole)
+}
+
 // The verdict on one pair and its element, whatever the others are; `fixed` is the list's fixed part.
 pub fn judge_element(payload: &[u8], fixed: u32, number: u32) -> Verdict
     ensures { λ r. ⌜ r ≡ elementVerdict (now (payload .entry)) fixed number ⌝ }
@@ -175,21 +190,6 @@ pub fn pair_place(number: u32) -> usize
     ensures { λ r. ⌜ r ≡ pairPlace number ⌝ }
 {
     PAIRS as usize + PAIR_SIZE as usize * number as usize
-}
-
-// The verdict on a payload of n bytes with a count.
-fn judge_length(n: usize, count: u32) -> Verdict
-    ensures { λ r. ⌜ r ≡ lengthVerdict n count ⌝ }
-{
-    let begun = also(Verdict::Fits, n < PAIRS as usize, TOO_SHORT, n);
-    let counted = also(
-        begun,
-        MOST_SERVICES < count,
-        WRONG_COUNT,
-        DEVICE_SERVICES_COUNT,
-    );
-    let whole = judge_open_length(pair_place(count), n);
-    first(counted, whole)
 }
 
 // Each pair with its element, up to the first fault.

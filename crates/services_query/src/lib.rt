@@ -15,7 +15,7 @@ use protocol::service::is_same_id;
 ghost use mathlib.Core.Path.{_≡_};
 ghost use mathlib.Core.Bool.{_&&_};
 ghost use Prim.Native.Nat.{_≤_};
-ghost use lib.ListN.{length, set};
+ghost use lib.ListN.{length};
 ghost use lib.Seq.{sets};
 ghost use Rattle.below.specs.Below.{anyOf, firstIndex, listOf};
 ghost use Rattle.device_services.specs.DeviceServices.{offsetOf, cidAt};

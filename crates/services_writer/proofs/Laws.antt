@@ -1,21 +1,24 @@
--- The bytes of a record: how many they are, one piece more stored, and what a record that fits says of its numbers.
+-- The bytes of a record: how many they are, one piece more stored, and what is said by a record that fits and one that does not.
 -- Assumes nothing.
 use mathlib.Core.Path.{_≡_, refl, sym, ap, _∙_}
+use mathlib.Core.Bool.{true}
 use mathlib.Core.List.{List, _++_}
 use Prim.Native.Nat.{ℕ, _+_, _*_, _≤_, _<_}
 use native.Mathlib.Omega.{arith}
-use borrow.Author.Tests.{ltb-false}
+use borrow.Author.Tests.{ltb-false, lt-ltb, le-ltb}
+use lib.Dec.{ltb}
 use lib.ListN.{length, length-append, getD}
 use lib.Seq.{sets}
 use Rattle.wire.specs.Numbers.{digits}
 use Rattle.wire.proofs.Laws.{sets-then}
-use Rattle.protocol.specs.Refusal.{tooLong, wrongSize, wrongCount}
+use Rattle.protocol.specs.Refusal.{refusal, tooLong, wrongSize, wrongCount}
 use Rattle.protocol.specs.Service.{idBytes}
-use Rattle.protocol.specs.declared.Verdict.the-variants.{Fits}
+use Rattle.protocol.specs.Verdict.{faultIf, firstOf}
+use Rattle.protocol.specs.declared.Verdict.the-variants.{Fits, Fault}
 use Rattle.protocol.proofs.Services.{length-id}
 use Rattle.protocol.proofs.Verdicts.{left-fits, right-fits, not-broken}
 use Rattle.below.specs.Below.{firstFault, joined, sumOf}
-use Rattle.below.proofs.Laws.{fits-each, join-next, length-joined, joined-sum, sum-next, sum-within}
+use Rattle.below.proofs.Laws.{fits-each, fault-at, join-next, length-joined, joined-sum, sum-next, sum-within}
 use Rattle.pairs.specs.Pair.{range, rangeBytes}
 use Rattle.device_services.specs.declared.DeviceService.{DeviceService}
 use Rattle.device_services.specs.DeviceServices.{pairPlace, fixedPart}
@@ -132,3 +135,18 @@ module _ (p : ServiceList) where
 
   pub size-within : (n i : ℕ) → firstFault (sizeVerdict p) n ≡ Fits → i < n → sizeOf p i ≤ 540
   size-within n i e h = ltb-false 540 (sizeOf p i) (not-broken _ wrongSize (pairPlace i) (fits-each (sizeVerdict p) n e i h))
+
+  -- ---- a record that does not
+
+  -- 33 elements are 15 at the count
+  pub too-many : 32 < p .«device_services_count» → writtenVerdict p ≡ Fault (refusal wrongCount 0)
+  unfolding writtenVerdict firstOf faultIf
+  too-many h = rw (lt-ltb 32 (p .«device_services_count») h)
+
+  -- 129 CIDs are 8 at the pair's offset field, where those before fit
+  pub too-large : (i : ℕ) → p .«device_services_count» ≤ 32 → i < p .«device_services_count» → firstFault (sizeVerdict p) i ≡ Fits
+      → 128 < elementOf p i .fields .«cid_count» → writtenVerdict p ≡ Fault (refusal wrongSize (pairPlace i))
+  unfolding writtenVerdict firstOf faultIf
+  too-large i c l e h =
+      let over : ltb 540 (sizeOf p i) ≡ true = lt-ltb 540 (sizeOf p i) (omega arith) in
+      rw (le-ltb 32 (p .«device_services_count») c, fault-at (sizeVerdict p) (p .«device_services_count») i (refusal wrongSize (pairPlace i)) e l (rw over))

@@ -30,7 +30,7 @@ ghost use lib.Seq.{sets};
 ghost use Rattle.below.specs.Below.{firstFault, joined};
 ghost use Rattle.protocol.specs.declared.Verdict.the-variants.{Fits};
 ghost use Rattle.device_services.specs.DeviceServices.{fixedPart};
-ghost use Rattle.services_writer.specs.ServicesWriter.{sizeOf, lengthOf, sizeVerdict, writtenVerdict, fieldBytes, cidBytes, elementBytes, headBytes, pairBytes, piece, bytesOf, writeOf};
+ghost use Rattle.services_writer.specs.ServicesWriter.{lengthOf, sizeVerdict, writtenVerdict, fieldBytes, cidBytes, elementBytes, pairBytes, piece, bytesOf, writeOf};
 
 // An element with its CIDs, of which the first `cid_count` count.
 pub struct ServiceElement {

@@ -1,7 +1,7 @@
 -- The invariant: each element passed fits. A fault found is then the first.
 use borrow.Author.Needs.{needs}
 use mathlib.Core.Path.{_≡_, refl, sym, ap, _∙_}
-use Prim.Native.Nat.{ℕ, _≤_, _-_}
+use Prim.Native.Nat.{_≤_, _-_}
 use native.Mathlib.Nat.{le-antisymm}
 use Rattle.protocol.specs.declared.Verdict.the-variants.{Fits}
 use Rattle.below.specs.Below.{firstFault}

@@ -1,6 +1,6 @@
 -- The length is judged, then pair by pair; a length that fits has a count of at most 32.
 use borrow.Author.Needs.{needs}
-use mathlib.Core.Path.{_≡_, sym, _∙_}
+use mathlib.Core.Path.{sym, _∙_}
 use native.Mathlib.Omega.{arith}
 use Rattle.protocol.specs.Verdict.{firstOf}
 use Rattle.device_services.specs.DeviceServices.{verdictOf}

@@ -1,8 +1,8 @@
 -- The invariant: nothing is found yet, or the first element of the service; what is found ends the loop.
 use borrow.Author.Needs.{needs}
-use mathlib.Core.Path.{_≡_, refl, sym, _∙_}
+use mathlib.Core.Path.{refl, sym, _∙_}
 use mathlib.Core.Logic.{inl, ⊎-elim}
-use Prim.Native.Nat.{ℕ, _≤_, _-_}
+use Prim.Native.Nat.{_≤_, _-_}
 use native.Mathlib.Omega.{arith}
 use Rattle.below.specs.Below.{anyOf}
 use Rattle.below.proofs.Laws.{Sought, sought-hit, sought-miss, sought-end}

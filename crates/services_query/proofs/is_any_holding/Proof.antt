@@ -1,8 +1,8 @@
 -- The invariant: no element passed holds both.
 use borrow.Author.Needs.{needs}
 use mathlib.Core.Path.{_≡_, refl, sym, ap, _∙_}
-use mathlib.Core.Bool.{Bool, false, _&&_}
-use Prim.Native.Nat.{ℕ, _≤_, _-_}
+use mathlib.Core.Bool.{false}
+use Prim.Native.Nat.{_≤_, _-_}
 use native.Mathlib.Nat.{le-antisymm}
 use Rattle.below.specs.Below.{anyOf}
 use Rattle.below.proofs.Laws.{none-next, any-at}

@@ -1,6 +1,6 @@
 -- The count is judged, then the sizes, then the length.
 use borrow.Author.Needs.{needs}
-use mathlib.Core.Path.{_≡_, sym, _∙_}
+use mathlib.Core.Path.{sym, _∙_}
 use borrow.Author.Tests.{lt-ltb, le-ltb}
 use Rattle.protocol.specs.Verdict.{faultIf, firstOf}
 use Rattle.services_writer.specs.ServicesWriter.{writtenVerdict}

@@ -1,6 +1,6 @@
 -- The record is judged first; what fits is written.
 use borrow.Author.Needs.{needs}
-use mathlib.Core.Path.{_≡_, refl, sym, _∙_}
+use mathlib.Core.Path.{refl, sym, _∙_}
 use Rattle.protocol.specs.Verdict.{firstOf, given, withRoom, writing}
 use Rattle.services_writer.specs.ServicesWriter.{writeOf}
 use Rattle.services_writer.proofs.write.Statement.{statement}

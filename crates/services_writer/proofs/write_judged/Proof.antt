@@ -1,6 +1,6 @@
 -- The room is judged, and the bytes are stored: a writing.
 use borrow.Author.Needs.{needs}
-use mathlib.Core.Path.{_≡_, sym, _∙_}
+use mathlib.Core.Path.{sym, _∙_}
 use borrow.Author.Tests.{lt-ltb, le-ltb}
 use Rattle.protocol.specs.Verdict.{faultIf, firstOf}
 use Rattle.protocol.proofs.Verdicts.{wrote, refused}
