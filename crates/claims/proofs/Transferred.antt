@@ -1,0 +1,25 @@
+-- Every record that its writer accepts is carried whole: cut, fed after anything, shown and read back.
+-- Assumes nothing.
+use mathlib.Core.List.{List}
+use Prim.Native.Nat.{ℕ}
+use lib.ListN.{length, take}
+use Rattle.cutter.specs.Cut.{fragmentsOf, joined}
+use Rattle.exchange.proofs.Delivered.{delivered}
+use Rattle.claims.specs.Transfer.{writeOf, Transferred, EveryRecord}
+use Rattle.claims.proofs.Accepts.{accepts, shows, real}
+use Rattle.claims.proofs.Back.{reads-back, few}
+
+pub every-record : EveryRecord
+every-record r z out n e m c size low high stream room earlier rooms =
+    let s = take n (writeOf r out .output) in
+    let k = length (fragmentsOf m size s) in
+    let l = length (joined (fragmentsOf m size s)) in
+    let a = accepts m size s stream (c .way) low high (few r z out n e) room in
+    record {
+      count = k;
+      long = l;
+      cut = a;
+      run = delivered m size s stream k l (record { real = real r m c; accepted = a }) rooms earlier;
+      shown = shows r m c;
+      back = reads-back r z out n e;
+    }

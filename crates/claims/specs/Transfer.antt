@@ -1,0 +1,170 @@
+-- Demand 3: any record, in a reply or an indication, cut at any transfer size, fed after whatever came before, completes and reads back at its version;
+-- at the other version it shows the same fields or is refused.
+-- In this order: the records; the messages that carry them; what is read back; the claim. Proved in proofs/Transferred.
+use Prim.Native.Nat.{ℕ, _-_, _≤_, _<_, _^_}
+use mathlib.Core.Path.{_≡_}
+use mathlib.Core.Logic.{_⊎_}
+use mathlib.Core.List.{List, _++_}
+use lib.ListN.{length, take}
+use Rattle.protocol.specs.Refusal.{refusal, tooShort, wrongLength}
+use Rattle.protocol.specs.Verdict.{Writing}
+use Rattle.protocol.specs.MessageType.{COMMAND-DONE, INDICATE-STATUS}
+use Rattle.protocol.specs.Service.{basicConnect, extensions, idAt}
+use Rattle.protocol.specs.declared.Version.{Version}
+use Rattle.protocol.specs.declared.Version.the-variants.{V1, V2}
+use Rattle.protocol.specs.declared.Written.the-variants.{Length}
+use Rattle.protocol.specs.declared.service.ServiceId.{ServiceId}
+use Rattle.protocol.specs.declared.service.Kind.{Kind}
+use Rattle.protocol.specs.declared.service.Kind.the-variants as kinds
+use Rattle.pairs.specs.Claims.{shownIn}
+use Rattle.packet_service.specs.PacketService as packet
+use Rattle.packet_service.specs.Claims.{Sized as PacketSized}
+use Rattle.packet_service.specs.declared.PacketService.{PacketService}
+use Rattle.packet_service.specs.declared.PacketServiceRead.the-variants as packetRead
+use Rattle.version_info.specs.VersionInfo as version
+use Rattle.version_info.specs.declared.VersionInfo.{VersionInfo}
+use Rattle.version_info.specs.declared.VersionInfoRead.the-variants as versionRead
+use Rattle.registration.specs.Registration as registration
+use Rattle.registration.specs.Claims.{Returned, shownEarlier, refusedLater}
+use Rattle.registration.specs.Claims.{Sized as RegistrationSized}
+use Rattle.registration.specs.declared.Registration.{Registration}
+use Rattle.registration.specs.declared.RegistrationTexts.{RegistrationTexts}
+use Rattle.registration.specs.declared.RegistrationRead.the-variants as registrationRead
+use Rattle.signal_state.specs.SignalState as signal
+use Rattle.signal_state.specs.Claims.{keptIn, EntriesSized}
+use Rattle.signal_state.specs.Claims.{Sized as SignalSized}
+use Rattle.signal_state.specs.declared.RsrpSnr.{RsrpSnr}
+use Rattle.signal_state.specs.declared.SignalState.{SignalState}
+use Rattle.signal_state.specs.declared.SignalStateRead.the-variants as signalRead
+use Rattle.services_writer.specs.ServicesWriter as services
+use Rattle.services_writer.specs.declared.ServiceList.{ServiceList}
+use Rattle.services_trip.specs.ServicesTrip.{Returned as ServicesReturned, Sized as ServicesSized}
+use Rattle.message.specs.declared.MessageHeader.{MessageHeader}
+use Rattle.cutter.specs.Cut.{fragmentsOf, joined, cutOf}
+use Rattle.cutter.specs.declared.Cutting.the-variants.{Fragments}
+use Rattle.assembler.specs.Assembly.{empty, isPending}
+use Rattle.assembler.specs.Run.{Piece, runOf}
+use Rattle.payload.specs.Payload.{shownOf}
+use Rattle.payload.specs.declared.Shown.the-variants.{Payload}
+use Rattle.exchange.specs.Messages.{carried, parts, pieces, received}
+use Rattle.exchange.specs.Delivery.{thenRun}
+
+-- ---- the records: one of the five payloads, in either form, with its texts or its entries
+
+pub data Record : Type 0 where
+  registered : Registration → List ℕ → List ℕ → List ℕ → Record
+  attached : PacketService → Record
+  heard : SignalState → List RsrpSnr → Record
+  listed : ServiceList → Record
+  versioned : VersionInfo → Record
+
+-- what the payload's writer does with an output
+unfoldable pub writeOf : Record → List ℕ → Writing
+writeOf (registered p x y z) s = registration.writeOf p x y z s
+writeOf (attached p) s = packet.writeOf p s
+writeOf (heard p es) s = signal.writeOf p es s
+writeOf (listed p) s = services.writeOf p s
+writeOf (versioned i) s = version.writeOf i s
+
+-- each number is of its width, as in every value of the code's types
+unfoldable pub Real : Record → Type 0
+Real (registered p x y z) = RegistrationSized p
+Real (attached p) = PacketSized p
+Real (heard p es) = SignalSized p × EntriesSized es
+Real (listed p) = ServicesSized p
+Real (versioned i) = Unit
+
+-- ---- the messages that carry a record: its own service and CID, in a DONE of status 0 or an indication, with a permitted transaction
+
+unfoldable pub serviceOf : Record → ServiceId
+serviceOf (registered p x y z) = idAt basicConnect 0
+serviceOf (attached p) = idAt basicConnect 0
+serviceOf (heard p es) = idAt basicConnect 0
+serviceOf (listed p) = idAt basicConnect 0
+serviceOf (versioned i) = idAt extensions 0
+
+unfoldable pub cidOf : Record → ℕ
+cidOf (registered p x y z) = 9
+cidOf (attached p) = 10
+cidOf (heard p es) = 11
+cidOf (listed p) = 16
+cidOf (versioned i) = 15
+
+unfoldable pub kindOf : Record → Kind
+kindOf (registered p x y z) = kinds.RegisterState
+kindOf (attached p) = kinds.PacketService
+kindOf (heard p es) = kinds.SignalState
+kindOf (listed p) = kinds.DeviceServices
+kindOf (versioned i) = kinds.VersionInfo
+
+pub record Reply (m : MessageHeader) : Type 0 where
+  pub done : m .«message_type» ≡ COMMAND-DONE
+  pub success : m .word ≡ 0
+  pub numbered : 0 < m .transaction
+
+pub record Indication (m : MessageHeader) : Type 0 where
+  pub indicates : m .«message_type» ≡ INDICATE-STATUS
+  pub unnumbered : m .transaction ≡ 0
+
+pub record Carries (r : Record) (m : MessageHeader) : Type 0 where
+  pub service : m .service ≡ serviceOf r
+  pub cid : m .cid ≡ cidOf r
+  pub way : Reply m ⊎ Indication m
+  pub transaction32 : m .transaction < 2 ^ 32
+  pub word32 : m .word < 2 ^ 32
+
+-- ---- what is read back, by the version written at and the version read at
+
+-- the shared fields and the texts, or 9 at 12; and 6 or 1 the other way
+unfoldable pub RegisteredBack : Version → Version → Registration → List ℕ → List ℕ → List ℕ → List ℕ → Type 0
+RegisteredBack V1 V1 p x y z s = Returned p x y z s
+RegisteredBack V2 V2 p x y z s = Returned p x y z s
+RegisteredBack V2 V1 p x y z s =
+    (t : RegistrationTexts)
+    × ((registration.readOf V1 s ≡ shownEarlier p t)
+    × ((shownIn s (t .«provider_id») ≡ x) × ((shownIn s (t .«provider_name») ≡ y) × (shownIn s (t .«roaming_text») ≡ z))))
+RegisteredBack V1 V2 p x y z s = registration.readOf V2 s ≡ registrationRead.Refused (refusedLater (length x) (length y) (length z))
+
+-- the record, or 2 at 32, or 1 at 28
+unfoldable pub AttachedBack : Version → Version → PacketService → List ℕ → Type 0
+AttachedBack V1 V1 p s = packet.readOf V1 s ≡ packetRead.Info p
+AttachedBack V2 V2 p s = packet.readOf V2 s ≡ packetRead.Info p
+AttachedBack V2 V1 p s = packet.readOf V1 s ≡ packetRead.Refused (refusal wrongLength 32)
+AttachedBack V1 V2 p s = packet.readOf V2 s ≡ packetRead.Refused (refusal tooShort 28)
+
+-- the record and its entries, or 2 at the length, or 1 at 20
+unfoldable pub HeardBack : Version → Version → SignalState → List RsrpSnr → List ℕ → Type 0
+HeardBack V1 V1 p es s = signal.readOf V1 s ≡ record { answer = signalRead.Info p; entries = keptIn (p .form) es }
+HeardBack V2 V2 p es s = signal.readOf V2 s ≡ record { answer = signalRead.Info p; entries = keptIn (p .form) es }
+HeardBack V2 V1 p es s = signal.readOf V1 s ≡ signal.refused (refusal wrongLength (length s))
+HeardBack V1 V2 p es s = signal.readOf V2 s ≡ signal.refused (refusal tooShort 20)
+
+-- VERSION and DEVICE_SERVICES have one form at both versions
+unfoldable pub ReadsBack : Record → Version → List ℕ → Type 0
+ReadsBack (registered p x y z) v s = RegisteredBack (registration.versionOf p) v p x y z s
+ReadsBack (attached p) v s = AttachedBack (packet.versionOf p) v p s
+ReadsBack (heard p es) v s = HeardBack (signal.versionOf p) v p es s
+ReadsBack (listed p) v s = ServicesReturned p s
+ReadsBack (versioned i) v s = version.readOf s ≡ versionRead.Info i
+
+-- ---- the claim
+
+-- the message m with the information s, cut into a stream and fed behind earlier pieces
+pub record Transferred (r : Record) (m : MessageHeader) (size : ℕ) (s stream : List ℕ) (earlier : List Piece) (room : ℕ → ℕ) : Type 0 where
+  pub count : ℕ
+  pub long : ℕ
+  -- the cutter accepts
+  pub cut : cutOf m size s stream .answer ≡ Fragments count long
+  -- the last piece completes the message, where it has room, and leaves the empty assembly
+  pub run : runOf empty (earlier ++ pieces room 0 (parts count size (take long (cutOf m size s stream .output))))
+      ≡ thenRun (runOf empty earlier) (received m s (isPending (runOf empty earlier .end .progress)) (room (count - 1)) (count - 1))
+  -- the message shows the record's payload
+  pub shown : shownOf (carried m) ≡ Payload (kindOf r)
+  -- and at either version it reads back
+  pub back : (v : Version) → ReadsBack r v s
+
+-- any record that the writer accepts, any message that carries it, any permitted transfer size, a stream with room for the fragments, any earlier pieces
+abbrev pub EveryRecord : Type 0
+EveryRecord = (r : Record) → Real r → (out : List ℕ) (n : ℕ) → writeOf r out .answer ≡ Length n → (m : MessageHeader) → Carries r m → (size : ℕ) → 64 ≤ size → size ≤ 4096
+    → (stream : List ℕ) → length (joined (fragmentsOf m size (take n (writeOf r out .output)))) ≤ length stream → (earlier : List Piece) (room : ℕ → ℕ)
+    → Transferred r m size (take n (writeOf r out .output)) stream earlier room
