@@ -32,11 +32,12 @@ part {s} {at} f n i k l e h =
     let t : Stands s at (joined f i ++ (f i ++ p .rest)) = record { before = h .before; after = h .after; is = h .is ∙ ap (λ (x : List ℕ). h .before ++ (x ++ h .after)) (p .is); long = h .long } in
     left (f i) (p .rest) (right (joined f i) (f i ++ p .rest) k e t)
 
+-- a number is read from what stands there
+pub inside : {s : List ℕ} {at : ℕ} {x : List ℕ} (h : Stands s at x) (k : ℕ) → u32At s (at + k) ≡ u32At (x ++ h .after) k
+unfolding u32At
+inside {s} {at} {x} h k = (λ i. num 4 (h .is i) (sym (h .long) i + k)) ∙ num-skip 4 (h .before) (x ++ h .after) k
+
 -- a number of four bytes
 pub word : {s : List ℕ} {at : ℕ} (v : ℕ) → v < 2 ^ 32 → Stands s at (digits 4 v) → u32At s at ≡ v
 unfolding u32At
-word {s} {at} v b h =
-    (λ i. num 4 (h .is i) (sym (h .long) i))
-    ∙ ap (num 4 (h .before ++ (digits 4 v ++ h .after))) (sym (add-zero (length (h .before))))
-    ∙ num-skip 4 (h .before) (digits 4 v ++ h .after) 0
-    ∙ num-digits 4 v (h .after) b
+word {s} {at} v b h = ap (num 4 s) (sym (add-zero at)) ∙ inside h 0 ∙ num-digits 4 v (h .after) b

@@ -1,19 +1,45 @@
--- The bytes of an id, and the id read from them.
+-- The bytes of an id, the id read from them, and when two are the same.
 -- Assumes nothing.
 use mathlib.Core.Path.{_≡_, refl, ap, _∙_}
+use mathlib.Core.Bool.{true, _&&_}
 use mathlib.Core.List.{List, [], _∷_, _++_}
 use Prim.Native.Nat.{ℕ, _+_, _≤_}
 use native.Mathlib.Omega.{arith}
+use borrow.Author.Tests.{eqb-true, eq-eqb}
+use lib.Dec.{eqb}
 use lib.ListN.{length}
 use lib.Seq.{sets}
 use Rattle.wire.specs.Numbers.{u32At, digits}
 use Rattle.wire.proofs.Laws.{num-out, sets-then}
-use Rattle.protocol.specs.Service.{idAt, idBytes}
+use Rattle.protocol.specs.Service.{idAt, idBytes, sameId}
 use Rattle.protocol.specs.declared.service.ServiceId.{ServiceId}
+use Rattle.protocol.proofs.Tests.{and-both, both-and}
 
 pub length-id : (i : ServiceId) → length (idBytes i) ≡ 16
 unfolding idBytes
 length-id i = refl
+
+-- ids are the same exactly where they are equal
+pub same-said : (a b : ServiceId) → sameId a b ≡ true → a ≡ b
+unfolding sameId
+same-said a b e =
+    let k = and-both (eqb (a .word0) (b .word0)) _ e in
+    let l = and-both (eqb (a .word1) (b .word1)) _ (k .1) in
+    let m = and-both (eqb (a .word2) (b .word2)) _ (l .1) in
+    λ i. record {
+      word0 = eqb-true (a .word0) (b .word0) (k .0) i;
+      word1 = eqb-true (a .word1) (b .word1) (l .0) i;
+      word2 = eqb-true (a .word2) (b .word2) (m .0) i;
+      word3 = eqb-true (a .word3) (b .word3) (m .1) i;
+    }
+
+pub said-same : (a b : ServiceId) → a ≡ b → sameId a b ≡ true
+unfolding sameId
+said-same a b e =
+    rw e
+    (both-and (eqb (b .word0) (b .word0)) _ (eq-eqb (b .word0) (b .word0) refl)
+    (both-and (eqb (b .word1) (b .word1)) _ (eq-eqb (b .word1) (b .word1) refl)
+    (both-and (eqb (b .word2) (b .word2)) _ (eq-eqb (b .word2) (b .word2) refl) (eq-eqb (b .word3) (b .word3) refl))))
 
 -- past the end all words are zero
 pub id-out : (s : List ℕ) (at : ℕ) → length s ≤ at → idAt s at ≡ record { word0 = 0; word1 = 0; word2 = 0; word3 = 0 }

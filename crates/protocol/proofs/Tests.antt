@@ -26,6 +26,13 @@ cases-and a b (inl e) = rw e
 cases-and true b (inr e) = e
 cases-and false b (inr e) = refl
 
+pub and-both : (a b : Bool) → (a && b) ≡ true → (a ≡ true) × (b ≡ true)
+and-both true b e = (refl, e)
+and-both false b e = let z : _≡_ {A = ℕ} 0 1 = cc in absurd (omega arith)
+
+pub both-and : (a b : Bool) → a ≡ true → b ≡ true → (a && b) ≡ true
+both-and a b p q = rw (p, q)
+
 pub or-none : (a b : Bool) → (a || b) ≡ false → (a ≡ false) × (b ≡ false)
 or-none true b e = let z : _≡_ {A = ℕ} 0 1 = cc in absurd (omega arith)
 or-none false b e = (refl, e)

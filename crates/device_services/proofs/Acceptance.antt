@@ -1,0 +1,98 @@
+-- A list is accepted exactly when it meets the rules in words of fields, and then the numbers shown are those at their places.
+-- Assumes nothing.
+use mathlib.Core.Path.{_≡_, refl, sym}
+use mathlib.Core.Logic.{_↔_, inl, inr, ⊎-elim}
+use mathlib.Core.List.{List, [], _∷_}
+use Prim.Native.Nat.{ℕ, _+_, _*_, _≤_, _<_}
+use native.Mathlib.Omega.{arith}
+use borrow.Author.Tests.{ltb-false, le-ltb}
+use lib.Dec.{ltb}
+use lib.ListN.{length}
+use Rattle.protocol.specs.Refusal.{tooShort, wrongCount}
+use Rattle.protocol.specs.Verdict.{rule, firstOf, openLength}
+use Rattle.protocol.specs.declared.Verdict.{Verdict}
+use Rattle.protocol.specs.declared.Verdict.the-variants.{Fits, Fault}
+use Rattle.protocol.proofs.Tests.{equal-kept, kept-equal}
+use Rattle.protocol.proofs.Verdicts.{left-fits, right-fits, fits-kept, kept-fits, kept-then, open-length, length-open}
+use Rattle.below.proofs.Laws.{fits-each, each-fits}
+use Rattle.pairs.specs.Pair.{verdictOf as pairVerdict}
+use Rattle.pairs.specs.Claims.{Absent, Inside, PairFits}
+use Rattle.pairs.specs.declared.PairKind.the-variants.{List as ListKind}
+use Rattle.pairs.proofs.Laws.{fits-said, said-fits}
+use Rattle.device_services.specs.declared.DeviceServices.{DeviceServices}
+use Rattle.device_services.specs.declared.DeviceServicesRead.the-variants.{Info}
+use Rattle.device_services.specs.DeviceServices.{countOf, headAt, pairPlace, fixedPart, pairOf, cidCountAt, lengthVerdict, contentRules, elementVerdict, verdictOf, shown, readOf}
+use Rattle.device_services.specs.Claims.{ElementFits, Acceptable}
+use Rattle.device_services.proofs.Laws.{few}
+
+-- ---- one element
+
+module _ (s : List ℕ) (fixed i : ℕ) where
+  pub element-said : elementVerdict s fixed i ≡ Fits → ElementFits s fixed i
+  unfolding elementVerdict contentRules
+  element-said e =
+      let p = pairOf s i in
+      let pair = fits-said ListKind fixed 540 (pairPlace i) (length s) p (left-fits _ _ e) in
+      let k = fits-kept (contentRules s (pairPlace i) p) (right-fits _ _ e) in
+      let size : p .length ≡ 28 + 4 * cidCountAt s (p .start) = equal-kept _ _ (k .1 .1 .0) in
+      let there : Inside fixed (length s) p = ⊎-elim (λ a. absurd (omega (arith, a .empty))) (λ h. h) (pair .safe) in
+      record { few = ltb-false 128 _ (k .1 .0); size = size; behind = there .behind; aligned = there .aligned; within = there .within }
+
+  pub said-element : ElementFits s fixed i → elementVerdict s fixed i ≡ Fits
+  unfolding elementVerdict contentRules
+  said-element f =
+      let p = pairOf s i in
+      let some : cidCountAt s (p .start) ≤ 128 = f .few in
+      let size : p .length ≡ 28 + 4 * cidCountAt s (p .start) = f .size in
+      let there : Inside fixed (length s) p = record { some = omega arith; behind = f .behind; aligned = f .aligned; within = f .within } in
+      let pair : PairFits ListKind fixed 540 (length s) p = record { size = record { small = omega arith; even = tt }; safe = inr there } in
+      kept-then (pairVerdict ListKind fixed 540 (pairPlace i) (length s) p) (contentRules s (pairPlace i) p)
+      (said-fits ListKind fixed 540 (pairPlace i) (length s) p pair)
+      (le-ltb (p .length) 28 (omega arith), (le-ltb 128 _ some, (kept-equal _ _ size, tt)))
+
+  -- an element fits exactly when its count, its size and its place do
+  pub element-exactly : (elementVerdict s fixed i ≡ Fits) ↔ ElementFits s fixed i
+  element-exactly = (element-said, said-element)
+
+-- ---- the list
+
+pub list-said : (s : List ℕ) → verdictOf s ≡ Fits → Acceptable s
+unfolding verdictOf lengthVerdict
+list-said s e =
+    let n = length s in
+    let fixed = fixedPart (countOf s) in
+    let long = left-fits (lengthVerdict n (countOf s)) _ e in
+    let whole = open-length fixed n (right-fits _ (openLength fixed n) long) in
+    record {
+      few = few n (countOf s) long;
+      fixed = whole .0;
+      most = whole .1;
+      elements = λ i l. element-said s fixed i (fits-each _ _ (right-fits _ _ e) i l);
+    }
+
+pub said-list : (s : List ℕ) → Acceptable s → verdictOf s ≡ Fits
+unfolding verdictOf lengthVerdict firstOf
+said-list s a =
+    let n = length s in
+    let fixed = fixedPart (countOf s) in
+    let enough : fixed ≤ n = a .fixed in
+    let counted = kept-fits (rule (ltb n 8) tooShort n ∷ rule (ltb 32 (countOf s)) wrongCount 0 ∷ []) (le-ltb n 8 (omega arith), (le-ltb 32 (countOf s) (a .few), tt)) in
+    rw (counted, length-open fixed n enough (a .most)) (each-fits (elementVerdict s fixed) (countOf s) (λ i h. said-element s fixed i (a .elements i h)))
+
+-- ---- accepted exactly when the rules hold
+
+shows : (d : Verdict) (p q : DeviceServices) → shown d p ≡ Info q → (d ≡ Fits) × (p ≡ q)
+shows Fits p q e = (refl, cc)
+shows (Fault r) p q e = let z : _≡_ {A = ℕ} 0 1 = cc in absurd (omega arith)
+
+-- an accepted list keeps the rules, and shows the numbers at their places
+pub accepted : (s : List ℕ) (p : DeviceServices) → readOf s ≡ Info p → Acceptable s × (p ≡ headAt s)
+unfolding readOf
+accepted s p e = let d = shows (verdictOf s) (headAt s) p e in (list-said s (d .0), sym (d .1))
+
+pub acceptable : (s : List ℕ) → Acceptable s → readOf s ≡ Info (headAt s)
+unfolding readOf
+acceptable s a = rw (said-list s a)
+
+pub accepted-exactly : (s : List ℕ) → (readOf s ≡ Info (headAt s)) ↔ Acceptable s
+accepted-exactly s = (λ e. accepted s (headAt s) e .0, acceptable s)

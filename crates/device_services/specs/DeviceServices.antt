@@ -1,0 +1,95 @@
+-- The DEVICE_SERVICES payload (document 01, "Device services"; MBIM 1.0, MBIM_DEVICE_SERVICES_INFO and MBIM_DEVICE_SERVICE_ELEMENT).
+-- In this order: the fields and their places; the rules, in the order in which they are judged; what a reader answers.
+use Prim.Native.Nat.{ℕ, _+_, _*_}
+use mathlib.Core.Bool.{not}
+use mathlib.Core.List.{List, [], _∷_}
+use lib.Dec.{ltb, eqb}
+use lib.ListN.{length}
+use Rattle.wire.specs.Numbers.{u32At}
+use Rattle.protocol.specs.Refusal.{tooShort, wrongSize, wrongCount}
+use Rattle.protocol.specs.Service.{idAt}
+use Rattle.protocol.specs.Verdict.{Rule, rule, judge, firstOf, openLength}
+use Rattle.protocol.specs.declared.Verdict.{Verdict}
+use Rattle.protocol.specs.declared.Verdict.the-variants.{Fits, Fault}
+use Rattle.below.specs.Below.{firstFault, listOf}
+use Rattle.pairs.specs.Pair.{rangeAt, verdictOf as pairVerdict}
+use Rattle.pairs.specs.declared.Range.{Range}
+use Rattle.pairs.specs.declared.PairKind.the-variants.{List as ListKind}
+use Rattle.device_services.specs.declared.DeviceServices.{DeviceServices}
+use Rattle.device_services.specs.declared.DeviceService.{DeviceService}
+use Rattle.device_services.specs.declared.DeviceServicesRead.{DeviceServicesRead}
+use Rattle.device_services.specs.declared.DeviceServicesRead.the-variants.{Info, Refused}
+
+-- ---- fields and places
+
+-- "Count 0, MaxDssSessions 4, then one pair each"
+abbrev pub countOf : List ℕ → ℕ
+countOf s = u32At s 0
+
+unfoldable pub headAt : List ℕ → DeviceServices
+headAt s = record { «device_services_count» = countOf s; «max_dss_sessions» = u32At s 4 }
+
+abbrev pub pairPlace : ℕ → ℕ
+pairPlace i = 8 + 8 * i
+
+-- "the services list's fixed part includes its pairs"
+abbrev pub fixedPart : ℕ → ℕ
+fixedPart count = pairPlace count
+
+-- the pair of element i, and where the element starts
+abbrev pub pairOf : List ℕ → ℕ → Range
+pairOf s i = rangeAt s (pairPlace i)
+
+abbrev pub offsetOf : List ℕ → ℕ → ℕ
+offsetOf s i = u32At s (pairPlace i)
+
+-- the element that starts at `at`: "service 0, two numbers 16 and 20, CID count 24, CIDs from 28"
+abbrev pub cidCountAt : List ℕ → ℕ → ℕ
+cidCountAt s at = u32At s (at + 24)
+
+unfoldable pub elementAt : List ℕ → ℕ → DeviceService
+elementAt s at = record {
+  «device_service_id» = idAt s at;
+  «dss_payload» = u32At s (at + 16);
+  «max_dss_instances» = u32At s (at + 20);
+  «cid_count» = cidCountAt s at;
+}
+
+abbrev pub cidAt : List ℕ → ℕ → ℕ → ℕ
+cidAt s at k = u32At s (at + 28 + 4 * k)
+
+-- all its CIDs: as many as its own count
+unfoldable pub cidsAt : List ℕ → ℕ → List ℕ
+cidsAt s at = listOf (cidAt s at) (cidCountAt s at)
+
+-- ---- rules: broken, number, place; the first broken one decides
+
+-- a payload of n bytes: "under 8 bytes, 1; count, 15; pairs missing, 1; then 5"
+unfoldable pub lengthVerdict : ℕ → ℕ → Verdict
+lengthVerdict n count = firstOf (judge (rule (ltb n 8) tooShort n ∷ rule (ltb 32 count) wrongCount 0 ∷ [])) (openLength (fixedPart count) n)
+
+-- what a pair at `place` shows: size under 28, 8; more than 128 CIDs, 15; "its size is 28 + 4 × count", 8
+unfoldable pub contentRules : List ℕ → ℕ → Range → List Rule
+contentRules s place p =
+    rule (ltb (p .length) 28) wrongSize place
+    ∷ rule (ltb 128 (cidCountAt s (p .start))) wrongCount (p .start + 24)
+    ∷ rule (not (eqb (p .length) (28 + 4 * cidCountAt s (p .start)))) wrongSize place
+    ∷ []
+
+-- pair i of a list with a fixed part, "judged 8 (limit, odd), 6, 7 and then its list"; the limit is 540
+unfoldable pub elementVerdict : List ℕ → ℕ → ℕ → Verdict
+elementVerdict s fixed i =
+    firstOf (pairVerdict ListKind fixed 540 (pairPlace i) (length s) (pairOf s i)) (judge (contentRules s (pairPlace i) (pairOf s i)))
+
+-- the length, then pair by pair, each with its element
+unfoldable pub verdictOf : List ℕ → Verdict
+verdictOf s = firstOf (lengthVerdict (length s) (countOf s)) (firstFault (elementVerdict s (fixedPart (countOf s))) (countOf s))
+
+-- ---- what a reader answers
+
+abbrev pub shown : Verdict → DeviceServices → DeviceServicesRead
+shown Fits p = Info p
+shown (Fault r) p = Refused r
+
+unfoldable pub readOf : List ℕ → DeviceServicesRead
+readOf s = shown (verdictOf s) (headAt s)

@@ -1,0 +1,2 @@
+pub mod DeviceServices
+pub mod Claims

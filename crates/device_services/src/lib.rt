@@ -1,0 +1,208 @@
+// The DEVICE_SERVICES payload: its reader, the judge of one element, and an element's fields.
+// Questions to the list and the writer stand in crates of their own.
+use pairs::PairKind;
+use pairs::Range;
+use pairs::range_at;
+use protocol::Refusal;
+use protocol::TOO_SHORT;
+use protocol::Verdict;
+use protocol::WRONG_COUNT;
+use protocol::WRONG_SIZE;
+use protocol::also;
+use protocol::first;
+use protocol::judge_open_length;
+use protocol::service::ServiceId;
+use protocol::service::id_at;
+use wire::u32_at;
+ghost use mathlib.Core.Path.{_≡_};
+ghost use Rattle.below.specs.Below.{firstFault};
+ghost use Rattle.protocol.specs.Verdict.{judge};
+ghost use Rattle.device_services.specs.DeviceServices.{countOf, headAt, pairPlace, offsetOf, cidCountAt, elementAt, cidAt, lengthVerdict, contentRules, elementVerdict, verdictOf, readOf};
+
+// What stands before the pairs.
+pub struct DeviceServices {
+    pub device_services_count: u32,
+    pub max_dss_sessions: u32,
+}
+
+// What an element has besides its CIDs.
+pub struct DeviceService {
+    pub device_service_id: ServiceId,
+    pub dss_payload: u32,
+    pub max_dss_instances: u32,
+    pub cid_count: u32,
+}
+
+pub enum DeviceServicesRead {
+    Info(DeviceServices),
+    Refused(Refusal),
+}
+
+// The most elements of a list, and the most CIDs of an element.
+pub const MOST_SERVICES: u32 = 32;
+
+pub const MOST_CIDS: u32 = 128;
+
+// The size of an element without CIDs, and of one with the most.
+pub const ELEMENT_FIXED_PART: u32 = 28;
+
+pub const ELEMENT_LIMIT: u32 = 540;
+
+// The fixed part of a list without elements; the pairs follow it.
+const PAIRS: u32 = 8;
+
+const PAIR_SIZE: u32 = 8;
+
+// Places in the payload.
+pub const DEVICE_SERVICES_COUNT: usize = 0;
+
+pub const MAX_DSS_SESSIONS: usize = 4;
+
+// Places in an element; its CIDs follow its fixed part.
+pub const DSS_PAYLOAD: usize = 16;
+
+pub const MAX_DSS_INSTANCES: usize = 20;
+
+pub const CID_COUNT: usize = 24;
+
+pub fn read(payload: &[u8]) -> DeviceServicesRead
+    ensures { λ r. ⌜ r ≡ readOf (now (payload .entry)) ⌝ }
+{
+    let info = head_at(payload);
+    match judge_list(payload) {
+        Verdict::Fits => DeviceServicesRead::Info(info),
+        Verdict::Fault(refusal) => DeviceServicesRead::Refused(refusal),
+    }
+}
+
+// The verdict on the whole payload.
+pub fn judge_list(payload: &[u8]) -> Verdict
+    ensures { λ r. ⌜ r ≡ verdictOf (now (payload .entry)) ⌝ }
+{
+    let count = count_of(payload);
+    match judge_length(payload.len(), count) {
+        Verdict::Fits => judge_elements(payload, PAIRS + PAIR_SIZE * count, count),
+        Verdict::Fault(refusal) => Verdict::Fault(refusal),
+    }
+}
+
+// The verdict on one pair and its element, whatever the others are; `fixed` is the list's fixed part.
+pub fn judge_element(payload: &[u8], fixed: u32, number: u32) -> Verdict
+    ensures { λ r. ⌜ r ≡ elementVerdict (now (payload .entry)) fixed number ⌝ }
+{
+    let place = pair_place(number);
+    let pair = range_at(payload, place);
+    let placed = pairs::judge(
+        PairKind::List,
+        fixed,
+        ELEMENT_LIMIT,
+        place,
+        payload.len(),
+        pair,
+    );
+    first(placed, judge_content(payload, place, pair))
+}
+
+// The verdict on what stands in the element of a pair at `place`, where the pair itself fits.
+pub fn judge_content(payload: &[u8], place: usize, pair: Range) -> Verdict
+    ensures { λ r. ⌜ r ≡ judge (contentRules (now (payload .entry)) place pair) ⌝ }
+{
+    let size = pair.length;
+    let count_place = pair.start as usize + CID_COUNT;
+    let count = cid_count_at(payload, pair.start);
+    let whole = also(Verdict::Fits, size < ELEMENT_FIXED_PART, WRONG_SIZE, place);
+    let counted = also(whole, MOST_CIDS < count, WRONG_COUNT, count_place);
+    also(
+        counted,
+        size as usize != ELEMENT_FIXED_PART as usize + 4 * count as usize,
+        WRONG_SIZE,
+        place,
+    )
+}
+
+pub fn head_at(payload: &[u8]) -> DeviceServices
+    ensures { λ r. ⌜ r ≡ headAt (now (payload .entry)) ⌝ }
+{
+    DeviceServices {
+        device_services_count: count_of(payload),
+        max_dss_sessions: u32_at(payload, MAX_DSS_SESSIONS),
+    }
+}
+
+pub fn count_of(payload: &[u8]) -> u32
+    ensures { λ r. ⌜ r ≡ countOf (now (payload .entry)) ⌝ }
+{
+    u32_at(payload, DEVICE_SERVICES_COUNT)
+}
+
+// Where an element of the list starts.
+pub fn offset_of(payload: &[u8], number: u32) -> u32
+    ensures { λ r. ⌜ r ≡ offsetOf (now (payload .entry)) number ⌝ }
+{
+    u32_at(payload, pair_place(number))
+}
+
+// The fields of the element that starts at an offset.
+pub fn element_at(payload: &[u8], offset: u32) -> DeviceService
+    ensures { λ r. ⌜ r ≡ elementAt (now (payload .entry)) offset ⌝ }
+{
+    let at = offset as usize;
+    let device_service_id = id_at(payload, at);
+    DeviceService {
+        device_service_id,
+        dss_payload: u32_at(payload, at + DSS_PAYLOAD),
+        max_dss_instances: u32_at(payload, at + MAX_DSS_INSTANCES),
+        cid_count: cid_count_at(payload, offset),
+    }
+}
+
+pub fn cid_count_at(payload: &[u8], offset: u32) -> u32
+    ensures { λ r. ⌜ r ≡ cidCountAt (now (payload .entry)) offset ⌝ }
+{
+    u32_at(payload, offset as usize + CID_COUNT)
+}
+
+// A CID of the element that starts at an offset, by its number.
+pub fn cid_at(payload: &[u8], offset: u32, number: u32) -> u32
+    ensures { λ r. ⌜ r ≡ cidAt (now (payload .entry)) offset number ⌝ }
+{
+    let first = offset as usize + ELEMENT_FIXED_PART as usize;
+    u32_at(payload, first + 4 * number as usize)
+}
+
+// Where the pair of an element stands.
+pub fn pair_place(number: u32) -> usize
+    ensures { λ r. ⌜ r ≡ pairPlace number ⌝ }
+{
+    PAIRS as usize + PAIR_SIZE as usize * number as usize
+}
+
+// The verdict on a payload of n bytes with a count.
+fn judge_length(n: usize, count: u32) -> Verdict
+    ensures { λ r. ⌜ r ≡ lengthVerdict n count ⌝ }
+{
+    let begun = also(Verdict::Fits, n < PAIRS as usize, TOO_SHORT, n);
+    let counted = also(
+        begun,
+        MOST_SERVICES < count,
+        WRONG_COUNT,
+        DEVICE_SERVICES_COUNT,
+    );
+    let whole = judge_open_length(pair_place(count), n);
+    first(counted, whole)
+}
+
+// Each pair with its element, up to the first fault.
+fn judge_elements(payload: &[u8], fixed: u32, count: u32) -> Verdict
+    ensures { λ r. ⌜ r ≡ firstFault (elementVerdict (now (payload .entry)) fixed) count ⌝ }
+{
+    let mut i: u32 = 0;
+    while i < count {
+        let verdict = judge_element(payload, fixed, i);
+        if let Verdict::Fault(refusal) = verdict {
+            return Verdict::Fault(refusal);
+        }
+        i += 1;
+    }
+    Verdict::Fits
+}

@@ -1,0 +1,96 @@
+-- The answers in words of elements: a CID is listed exactly when an element holds both; the element shown for a service is its first.
+-- Assumes nothing.
+use mathlib.Core.Path.{_≡_, refl}
+use mathlib.Core.Logic.{_↔_}
+use mathlib.Core.Bool.{Bool, true, false, _&&_}
+use mathlib.Core.List.{List}
+use Prim.Native.Nat.{ℕ, _≤_, _<_}
+use native.Mathlib.Omega.{arith}
+use borrow.Author.Tests.{eq-eqb, eqb-true, lt-ltb, le-ltb}
+use Rattle.protocol.specs.declared.Verdict.{Verdict}
+use Rattle.protocol.specs.declared.Verdict.the-variants.{Fits, Fault}
+use Rattle.protocol.specs.declared.service.ServiceId.{ServiceId}
+use Rattle.protocol.proofs.Services.{same-said, said-same}
+use Rattle.protocol.proofs.Tests.{and-both, both-and}
+use Rattle.below.specs.Below.{anyOf, firstIndex}
+use Rattle.below.proofs.Laws.{some-of, each-none, any-at, index-at, index-none}
+use Rattle.device_services.specs.DeviceServices.{countOf, offsetOf, cidCountAt, elementAt, verdictOf}
+use Rattle.services_query.specs.declared.ElementAnswer.the-variants.{NotListed}
+use Rattle.services_query.specs.declared.ListedAnswer.the-variants.{Listed}
+use Rattle.services_query.specs.ServicesQuery.{isOf, isCid, hasCid, holds, plain, elementShown, chosenShown, elementOf, cidsOf, told, listedOf}
+use Rattle.services_query.specs.Claims.{Serves, Held, First}
+
+-- ---- a service and a CID
+
+serves-said : (s : List ℕ) (service : ServiceId) (i : ℕ) → i < countOf s → isOf s service i ≡ true → Serves s service i
+unfolding isOf
+serves-said s service i l e = record { below = l; is = same-said (elementAt s (offsetOf s i) .«device_service_id») service e }
+
+said-serves : (s : List ℕ) (service : ServiceId) (i : ℕ) → Serves s service i → isOf s service i ≡ true
+unfolding isOf
+said-serves s service i h = said-same (elementAt s (offsetOf s i) .«device_service_id») service (h .is)
+
+held-said : (s : List ℕ) (service : ServiceId) (cid : ℕ) → anyOf (holds s service cid) (countOf s) ≡ true → Held s service cid
+unfolding holds hasCid
+held-said s service cid e =
+    let i = some-of (holds s service cid) (countOf s) e in
+    let b = and-both (isOf s service (i .0)) (hasCid s (offsetOf s (i .0)) cid) (i .1 .1) in
+    let k = some-of (isCid s (offsetOf s (i .0)) cid) (cidCountAt s (offsetOf s (i .0))) (b .1) in
+    record { element = i .0; serves = serves-said s service (i .0) (i .1 .0) (b .0); number = k .0; counted = k .1 .0; is = eqb-true _ cid (k .1 .1) }
+
+said-held : (s : List ℕ) (service : ServiceId) (cid : ℕ) → Held s service cid → anyOf (holds s service cid) (countOf s) ≡ true
+unfolding holds hasCid
+said-held s service cid h =
+    any-at (holds s service cid) (countOf s) (h .element) (h .serves .below)
+    (both-and (isOf s service (h .element)) _ (said-serves s service (h .element) (h .serves))
+    (any-at (isCid s (offsetOf s (h .element)) cid) (cidCountAt s (offsetOf s (h .element))) (h .number) (h .counted) (eq-eqb _ cid (h .is))))
+
+told-listed : (d : Verdict) (b : Bool) → told d b ≡ Listed → (d ≡ Fits) × (b ≡ true)
+told-listed Fits true e = (refl, refl)
+told-listed Fits false e = let z : _≡_ {A = ℕ} 0 1 = cc in absurd (omega arith)
+told-listed (Fault r) b e = let z : _≡_ {A = ℕ} 0 1 = cc in absurd (omega arith)
+
+-- listed exactly when the list is accepted and one of its elements holds both
+pub listed-exactly : (s : List ℕ) (service : ServiceId) (cid : ℕ) → (listedOf s service cid ≡ Listed) ↔ ((verdictOf s ≡ Fits) × Held s service cid)
+unfolding listedOf
+listed-exactly s service cid = (
+  λ e. let d = told-listed (verdictOf s) (anyOf (holds s service cid) (countOf s)) e in (d .0, held-said s service cid (d .1)),
+  λ k. rw (k .0, said-held s service cid (k .1)),
+)
+
+-- ---- an element
+
+none-serves : (s : List ℕ) (service : ServiceId) (n : ℕ) → n ≤ countOf s → ((j : ℕ) → j < n → Serves s service j → ⊥) → anyOf (isOf s service) n ≡ false
+none-serves s service n l h = each-none (isOf s service) n (λ j k. by-test (isOf s service j) j refl k)
+  where
+    by-test : (b : Bool) (j : ℕ) → isOf s service j ≡ b → j < n → isOf s service j ≡ false
+    by-test true j e k = absurd (h j k (serves-said s service j (omega arith) e))
+    by-test false j e k = e
+
+-- the element with a number below the count is shown, and no other is listed
+pub element-shown : (s : List ℕ) (i : ℕ) (out : List ℕ) → verdictOf s ≡ Fits → i < countOf s → elementOf s i out ≡ elementShown s i out
+unfolding elementOf chosenShown
+element-shown s i out e l = rw (e, lt-ltb i (countOf s) l)
+
+pub element-none : (s : List ℕ) (i : ℕ) (out : List ℕ) → verdictOf s ≡ Fits → countOf s ≤ i → elementOf s i out ≡ plain NotListed out
+unfolding elementOf chosenShown
+element-none s i out e l = rw (e, le-ltb i (countOf s) l)
+
+-- the first element of a service is shown
+pub first-shown : (s : List ℕ) (service : ServiceId) (i : ℕ) (out : List ℕ) → verdictOf s ≡ Fits → First s service i
+    → cidsOf s service out ≡ elementShown s i out
+unfolding cidsOf chosenShown
+first-shown s service i out e f =
+    let l : i < countOf s = f .serves .below in
+    let x : firstIndex (isOf s service) (countOf s) ≡ i =
+    index-at (isOf s service) (countOf s) i (none-serves s service i (omega arith) (f .before)) l (said-serves s service i (f .serves)) in
+    rw (e, x, lt-ltb i (countOf s) l)
+
+-- a service that no element is of is not listed
+pub first-none : (s : List ℕ) (service : ServiceId) (out : List ℕ) → verdictOf s ≡ Fits → ((j : ℕ) → Serves s service j → ⊥)
+    → cidsOf s service out ≡ plain NotListed out
+unfolding cidsOf chosenShown
+first-none s service out e h =
+    let x : firstIndex (isOf s service) (countOf s) ≡ countOf s =
+    index-none (isOf s service) (countOf s) (none-serves s service (countOf s) (omega arith) (λ j k. h j)) in
+    rw (e, x, le-ltb (countOf s) (countOf s) (omega arith))

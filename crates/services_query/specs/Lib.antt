@@ -1,0 +1,2 @@
+pub mod ServicesQuery
+pub mod Claims

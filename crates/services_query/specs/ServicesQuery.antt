@@ -1,0 +1,79 @@
+-- What is asked of a DEVICE_SERVICES payload (document 01, "Device services"). The whole list is judged first.
+-- In this order: the tests of an element; an element shown; the three questions.
+use Prim.Native.Nat.{ℕ, _*_}
+use mathlib.Core.Bool.{Bool, cond, _&&_}
+use mathlib.Core.List.{List}
+use lib.Dec.{ltb, eqb}
+use lib.ListN.{length}
+use Rattle.wire.specs.Runs.{over}
+use Rattle.protocol.specs.Refusal.{refusal, outputTooSmall}
+use Rattle.protocol.specs.Service.{sameId}
+use Rattle.protocol.specs.declared.Verdict.{Verdict}
+use Rattle.protocol.specs.declared.Verdict.the-variants.{Fits, Fault}
+use Rattle.protocol.specs.declared.service.ServiceId.{ServiceId}
+use Rattle.below.specs.Below.{anyOf, firstIndex}
+use Rattle.device_services.specs.DeviceServices.{countOf, offsetOf, cidCountAt, elementAt, cidAt, cidsAt, verdictOf}
+use Rattle.services_query.specs.declared.ElementAnswer.{ElementAnswer}
+use Rattle.services_query.specs.declared.ElementAnswer.the-variants.{Listed, NotListed, Refused}
+use Rattle.services_query.specs.declared.ListedAnswer.{ListedAnswer}
+use Rattle.services_query.specs.declared.ListedAnswer.the-variants.{Listed as IsListed, NotListed as IsNotListed, Refused as IsRefused}
+
+-- ---- the tests of an element
+
+-- element i is of the service
+unfoldable pub isOf : List ℕ → ServiceId → ℕ → Bool
+isOf s service i = sameId (elementAt s (offsetOf s i) .«device_service_id») service
+
+-- CID k of the element that starts at `at` is the one asked for
+abbrev pub isCid : List ℕ → ℕ → ℕ → ℕ → Bool
+isCid s at cid k = eqb (cidAt s at k) cid
+
+-- the element that starts at `at` has the CID
+unfoldable pub hasCid : List ℕ → ℕ → ℕ → Bool
+hasCid s at cid = anyOf (isCid s at cid) (cidCountAt s at)
+
+-- element i holds both
+unfoldable pub holds : List ℕ → ServiceId → ℕ → ℕ → Bool
+holds s service cid i = isOf s service i && hasCid s (offsetOf s i) cid
+
+-- ---- an element shown: the answer, and the caller's list at exit
+
+pub record Shown : Type 0 where
+  pub answer : ElementAnswer
+  pub output : List ℕ
+
+abbrev pub plain : ElementAnswer → List ℕ → Shown
+plain a out = record { answer = a; output = out }
+
+-- its fields, and its CIDs at the front of the list: "a list too small is 11", by the bytes needed
+unfoldable pub elementShown : List ℕ → ℕ → List ℕ → Shown
+elementShown s i out =
+    cond (ltb (length out) (cidCountAt s (offsetOf s i)))
+    (plain (Refused (refusal outputTooSmall (4 * cidCountAt s (offsetOf s i)))) out)
+    (plain (Listed (elementAt s (offsetOf s i))) (over (cidsAt s (offsetOf s i)) out))
+
+-- "'Not listed' is answered exactly if no element .. has the number"
+unfoldable pub chosenShown : List ℕ → ℕ → List ℕ → Shown
+chosenShown s i out = cond (ltb i (countOf s)) (elementShown s i out) (plain NotListed out)
+
+-- ---- the questions
+
+abbrev pub judged : Verdict → Shown → List ℕ → Shown
+judged Fits x out = x
+judged (Fault r) x out = plain (Refused r) out
+
+-- "an element may also be chosen by its number, from 0"
+unfoldable pub elementOf : List ℕ → ℕ → List ℕ → Shown
+elementOf s number out = judged (verdictOf s) (chosenShown s number out) out
+
+-- "the CIDs of a chosen service: first matching element, in listed order"
+unfoldable pub cidsOf : List ℕ → ServiceId → List ℕ → Shown
+cidsOf s service out = judged (verdictOf s) (chosenShown s (firstIndex (isOf s service) (countOf s)) out) out
+
+abbrev pub told : Verdict → Bool → ListedAnswer
+told Fits any = cond any IsListed IsNotListed
+told (Fault r) any = IsRefused r
+
+-- whether any element holds both
+unfoldable pub listedOf : List ℕ → ServiceId → ℕ → ListedAnswer
+listedOf s service cid = told (verdictOf s) (anyOf (holds s service cid) (countOf s))

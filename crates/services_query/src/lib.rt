@@ -1,0 +1,177 @@
+// Questions to a DEVICE_SERVICES payload: an element by its number or its service, and whether a
+// CID is listed. The whole list is judged before anything of it is shown.
+use device_services::DeviceService;
+use device_services::cid_at;
+use device_services::cid_count_at;
+use device_services::count_of;
+use device_services::element_at;
+use device_services::judge_list;
+use device_services::offset_of;
+use protocol::OUTPUT_TOO_SMALL;
+use protocol::Refusal;
+use protocol::Verdict;
+use protocol::service::ServiceId;
+use protocol::service::is_same_id;
+ghost use mathlib.Core.Path.{_≡_};
+ghost use mathlib.Core.Bool.{_&&_};
+ghost use Prim.Native.Nat.{_≤_};
+ghost use lib.ListN.{length, set};
+ghost use lib.Seq.{sets};
+ghost use Rattle.below.specs.Below.{anyOf, firstIndex, listOf};
+ghost use Rattle.device_services.specs.DeviceServices.{offsetOf, cidAt};
+ghost use Rattle.services_query.specs.ServicesQuery.{isOf, isCid, hasCid, holds, elementShown, chosenShown, elementOf, cidsOf, listedOf};
+
+// An element's fields; its CIDs stand at the front of the caller's list.
+pub enum ElementAnswer {
+    Listed(DeviceService),
+    NotListed,
+    Refused(Refusal),
+}
+
+pub enum ListedAnswer {
+    Listed,
+    NotListed,
+    Refused(Refusal),
+}
+
+// The element with a number, from 0.
+pub fn element(payload: &[u8], number: u32, cids: &mut [u32]) -> ElementAnswer
+    ensures { λ r. ⌜ r ≡ elementOf (now (payload .entry)) number (now (cids .entry)) .answer ⌝ }
+    ensures { λ _. ⌜ now (cids .exit) ≡ elementOf (now (payload .entry)) number (now (cids .entry)) .output ⌝ }
+{
+    match judge_list(payload) {
+        Verdict::Fits => show_chosen(payload, number, cids),
+        Verdict::Fault(refusal) => ElementAnswer::Refused(refusal),
+    }
+}
+
+// The first element of a service.
+pub fn cids_of(payload: &[u8], service: ServiceId, cids: &mut [u32]) -> ElementAnswer
+    ensures { λ r. ⌜ r ≡ cidsOf (now (payload .entry)) service (now (cids .entry)) .answer ⌝ }
+    ensures { λ _. ⌜ now (cids .exit) ≡ cidsOf (now (payload .entry)) service (now (cids .entry)) .output ⌝ }
+{
+    match judge_list(payload) {
+        Verdict::Fits => {
+            let number = index_of(payload, service, count_of(payload));
+            show_chosen(payload, number, cids)
+        }
+        Verdict::Fault(refusal) => ElementAnswer::Refused(refusal),
+    }
+}
+
+// Whether any element is of the service and holds the CID.
+pub fn is_listed(payload: &[u8], service: ServiceId, cid: u32) -> ListedAnswer
+    ensures { λ r. ⌜ r ≡ listedOf (now (payload .entry)) service cid ⌝ }
+{
+    match judge_list(payload) {
+        Verdict::Fits => {
+            if is_any_holding(payload, service, cid, count_of(payload)) {
+                return ListedAnswer::Listed;
+            }
+            ListedAnswer::NotListed
+        }
+        Verdict::Fault(refusal) => ListedAnswer::Refused(refusal),
+    }
+}
+
+// Whether an element is of a service.
+pub fn is_of(payload: &[u8], service: ServiceId, number: u32) -> bool
+    ensures { λ r. ⌜ r ≡ isOf (now (payload .entry)) service number ⌝ }
+{
+    let fields = element_at(payload, offset_of(payload, number));
+    let own = fields.device_service_id;
+    is_same_id(own, service)
+}
+
+fn show_chosen(payload: &[u8], number: u32, cids: &mut [u32]) -> ElementAnswer
+    ensures { λ r. ⌜ r ≡ chosenShown (now (payload .entry)) number (now (cids .entry)) .answer ⌝ }
+    ensures { λ _. ⌜ now (cids .exit) ≡ chosenShown (now (payload .entry)) number (now (cids .entry)) .output ⌝ }
+{
+    if number < count_of(payload) {
+        return show_element(payload, number, cids);
+    }
+    ElementAnswer::NotListed
+}
+
+fn show_element(payload: &[u8], number: u32, cids: &mut [u32]) -> ElementAnswer
+    ensures { λ r. ⌜ r ≡ elementShown (now (payload .entry)) number (now (cids .entry)) .answer ⌝ }
+    ensures { λ _. ⌜ now (cids .exit) ≡ elementShown (now (payload .entry)) number (now (cids .entry)) .output ⌝ }
+{
+    let offset = offset_of(payload, number);
+    let count = cid_count_at(payload, offset);
+    if cids.len() < count as usize {
+        return ElementAnswer::Refused(Refusal {
+            number: OUTPUT_TOO_SMALL,
+            place: 4 * count as usize,
+        });
+    }
+    copy_cids(payload, offset, count, cids);
+    ElementAnswer::Listed(element_at(payload, offset))
+}
+
+// The first n CIDs of the element that starts at an offset.
+fn copy_cids(payload: &[u8], offset: u32, n: u32, cids: &mut [u32])
+    requires { ⌜ n ≤ length (now cids) ⌝ }
+    ensures { λ _. ⌜ now (cids .exit) ≡ sets (now (cids .entry)) 0 (listOf (cidAt (now (payload .entry)) offset) n) ⌝ }
+{
+    let mut i: u32 = 0;
+    while i < n {
+        cids[i as usize] = cid_at(payload, offset, i);
+        i += 1;
+    }
+}
+
+// The number of the first element of a service, or the count where there is none.
+fn index_of(payload: &[u8], service: ServiceId, count: u32) -> u32
+    ensures { λ r. ⌜ r ≡ firstIndex (isOf (now (payload .entry)) service) count ⌝ }
+{
+    let mut found = count;
+    let mut i: u32 = 0;
+    while i < found {
+        if is_of(payload, service, i) {
+            found = i;
+        }
+        i += 1;
+    }
+    found
+}
+
+fn is_any_holding(payload: &[u8], service: ServiceId, cid: u32, count: u32) -> bool
+    ensures { λ r. ⌜ r ≡ anyOf (holds (now (payload .entry)) service cid) count ⌝ }
+{
+    let mut i: u32 = 0;
+    while i < count {
+        let serves = is_of(payload, service, i);
+        let held = is_held(payload, serves, i, cid);
+        if held {
+            return held;
+        }
+        i += 1;
+    }
+    false
+}
+
+// Whether an element that serves, or does not, has a CID.
+fn is_held(payload: &[u8], serves: bool, number: u32, cid: u32) -> bool
+    ensures { λ r. ⌜ r ≡ (serves && hasCid (now (payload .entry)) (offsetOf (now (payload .entry)) number) cid) ⌝ }
+{
+    if serves {
+        let offset = offset_of(payload, number);
+        return is_among(payload, offset, cid_count_at(payload, offset), cid);
+    }
+    false
+}
+
+// Whether a CID is among the first n of the element that starts at an offset.
+fn is_among(payload: &[u8], offset: u32, n: u32, cid: u32) -> bool
+    ensures { λ r. ⌜ r ≡ anyOf (isCid (now (payload .entry)) offset cid) n ⌝ }
+{
+    let mut i: u32 = 0;
+    while i < n {
+        if cid_at(payload, offset, i) == cid {
+            return true;
+        }
+        i += 1;
+    }
+    false
+}

@@ -1,0 +1,134 @@
+-- The bytes of a record: how many they are, one piece more stored, and what a record that fits says of its numbers.
+-- Assumes nothing.
+use mathlib.Core.Path.{_≡_, refl, sym, ap, _∙_}
+use mathlib.Core.List.{List, _++_}
+use Prim.Native.Nat.{ℕ, _+_, _*_, _≤_, _<_}
+use native.Mathlib.Omega.{arith}
+use borrow.Author.Tests.{ltb-false}
+use lib.ListN.{length, length-append, getD}
+use lib.Seq.{sets}
+use Rattle.wire.specs.Numbers.{digits}
+use Rattle.wire.proofs.Laws.{sets-then}
+use Rattle.protocol.specs.Refusal.{tooLong, wrongSize, wrongCount}
+use Rattle.protocol.specs.Service.{idBytes}
+use Rattle.protocol.specs.declared.Verdict.the-variants.{Fits}
+use Rattle.protocol.proofs.Services.{length-id}
+use Rattle.protocol.proofs.Verdicts.{left-fits, right-fits, not-broken}
+use Rattle.below.specs.Below.{firstFault, joined, sumOf}
+use Rattle.below.proofs.Laws.{fits-each, join-next, length-joined, joined-sum, sum-next, sum-within}
+use Rattle.pairs.specs.Pair.{range, rangeBytes}
+use Rattle.device_services.specs.declared.DeviceService.{DeviceService}
+use Rattle.device_services.specs.DeviceServices.{pairPlace, fixedPart}
+use Rattle.services_writer.specs.declared.ServiceElement.{ServiceElement}
+use Rattle.services_writer.specs.declared.ServiceList.{ServiceList}
+use Rattle.services_writer.specs.ServicesWriter.{elementOf, sizeOf, startOf, lengthOf, sizeVerdict, writtenVerdict, fieldBytes, cidPiece, cidBytes, elementBytes, headBytes, pairBytes, piece, bytesOf}
+
+-- ---- an element
+
+pub length-fields : (f : DeviceService) → length (fieldBytes f) ≡ 28
+unfolding fieldBytes idBytes
+length-fields f = refl
+
+pub length-cids : (cids : List ℕ) (n : ℕ) → length (cidBytes cids n) ≡ 4 * n
+length-cids cids n = length-joined (cidPiece cids) 4 n (λ i. refl)
+
+pub length-element : (e : ServiceElement) → length (elementBytes e) ≡ 28 + 4 * e .fields .«cid_count»
+unfolding elementBytes
+length-element e =
+    let n = e .fields .«cid_count» in
+    omega (arith, length-append (fieldBytes (e .fields)) (cidBytes (e .cids) n), length-fields (e .fields), length-cids (e .cids) n)
+
+-- its fields stored one after another
+pub fields-put : (f : DeviceService) (s : List ℕ) (at : ℕ) {s₁ s₂ s₃ s₄ : List ℕ} → s₁ ≡ sets s at (idBytes (f .«device_service_id»))
+    → s₂ ≡ sets s₁ (at + 16) (digits 4 (f .«dss_payload»)) → s₃ ≡ sets s₂ (at + 20) (digits 4 (f .«max_dss_instances»))
+    → s₄ ≡ sets s₃ (at + 24) (digits 4 (f .«cid_count»)) → s₄ ≡ sets s at (fieldBytes f)
+unfolding fieldBytes
+fields-put f s at {s₁} {s₂} {s₃} p q r t =
+    let a : at + 20 ≡ at + 16 + 4 = omega arith in
+    let b : at + 24 ≡ at + 20 + 4 = omega arith in
+    let x = digits 4 (f .«dss_payload») in
+    let y = digits 4 (f .«max_dss_instances») in
+    let z = digits 4 (f .«cid_count») in
+    let last : _ ≡ sets s₂ (at + 20) (y ++ z) = sets-then y z (at + 20) 4 s₂ refl r (t ∙ ap (λ (k : ℕ). sets s₃ k z) b) in
+    let later : _ ≡ sets s₁ (at + 16) (x ++ (y ++ z)) = sets-then x (y ++ z) (at + 16) 4 s₁ refl q (last ∙ ap (λ (k : ℕ). sets s₂ k (y ++ z)) a) in
+    sets-then (idBytes (f .«device_service_id»)) (x ++ (y ++ z)) at 16 s (length-id (f .«device_service_id»)) p later
+
+-- one CID more
+pub cid-next : (cids s : List ℕ) (at k : ℕ) {s₁ s₂ : List ℕ} {v : ℕ} → s₁ ≡ sets s at (cidBytes cids k) → v ≡ getD cids k 0
+    → s₂ ≡ sets s₁ (at + 4 * k) (digits 4 v) → s₂ ≡ sets s at (cidBytes cids (k + 1))
+cid-next cids s at k {s₁} p q r =
+    join-next (cidPiece cids) k at s p (ap (λ (n : ℕ). at + n) (sym (length-cids cids k))) (r ∙ ap (λ (v : ℕ). sets s₁ (at + 4 * k) (digits 4 v)) q)
+
+-- ---- the payload
+
+module _ (p : ServiceList) where
+  count : ℕ
+  count = p .«device_services_count»
+
+  pub length-pairs : (n : ℕ) → length (joined (pairBytes p) n) ≡ 8 * n
+  unfolding rangeBytes
+  length-pairs n = length-joined (pairBytes p) 8 n (λ i. refl)
+
+  pub length-pieces : (n : ℕ) → length (joined (piece p) n) ≡ sumOf (sizeOf p) n
+  length-pieces n = joined-sum (piece p) (sizeOf p) n (λ i. length-element (elementOf p i))
+
+  pub length-bytes : length (bytesOf p) ≡ lengthOf p
+  unfolding bytesOf startOf headBytes count
+  length-bytes =
+      let a = joined (pairBytes p) count in
+      let b = joined (piece p) count in
+      omega (arith, length-append (headBytes p) (a ++ b), length-append a b, length-pairs count, length-pieces count)
+
+  -- where the next element starts
+  pub start-next : (i : ℕ) {b : ℕ} → b ≡ startOf p i → b + sizeOf p i ≡ startOf p (i + 1)
+  unfolding startOf
+  start-next i e = omega (arith, e, sum-next (sizeOf p) i)
+
+  -- an element lies inside the payload
+  pub start-within : (i : ℕ) {b : ℕ} → b ≡ startOf p i → i < p .«device_services_count» → b + sizeOf p i ≤ lengthOf p
+  unfolding startOf
+  start-within i e h = omega (arith, e, sum-within (sizeOf p) (p .«device_services_count») i h)
+
+  -- one pair more, and one element more
+  pub pair-next : (i : ℕ) (s : List ℕ) {s₁ s₂ : List ℕ} {b k : ℕ} → s₁ ≡ sets s 8 (joined (pairBytes p) i) → b ≡ startOf p i → k ≡ pairPlace i
+      → s₂ ≡ sets s₁ k (rangeBytes (range b (sizeOf p i))) → s₂ ≡ sets s 8 (joined (pairBytes p) (i + 1))
+  pair-next i s {s₁} {s₂} {b} {k} e q r t =
+      join-next (pairBytes p) i 8 s e (r ∙ ap (λ (n : ℕ). 8 + n) (sym (length-pairs i)))
+      (t ∙ ap (λ (b : ℕ). sets s₁ k (rangeBytes (range b (sizeOf p i)))) q)
+
+  pub piece-next : (i : ℕ) (s : List ℕ) {s₁ s₂ : List ℕ} {b : ℕ} → s₁ ≡ sets s (fixedPart (p .«device_services_count»)) (joined (piece p) i) → b ≡ startOf p i
+      → s₂ ≡ sets s₁ b (piece p i) → s₂ ≡ sets s (fixedPart (p .«device_services_count»)) (joined (piece p) (i + 1))
+  unfolding startOf
+  piece-next i s e q t =
+      join-next (piece p) i (fixedPart (p .«device_services_count»)) s e
+      (q ∙ ap (λ (n : ℕ). fixedPart (p .«device_services_count») + n) (sym (length-pieces i))) t
+
+  -- the parts stored one after another
+  pub laid : (s : List ℕ) {s₁ s₂ s₃ s₄ : List ℕ} → s₁ ≡ sets s 0 (digits 4 (p .«device_services_count»)) → s₂ ≡ sets s₁ 4 (digits 4 (p .«max_dss_sessions»))
+      → s₃ ≡ sets s₂ 8 (joined (pairBytes p) (p .«device_services_count»))
+      → s₄ ≡ sets s₃ (fixedPart (p .«device_services_count»)) (joined (piece p) (p .«device_services_count»)) → s₄ ≡ sets s 0 (bytesOf p)
+  unfolding bytesOf headBytes count
+  laid s {s₁} {s₂} e q r t =
+      let a = joined (pairBytes p) count in
+      let b = joined (piece p) count in
+      sets-then (headBytes p) (a ++ b) 0 8 s refl
+      (sets-then (digits 4 count) (digits 4 (p .«max_dss_sessions»)) 0 4 s refl e q)
+      (sets-then a b 8 (8 * count) s₂ (length-pairs count) r t)
+
+  -- ---- a record that fits
+
+  pub record Fitting : Type 0 where
+    pub few : p .«device_services_count» ≤ 32
+    pub sizes : firstFault (sizeVerdict p) (p .«device_services_count») ≡ Fits
+    pub short : lengthOf p ≤ 4096
+
+  pub fitting : writtenVerdict p ≡ Fits → Fitting
+  unfolding writtenVerdict
+  fitting e = record {
+    few = ltb-false 32 (p .«device_services_count») (not-broken _ wrongCount 0 (left-fits _ _ e));
+    sizes = left-fits _ _ (right-fits _ _ e);
+    short = ltb-false 4096 (lengthOf p) (not-broken _ tooLong 0 (right-fits _ _ (right-fits _ _ e)));
+  }
+
+  pub size-within : (n i : ℕ) → firstFault (sizeVerdict p) n ≡ Fits → i < n → sizeOf p i ≤ 540
+  size-within n i e h = ltb-false 540 (sizeOf p i) (not-broken _ wrongSize (pairPlace i) (fits-each (sizeVerdict p) n e i h))

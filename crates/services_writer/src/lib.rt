@@ -1,0 +1,228 @@
+// The DEVICE_SERVICES payload: its record and its writer. The record is passed by value and is
+// large (about 17 KB); a program that only reads needs nothing of this crate.
+use device_services::CID_COUNT;
+use device_services::DEVICE_SERVICES_COUNT;
+use device_services::DSS_PAYLOAD;
+use device_services::DeviceService;
+use device_services::ELEMENT_FIXED_PART;
+use device_services::ELEMENT_LIMIT;
+use device_services::MAX_DSS_INSTANCES;
+use device_services::MAX_DSS_SESSIONS;
+use device_services::MOST_SERVICES;
+use device_services::pair_place;
+use pairs::Range;
+use pairs::put_range;
+use protocol::MOST_INFORMATION;
+use protocol::OUTPUT_TOO_SMALL;
+use protocol::Refusal;
+use protocol::TOO_LONG;
+use protocol::Verdict;
+use protocol::WRONG_COUNT;
+use protocol::WRONG_SIZE;
+use protocol::Written;
+use protocol::also;
+use protocol::service::put_id;
+use wire::put_u32;
+ghost use mathlib.Core.Path.{_≡_};
+ghost use Prim.Native.Nat.{_≤_};
+ghost use lib.ListN.{length, getD};
+ghost use lib.Seq.{sets};
+ghost use Rattle.below.specs.Below.{firstFault, joined};
+ghost use Rattle.protocol.specs.declared.Verdict.the-variants.{Fits};
+ghost use Rattle.device_services.specs.DeviceServices.{fixedPart};
+ghost use Rattle.services_writer.specs.ServicesWriter.{sizeOf, lengthOf, sizeVerdict, writtenVerdict, fieldBytes, cidBytes, elementBytes, headBytes, pairBytes, piece, bytesOf, writeOf};
+
+// An element with its CIDs, of which the first `cid_count` count.
+pub struct ServiceElement {
+    pub fields: DeviceService,
+    pub cids: [u32; 128],
+}
+
+// The record, of whose elements the first `device_services_count` count.
+pub struct ServiceList {
+    pub device_services_count: u32,
+    pub max_dss_sessions: u32,
+    pub elements: [ServiceElement; 32],
+}
+
+pub fn write(list: ServiceList, out: &mut [u8]) -> Written
+    ensures { λ r. ⌜ r ≡ writeOf list (now (out .entry)) .answer ⌝ }
+    ensures { λ _. ⌜ now (out .exit) ≡ writeOf list (now (out .entry)) .output ⌝ }
+{
+    match judge(list) {
+        Verdict::Fits => write_judged(list, out),
+        Verdict::Fault(refusal) => Written::Refused(refusal),
+    }
+}
+
+// The record judged, before the room is.
+fn judge(list: ServiceList) -> Verdict
+    ensures { λ r. ⌜ r ≡ writtenVerdict list ⌝ }
+{
+    let count = list.device_services_count;
+    if MOST_SERVICES < count {
+        return Verdict::Fault(Refusal {
+            number: WRONG_COUNT,
+            place: DEVICE_SERVICES_COUNT,
+        });
+    }
+    match judge_sizes(list, count) {
+        Verdict::Fits => also(
+            Verdict::Fits,
+            MOST_INFORMATION < length_of(list),
+            TOO_LONG,
+            0,
+        ),
+        Verdict::Fault(refusal) => Verdict::Fault(refusal),
+    }
+}
+
+// The sizes of the elements, up to the first over its limit.
+fn judge_sizes(list: ServiceList, count: u32) -> Verdict
+    requires { ⌜ count ≤ 32 ⌝ }
+    ensures { λ r. ⌜ r ≡ firstFault (sizeVerdict list) count ⌝ }
+{
+    let mut i: u32 = 0;
+    while i < count {
+        let k = i as usize;
+        let element = list.elements[k];
+        let fields = element.fields;
+        if (ELEMENT_LIMIT as usize) < ELEMENT_FIXED_PART as usize + 4 * fields.cid_count as usize {
+            return Verdict::Fault(Refusal {
+                number: WRONG_SIZE,
+                place: pair_place(i),
+            });
+        }
+        i += 1;
+    }
+    Verdict::Fits
+}
+
+// The length of the payload, where each size is within its limit.
+fn length_of(list: ServiceList) -> usize
+    requires { ⌜ (list .«device_services_count» ≤ 32) × (firstFault (sizeVerdict list) (list .«device_services_count») ≡ Fits) ⌝ }
+    ensures { λ r. ⌜ r ≡ lengthOf list ⌝ }
+{
+    let count = list.device_services_count;
+    let mut end: usize = pair_place(count);
+    let mut i: u32 = 0;
+    while i < count {
+        let k = i as usize;
+        let element = list.elements[k];
+        let fields = element.fields;
+        end += ELEMENT_FIXED_PART as usize + 4 * fields.cid_count as usize;
+        i += 1;
+    }
+    end
+}
+
+// What fits: the room is judged, and the bytes are put.
+fn write_judged(list: ServiceList, out: &mut [u8]) -> Written
+    requires { ⌜ writtenVerdict list ≡ Fits ⌝ }
+    ensures { λ r. ⌜ r ≡ writeOf list (now (out .entry)) .answer ⌝ }
+    ensures { λ _. ⌜ now (out .exit) ≡ writeOf list (now (out .entry)) .output ⌝ }
+{
+    let n = length_of(list);
+    if out.len() < n {
+        return Written::Refused(Refusal {
+            number: OUTPUT_TOO_SMALL,
+            place: n,
+        });
+    }
+    put(list, out);
+    Written::Length(n)
+}
+
+// The payload's bytes.
+fn put(list: ServiceList, out: &mut [u8])
+    requires { ⌜ (list .«device_services_count» ≤ 32) × (lengthOf list ≤ 4096) ⌝ }
+    ensures { λ _. ⌜ now (out .exit) ≡ sets (now (out .entry)) 0 (bytesOf list) ⌝ }
+{
+    put_u32(out, DEVICE_SERVICES_COUNT, list.device_services_count);
+    put_u32(out, MAX_DSS_SESSIONS, list.max_dss_sessions);
+    put_pairs(list, out);
+    put_elements(list, out);
+}
+
+fn put_pairs(list: ServiceList, out: &mut [u8])
+    requires { ⌜ (list .«device_services_count» ≤ 32) × (lengthOf list ≤ 4096) ⌝ }
+    ensures { λ _. ⌜ now (out .exit) ≡ sets (now (out .entry)) 8 (joined (pairBytes list) (list .«device_services_count»)) ⌝ }
+{
+    let count = list.device_services_count;
+    let mut start: u32 = pair_place(count) as u32;
+    let mut i: u32 = 0;
+    while i < count {
+        let k = i as usize;
+        let element = list.elements[k];
+        let fields = element.fields;
+        let size = ELEMENT_FIXED_PART + 4 * fields.cid_count;
+        let pair = Range {
+            start,
+            length: size,
+        };
+        put_range(out, pair_place(i), pair);
+        start += size;
+        i += 1;
+    }
+}
+
+fn put_elements(list: ServiceList, out: &mut [u8])
+    requires { ⌜ (list .«device_services_count» ≤ 32) × (lengthOf list ≤ 4096) ⌝ }
+    ensures { λ _. ⌜ now (out .exit) ≡ sets (now (out .entry)) (fixedPart (list .«device_services_count»)) (joined (piece list) (list .«device_services_count»)) ⌝ }
+{
+    let count = list.device_services_count;
+    let mut start: u32 = pair_place(count) as u32;
+    let mut i: u32 = 0;
+    while i < count {
+        let k = i as usize;
+        let element = list.elements[k];
+        let fields = element.fields;
+        put_element(out, start, element);
+        start += ELEMENT_FIXED_PART + 4 * fields.cid_count;
+        i += 1;
+    }
+}
+
+fn put_element(out: &mut [u8], at: u32, element: ServiceElement)
+    requires { ⌜ at ≤ 4096 ⌝ }
+    ensures { λ _. ⌜ now (out .exit) ≡ sets (now (out .entry)) at (elementBytes element) ⌝ }
+{
+    let fields = element.fields;
+    let cids = element.cids;
+    put_fields(out, at, fields);
+    put_cids(out, at + ELEMENT_FIXED_PART, &cids, fields.cid_count);
+}
+
+fn put_fields(out: &mut [u8], at: u32, fields: DeviceService)
+    ensures { λ _. ⌜ now (out .exit) ≡ sets (now (out .entry)) at (fieldBytes fields) ⌝ }
+{
+    let start = at as usize;
+    let id = fields.device_service_id;
+    put_id(out, start, id);
+    put_u32(out, start + DSS_PAYLOAD, fields.dss_payload);
+    put_u32(out, start + MAX_DSS_INSTANCES, fields.max_dss_instances);
+    put_u32(out, start + CID_COUNT, fields.cid_count);
+}
+
+// The first n CIDs.
+fn put_cids(out: &mut [u8], at: u32, cids: &[u32], n: u32)
+    ensures { λ _. ⌜ now (out .exit) ≡ sets (now (out .entry)) at (cidBytes (now (cids .entry)) n) ⌝ }
+{
+    let start = at as usize;
+    let mut i: u32 = 0;
+    while i < n {
+        let place = start + 4 * i as usize;
+        put_u32(out, place, word_of(cids, i as usize));
+        i += 1;
+    }
+}
+
+fn word_of(words: &[u32], number: usize) -> u32
+    ensures { λ r. ⌜ r ≡ getD (now (words .entry)) number 0 ⌝ }
+{
+    if number < words.len() {
+        words[number]
+    } else {
+        0
+    }
+}
