@@ -165,3 +165,13 @@ answeredBy h (read.Refused r) = refused h r
 
 unfoldable pub versionReplyOf : Host → ℕ → List ℕ → HostStep
 versionReplyOf h status s = cond (eqb status 0) (answeredBy h (readOf s)) (failedAt (h .stage) h)
+
+-- ---- when it refuses
+
+-- the number of a refusal, and 0, which is none of the table's, where nothing is refused
+abbrev pub refusedWith : HostAnswer → ℕ
+refusedWith answer.Unchanged = 0
+refusedWith answer.Opened = 0
+refusedWith answer.AsksVersion = 0
+refusedWith (answer.Settled v) = 0
+refusedWith (answer.Refused r) = r .number
