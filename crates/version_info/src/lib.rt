@@ -86,7 +86,8 @@ fn judge(info: VersionInfo) -> Verdict
     )
 }
 
-fn is_extension(number: u16) -> bool
+// Whether a number is that of a version of the extensions.
+pub fn is_extension(number: u16) -> bool
     ensures { λ r. ⌜ r ≡ isExtension number ⌝ }
 {
     if number == EXTENSIONS_1_0 {

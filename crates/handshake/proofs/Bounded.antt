@@ -1,0 +1,239 @@
+-- No end ever settles above its native version, whatever it is called with.
+-- Assumes nothing.
+use Prim.Native.Nat.{ℕ, _≤_}
+use mathlib.Core.Path.{_≡_, refl, _∙_}
+use mathlib.Core.Logic.{_⊎_, inl, inr, ⊎-map}
+use mathlib.Core.Bool.{Bool, true, false, cond}
+use mathlib.Core.List.{List, [], _∷_}
+use native.Mathlib.Omega.{arith}
+use borrow.Author.Tests.{eqb-true, ltb-false}
+use lib.Dec.{eqb}
+use Rattle.protocol.specs.Service.{kindOf}
+use Rattle.protocol.specs.Verdict.{judge}
+use Rattle.protocol.specs.declared.Verdict.{Verdict}
+use Rattle.protocol.specs.declared.Verdict.the-variants.{Fits, Fault}
+use Rattle.protocol.specs.declared.Version.{Version}
+use Rattle.protocol.specs.declared.Version.the-variants.{V1, V2}
+use Rattle.protocol.specs.declared.Written.{Written}
+use Rattle.protocol.specs.declared.Written.the-variants as written
+use Rattle.protocol.specs.declared.service.Carried.{Carried}
+use Rattle.protocol.proofs.Tests.{or-cases, not-kept}
+use Rattle.protocol.proofs.Verdicts.{fits-kept}
+use Rattle.version_info.specs.VersionInfo.{isExtension, readOf, writeOf}
+use Rattle.version_info.specs.declared.VersionInfoRead.{VersionInfoRead}
+use Rattle.version_info.specs.declared.VersionInfoRead.the-variants as read
+use Rattle.services_query.specs.declared.ListedAnswer.{ListedAnswer}
+use Rattle.services_query.specs.declared.ListedAnswer.the-variants as list
+use Rattle.handshake.specs.Versions.{numberVerdict, versionOf, infoOf, larger, lower, above}
+use Rattle.handshake.specs.Host.{end, openedBy, openedOf, versionListed, listRules, acceptedList, judgedList, listAt, listReply, servicesReplyOf, answeredAt, failedAt, answeredBy, versionReplyOf, madeBy, madeOf}
+use Rattle.handshake.specs.Modem.{end as modemEnd, plain, failed, listedStage, servicesOf, answerOf, gaveBy, gave, giveOf, answerBy, canAnswer, versionOfCommand, firstOther, otherAt, roleOf, commandBy, commandOf, madeRules, madeBy as modemMadeBy, madeOf as modemMadeOf}
+use Rattle.handshake.specs.Calls.{HostCall, host-opens, host-closes, services-reply, version-reply, hostAfter, hostAfterAll, HostSound, ModemCall, modem-opens, modem-closes, command, modemAfter, modemAfterAll, ModemSoundAt, ModemSound}
+use Rattle.handshake.specs.declared.host.HostStage.{HostStage}
+use Rattle.handshake.specs.declared.host.HostStage.the-variants as host
+use Rattle.handshake.specs.declared.host.Host.{Host}
+use Rattle.handshake.specs.declared.host.HostMade.the-variants as hostMade
+use Rattle.handshake.specs.declared.host.HostStep.{HostStep}
+use Rattle.handshake.specs.declared.modem.ModemStage.{ModemStage}
+use Rattle.handshake.specs.declared.modem.ModemStage.the-variants as modem
+use Rattle.handshake.specs.declared.modem.Modem.{Modem}
+use Rattle.handshake.specs.declared.modem.ModemMade.the-variants as modemMade
+use Rattle.handshake.specs.declared.modem.ModemStep.{ModemStep}
+use Rattle.handshake.specs.declared.modem.Role.{Role}
+use Rattle.handshake.specs.declared.modem.Role.the-variants as role
+
+-- ---- the host
+
+-- a host of the same native version, at a stage that is sound
+abbrev HostKept : Version → Host → Type 0
+HostKept n h = (h .native ≡ n) × HostSound n (h .stage)
+
+none-above : (v : Version) → above v V2 ≡ false
+none-above V1 = refl
+none-above V2 = refl
+
+either : (n : Version) (b : Bool) (x y : HostStep) → HostKept n (x .host) → HostKept n (y .host) → HostKept n (cond b x y .host)
+either n true x y p q = p
+either n false x y p q = q
+
+opened-kept : (d : Verdict) (h : Host) (v : Version) → HostSound (h .native) (h .stage) → HostKept (h .native) (openedBy d h v .host)
+opened-kept Fits h v k = (refl, tt)
+opened-kept (Fault r) h v k = (refl, k)
+
+accepted-kept : (n : Version) (g : HostStage) (a : Version) (listed : Bool) → HostKept n (acceptedList (end n g) a listed .host)
+accepted-kept V1 g a listed = (refl, refl)
+accepted-kept V2 g a true = (refl, refl)
+accepted-kept V2 g a false = (refl, refl)
+
+judged-kept : (d : Verdict) (h : Host) (a : Version) (listed : Bool) → HostSound (h .native) (h .stage) → HostKept (h .native) (judgedList d h a listed .host)
+judged-kept Fits h a listed k = accepted-kept (h .native) (h .stage) a listed
+judged-kept (Fault r) h a listed k = (refl, k)
+
+list-kept : (g : HostStage) (h : Host) (listed : Bool) → HostSound (h .native) (h .stage) → HostKept (h .native) (listAt g h listed .host)
+unfolding listAt
+list-kept host.Closed h listed k = (refl, k)
+list-kept (host.Open a) h listed k = judged-kept (judge (listRules (h .native) a listed)) h a listed k
+list-kept (host.AwaitsVersion a) h listed k = (refl, k)
+list-kept (host.Settled v) h listed k = (refl, k)
+
+reply-kept : (l : ListedAnswer) (h : Host) → HostSound (h .native) (h .stage) → HostKept (h .native) (listReply h l .host)
+unfolding listReply
+reply-kept list.Listed h k = list-kept (h .stage) h true k
+reply-kept list.NotListed h k = list-kept (h .stage) h false k
+reply-kept (list.Refused r) h k = (refl, k)
+
+answered-kept : (g : HostStage) (h : Host) (v : Version) → HostSound (h .native) g → HostSound (h .native) (h .stage) → HostKept (h .native) (answeredAt g h v .host)
+unfolding answeredAt
+answered-kept host.Closed h v k s = (refl, s)
+answered-kept (host.Open a) h v k s = (refl, s)
+answered-kept (host.AwaitsVersion a) h v k s = (refl, rw k (none-above (larger a v)))
+answered-kept (host.Settled w) h v k s = (refl, s)
+
+failed-kept : (g : HostStage) (h : Host) → HostSound (h .native) g → HostSound (h .native) (h .stage) → HostKept (h .native) (failedAt g h .host)
+unfolding failedAt
+failed-kept host.Closed h k s = (refl, s)
+failed-kept (host.Open a) h k s = (refl, s)
+failed-kept (host.AwaitsVersion a) h k s = (refl, rw k (none-above a))
+failed-kept (host.Settled w) h k s = (refl, s)
+
+payload-kept : (r : VersionInfoRead) (h : Host) → HostSound (h .native) (h .stage) → HostKept (h .native) (answeredBy h r .host)
+unfolding answeredBy
+payload-kept (read.Info i) h k = answered-kept (h .stage) h (versionOf (i .«bcd_mbim_extended_version»)) k k
+payload-kept (read.Refused r) h k = (refl, k)
+
+host-kept : (h : Host) (c : HostCall) → HostSound (h .native) (h .stage) → HostKept (h .native) (hostAfter h c)
+unfolding hostAfter openedOf servicesReplyOf versionReplyOf
+host-kept h (host-opens a) k = opened-kept (numberVerdict a) h (versionOf a) k
+host-kept h host-closes k = (refl, tt)
+host-kept h (services-reply status s) k = either (h .native) (eqb status 0) _ _ (reply-kept (versionListed s) h k) (refl, k)
+host-kept h (version-reply status s) k = either (h .native) (eqb status 0) _ _ (payload-kept (readOf s) h k) (failed-kept (h .stage) h k k)
+
+sound-again : (n : Version) (h : Host) → HostKept n h → HostSound (h .native) (h .stage)
+sound-again n h k = rw (k .0) (k .1)
+
+kept-again : (m n : Version) (h : Host) → m ≡ n → HostKept m h → HostKept n h
+kept-again m n h e k = rw e at k
+
+pub host-bounded : (h : Host) (cs : List HostCall) → HostSound (h .native) (h .stage) → HostKept (h .native) (hostAfterAll h cs)
+unfolding hostAfterAll
+host-bounded h [] k = (refl, k)
+host-bounded h (c ∷ cs) k =
+    let p = host-kept h c k in
+    kept-again (hostAfter h c .native) (h .native) (hostAfterAll (hostAfter h c) cs) (p .0)
+    (host-bounded (hostAfter h c) cs (sound-again (h .native) (hostAfter h c) p))
+
+-- ---- the modem
+
+abbrev ModemKept : Modem → Modem → Type 0
+ModemKept m k = (k .native ≡ m .native) × ModemSound k
+
+answer-below : (a n v : Version) → above a n ≡ false → above (larger a (lower v n)) n ≡ false
+answer-below V1 n V1 k = refl
+answer-below V1 V1 V2 k = refl
+answer-below V1 V2 V2 k = refl
+answer-below V2 n v k = k
+
+stage-sound : (n : Version) (g : ModemStage) → ModemSoundAt n g → ModemSoundAt n (listedStage g)
+stage-sound n modem.Start k = tt
+stage-sound n modem.Listed k = tt
+stage-sound n (modem.Settled v) k = k
+
+gave-kept : (w : Written) (m : Modem) (v : Version) → above v (m .native) ≡ false → ModemSound m → ModemKept m (gaveBy w m v .modem)
+gave-kept (written.Length n) m v b k = (refl, (k .0, b))
+gave-kept (written.Refused r) m v b k = (refl, k)
+
+answer-kept : (r : VersionInfoRead) (m : Modem) (out : List ℕ) → ModemSound m → ModemKept m (answerBy m r out .step .modem)
+unfolding answerBy giveOf gave
+answer-kept (read.Info i) m out k =
+    let v = versionOf (i .«bcd_mbim_extended_version») in
+    gave-kept (writeOf (infoOf (answerOf m v)) out .answer) m (answerOf m v) (answer-below (m .advertised) (m .native) v (k .0)) k
+answer-kept (read.Refused r) m out k = (refl, k)
+
+version-kept : (b : Bool) (m : Modem) (r : VersionInfoRead) (out : List ℕ) → ModemSound m
+    → ModemKept m (cond b (answerBy m r out) (plain (failed m) out) .step .modem)
+version-kept true m r out k = answer-kept r m out k
+version-kept false m r out k = (refl, k)
+
+first-kept : (a : Version) (m : Modem) (c : Carried) → ModemSound m → ModemKept m (firstOther a m c .modem)
+first-kept V1 m c k = (refl, (k .0, refl))
+first-kept V2 m c k = (refl, k)
+
+other-kept : (g : ModemStage) (m : Modem) (c : Carried) → ModemSound m → ModemKept m (otherAt g m c .modem)
+unfolding otherAt
+other-kept modem.Start m c k = (refl, k)
+other-kept modem.Listed m c k = first-kept (m .advertised) m c k
+other-kept (modem.Settled v) m c k = (refl, k)
+
+role-kept : (x : Role) (m : Modem) (c : Carried) (type : ℕ) (s out : List ℕ) → ModemSound m → ModemKept m (commandBy x m c type s out .step .modem)
+unfolding commandBy servicesOf versionOfCommand
+role-kept role.Services m c type s out k = (refl, (k .0, stage-sound (m .native) (m .stage) (k .1)))
+role-kept role.Version m c type s out k = version-kept (canAnswer m type) m (readOf s) out k
+role-kept role.Other m c type s out k = other-kept (m .stage) m c k
+
+modem-kept : (m : Modem) (c : ModemCall) → ModemSound m → ModemKept m (modemAfter m c)
+unfolding modemAfter commandOf
+modem-kept m modem-opens k = (refl, (k .0, tt))
+modem-kept m modem-closes k = (refl, (k .0, tt))
+modem-kept m (command service cid type s out) k = role-kept (roleOf (kindOf service cid)) m (kindOf service cid) type s out k
+
+pub modem-bounded : (m : Modem) (cs : List ModemCall) → ModemSound m → ModemKept m (modemAfterAll m cs)
+unfolding modemAfterAll
+modem-bounded m [] k = (refl, k)
+modem-bounded m (c ∷ cs) k =
+    let p = modem-kept m c k in
+    let q = modem-bounded (modemAfter m c) cs (p .1) in
+    (q .0 ∙ p .0, q .1)
+
+-- ---- from ends that are made
+
+made-host : (d : Verdict) (v : Version) (h : Host) → madeBy d v ≡ hostMade.Made h → h ≡ end v host.Closed
+made-host Fits v h e = cc
+made-host (Fault r) v h e = let z : _≡_ {A = ℕ} 0 1 = cc in absurd (omega arith)
+
+host-below : (n : Version) (g : HostStage) (v : Version) → HostSound n g → g ≡ host.Settled v → above v n ≡ false
+host-below n g v k e = rw e at k
+
+pub host-never-above : (native : ℕ) (h : Host) → madeOf native ≡ hostMade.Made h → (cs : List HostCall) (v : Version)
+    → hostAfterAll h cs .stage ≡ host.Settled v → above v (versionOf native) ≡ false
+unfolding madeOf
+host-never-above native h e cs v q =
+    let p = made-host (numberVerdict native) (versionOf native) h e in
+    let k = host-bounded (end (versionOf native) host.Closed) cs tt in
+    let w : hostAfterAll (end (versionOf native) host.Closed) cs .stage ≡ host.Settled v = rw p at q in
+    host-below (versionOf native) (hostAfterAll (end (versionOf native) host.Closed) cs .stage) v (k .1) w
+
+made-modem : (d : Verdict) (a m : Modem) → modemMadeBy d a ≡ modemMade.Made m → (d ≡ Fits) × (m ≡ a)
+made-modem Fits a m e = (refl, cc)
+made-modem (Fault r) a m e = let z : _≡_ {A = ℕ} 0 1 = cc in absurd (omega arith)
+
+-- a number of the table
+known : (n : ℕ) → isExtension n ≡ true → (n ≡ 0x0100) ⊎ (n ≡ 0x0200)
+known n e = ⊎-map (eqb-true n 0x0100) (eqb-true n 0x0200) (or-cases (eqb n 0x0100) (eqb n 0x0200) e)
+
+advertised-below : (native advertised : ℕ) → (native ≡ 0x0100) ⊎ (native ≡ 0x0200) → (advertised ≡ 0x0100) ⊎ (advertised ≡ 0x0200)
+    → advertised ≤ native → above (versionOf advertised) (versionOf native) ≡ false
+advertised-below native advertised (inl p) (inl q) h = rw (p, q)
+advertised-below native advertised (inl p) (inr q) h = absurd (omega arith)
+advertised-below native advertised (inr p) (inl q) h = rw (p, q)
+advertised-below native advertised (inr p) (inr q) h = rw (p, q)
+
+made-sound : (native advertised : ℕ) (listed : Bool) → judge (madeRules native advertised) ≡ Fits
+    → ModemSound (modemEnd (versionOf native) (versionOf advertised) listed modem.Start)
+unfolding madeRules
+made-sound native advertised listed e =
+    let k = fits-kept (madeRules native advertised) e in (
+      advertised-below native advertised (known native (not-kept (isExtension native) (k .0)))
+          (known advertised (not-kept (isExtension advertised) (k .1 .0))) (ltb-false native advertised (k .1 .1 .0)),
+      tt,
+    )
+
+settled-below : (n : Version) (g : ModemStage) (v : Version) → ModemSoundAt n g → g ≡ modem.Settled v → above v n ≡ false
+settled-below n g v k e = rw e at k
+
+pub modem-never-above : (native advertised : ℕ) (listed : Bool) (m : Modem) → modemMadeOf native advertised listed ≡ modemMade.Made m
+    → (cs : List ModemCall) (v : Version) → modemAfterAll m cs .stage ≡ modem.Settled v → above v (m .native) ≡ false
+unfolding modemMadeOf
+modem-never-above native advertised listed m e cs v q =
+    let p = made-modem (judge (madeRules native advertised)) _ m e in
+    let s : ModemSound m = rw (p .1) (made-sound native advertised listed (p .0)) in
+    let b = modem-bounded m cs s in
+    rw (b .0) at (settled-below (modemAfterAll m cs .native) (modemAfterAll m cs .stage) v (b .1 .1) q)

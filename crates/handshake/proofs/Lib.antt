@@ -1,0 +1,4 @@
+pub mod Staying
+pub mod Bounded
+pub mod Refusing
+pub mod Run

@@ -1,0 +1,89 @@
+-- A settled end is left as it is by every call but OPEN and CLOSE.
+-- Assumes nothing.
+use Prim.Native.Nat.{ℕ}
+use mathlib.Core.Path.{_≡_, refl, ap}
+use mathlib.Core.Bool.{Bool, true, false, cond, _&&_}
+use mathlib.Core.List.{List, [], _∷_}
+use lib.Dec.{eqb}
+use Rattle.protocol.specs.Service.{kindOf}
+use Rattle.protocol.specs.declared.Version.{Version}
+use Rattle.protocol.specs.declared.service.Carried.{Carried}
+use Rattle.protocol.specs.declared.service.ServiceId.{ServiceId}
+use Rattle.version_info.specs.VersionInfo.{readOf}
+use Rattle.version_info.specs.declared.VersionInfoRead.{VersionInfoRead}
+use Rattle.version_info.specs.declared.VersionInfoRead.the-variants as read
+use Rattle.services_query.specs.declared.ListedAnswer.{ListedAnswer}
+use Rattle.services_query.specs.declared.ListedAnswer.the-variants as list
+use Rattle.handshake.specs.Host.{versionListed, listAt, listReply, servicesReplyOf, answeredAt, failedAt, answeredBy, versionReplyOf}
+use Rattle.handshake.specs.Modem.{at, listedStage, servicesOf, canAnswer, versionOfCommand, otherAt, roleOf, commandBy, commandOf}
+use Rattle.handshake.specs.Calls.{HostCall, host-opens, host-closes, services-reply, version-reply, hostAfter, hostAfterAll, HostQuiet, ModemCall, modem-opens, modem-closes, command, modemAfter, modemAfterAll, ModemQuiet}
+use Rattle.handshake.specs.declared.host.HostStage.the-variants as host
+use Rattle.handshake.specs.declared.host.Host.{Host}
+use Rattle.handshake.specs.declared.host.HostStep.{HostStep}
+use Rattle.handshake.specs.declared.modem.ModemStage.the-variants as modem
+use Rattle.handshake.specs.declared.modem.Modem.{Modem}
+use Rattle.handshake.specs.declared.modem.Role.{Role}
+use Rattle.handshake.specs.declared.modem.Role.the-variants as role
+
+-- ---- the host
+
+either : (h : Host) (b : Bool) (x y : HostStep) → x .host ≡ h → y .host ≡ h → cond b x y .host ≡ h
+either h true x y p q = p
+either h false x y p q = q
+
+module _ (h : Host) (v : Version) (e : h .stage ≡ host.Settled v) where
+  by-list : (a : ListedAnswer) → listReply h a .host ≡ h
+  unfolding listReply listAt
+  by-list list.Listed = rw e
+  by-list list.NotListed = rw e
+  by-list (list.Refused r) = refl
+
+  by-payload : (a : VersionInfoRead) → answeredBy h a .host ≡ h
+  unfolding answeredBy answeredAt
+  by-payload (read.Info i) = rw e
+  by-payload (read.Refused r) = refl
+
+  by-failure : failedAt (h .stage) h .host ≡ h
+  unfolding failedAt
+  by-failure = rw e
+
+  keeps-list : (status : ℕ) (s : List ℕ) → servicesReplyOf h status s .host ≡ h
+  unfolding servicesReplyOf
+  keeps-list status s = either h (eqb status 0) _ _ (by-list (versionListed s)) refl
+
+  keeps-version : (status : ℕ) (s : List ℕ) → versionReplyOf h status s .host ≡ h
+  unfolding versionReplyOf
+  keeps-version status s = either h (eqb status 0) _ _ (by-payload (readOf s)) by-failure
+
+pub host-stays : (h : Host) (v : Version) → h .stage ≡ host.Settled v → (cs : List HostCall) → HostQuiet cs → hostAfterAll h cs ≡ h
+unfolding hostAfterAll hostAfter
+host-stays h v e [] q = refl
+host-stays h v e (host-opens a ∷ cs) q = absurd q
+host-stays h v e (host-closes ∷ cs) q = absurd q
+host-stays h v e (services-reply status s ∷ cs) q = rw (keeps-list h v e status s) (host-stays h v e cs q)
+host-stays h v e (version-reply status s ∷ cs) q = rw (keeps-version h v e status s) (host-stays h v e cs q)
+
+-- ---- the modem
+
+module _ (m : Modem) (v : Version) (e : m .stage ≡ modem.Settled v) where
+  keeps-services : (c : Carried) → servicesOf m c .modem ≡ m
+  unfolding servicesOf
+  keeps-services c = let q : listedStage (m .stage) ≡ m .stage = rw e in ap (at m) q
+
+  refuses-version : (type : ℕ) → canAnswer m type ≡ false
+  unfolding canAnswer
+  refuses-version type = rw e
+
+  by-role : (k : Role) (c : Carried) (type : ℕ) (s out : List ℕ) → commandBy k m c type s out .step .modem ≡ m
+  unfolding commandBy versionOfCommand otherAt
+  by-role role.Services c type s out = keeps-services c
+  by-role role.Version c type s out = rw (refuses-version type)
+  by-role role.Other c type s out = rw e
+
+pub modem-stays : (m : Modem) (v : Version) → m .stage ≡ modem.Settled v → (cs : List ModemCall) → ModemQuiet cs → modemAfterAll m cs ≡ m
+unfolding modemAfterAll modemAfter commandOf
+modem-stays m v e [] q = refl
+modem-stays m v e (modem-opens ∷ cs) q = absurd q
+modem-stays m v e (modem-closes ∷ cs) q = absurd q
+modem-stays m v e (command service cid type s out ∷ cs) q =
+    rw (by-role m v e (roleOf (kindOf service cid)) (kindOf service cid) type s out) (modem-stays m v e cs q)

@@ -1,0 +1,83 @@
+-- Any calls of an end, one after the other: each is given the end as the one before left it.
+use Prim.Native.Nat.{ℕ}
+use mathlib.Core.Path.{_≡_}
+use mathlib.Core.Bool.{false}
+use mathlib.Core.List.{List, [], _∷_}
+use Rattle.protocol.specs.declared.Version.{Version}
+use Rattle.protocol.specs.declared.Version.the-variants.{V2}
+use Rattle.protocol.specs.declared.service.ServiceId.{ServiceId}
+use Rattle.handshake.specs.Versions.{above}
+use Rattle.handshake.specs.Host.{openedOf, closedOf, servicesReplyOf, versionReplyOf}
+use Rattle.handshake.specs.Modem.{startOf, commandOf}
+use Rattle.handshake.specs.declared.host.HostStage.{HostStage}
+use Rattle.handshake.specs.declared.host.HostStage.the-variants as host
+use Rattle.handshake.specs.declared.host.Host.{Host}
+use Rattle.handshake.specs.declared.modem.ModemStage.{ModemStage}
+use Rattle.handshake.specs.declared.modem.ModemStage.the-variants as modem
+use Rattle.handshake.specs.declared.modem.Modem.{Modem}
+
+-- ---- the host's
+
+-- a reply is a status and a payload
+pub data HostCall : Type 0 where
+  host-opens : ℕ → HostCall
+  host-closes : HostCall
+  services-reply : ℕ → List ℕ → HostCall
+  version-reply : ℕ → List ℕ → HostCall
+
+unfoldable pub hostAfter : Host → HostCall → Host
+hostAfter h (host-opens advertised) = openedOf h advertised .host
+hostAfter h host-closes = closedOf h
+hostAfter h (services-reply status s) = servicesReplyOf h status s .host
+hostAfter h (version-reply status s) = versionReplyOf h status s .host
+
+unfoldable pub hostAfterAll : Host → List HostCall → Host
+hostAfterAll h [] = h
+hostAfterAll h (c ∷ cs) = hostAfterAll (hostAfter h c) cs
+
+-- neither OPEN nor CLOSE is among the calls
+abbrev pub HostQuiet : List HostCall → Type 0
+HostQuiet [] = Unit
+HostQuiet (host-opens advertised ∷ cs) = ⊥
+HostQuiet (host-closes ∷ cs) = ⊥
+HostQuiet (services-reply status s ∷ cs) = HostQuiet cs
+HostQuiet (version-reply status s ∷ cs) = HostQuiet cs
+
+-- what holds of a host at each stage: only one of 2.00 asks VERSION, and none settles above its native version
+abbrev pub HostSound : Version → HostStage → Type 0
+HostSound native host.Closed = Unit
+HostSound native (host.Open a) = Unit
+HostSound native (host.AwaitsVersion a) = native ≡ V2
+HostSound native (host.Settled v) = above v native ≡ false
+
+-- ---- the modem's
+
+-- a command is a service, a CID, a type and a payload; the last list is the lent output
+pub data ModemCall : Type 0 where
+  modem-opens : ModemCall
+  modem-closes : ModemCall
+  command : ServiceId → ℕ → ℕ → List ℕ → List ℕ → ModemCall
+
+unfoldable pub modemAfter : Modem → ModemCall → Modem
+modemAfter m modem-opens = startOf m
+modemAfter m modem-closes = startOf m
+modemAfter m (command service cid type s out) = commandOf m service cid type s out .step .modem
+
+unfoldable pub modemAfterAll : Modem → List ModemCall → Modem
+modemAfterAll m [] = m
+modemAfterAll m (c ∷ cs) = modemAfterAll (modemAfter m c) cs
+
+abbrev pub ModemQuiet : List ModemCall → Type 0
+ModemQuiet [] = Unit
+ModemQuiet (modem-opens ∷ cs) = ⊥
+ModemQuiet (modem-closes ∷ cs) = ⊥
+ModemQuiet (command service cid type s out ∷ cs) = ModemQuiet cs
+
+abbrev pub ModemSoundAt : Version → ModemStage → Type 0
+ModemSoundAt native modem.Start = Unit
+ModemSoundAt native modem.Listed = Unit
+ModemSoundAt native (modem.Settled v) = above v native ≡ false
+
+-- a modem advertises nothing above its native version, and settles on nothing above it
+abbrev pub ModemSound : Modem → Type 0
+ModemSound m = (above (m .advertised) (m .native) ≡ false) × ModemSoundAt (m .native) (m .stage)

@@ -1,0 +1,5 @@
+pub mod Versions
+pub mod Host
+pub mod Modem
+pub mod Calls
+pub mod Run

@@ -1,0 +1,90 @@
+// The handshake: how host and modem settle on a version of the extensions. Each end is a value that
+// its calls take and give back; messages, transactions and time are not known here.
+pub mod host;
+pub mod modem;
+
+use protocol::Verdict;
+use protocol::Version;
+use protocol::WRONG_VERSION;
+use protocol::also;
+use version_info::EXTENSIONS_1_0;
+use version_info::EXTENSIONS_2_0;
+use version_info::MBIM_1_0;
+use version_info::VersionInfo;
+use version_info::is_extension;
+ghost use mathlib.Core.Path.{_≡_};
+ghost use Rattle.handshake.specs.Versions.{numberOf, numberVerdict, versionOf, infoOf, larger, lower, above, isLater};
+
+// The verdict on a number that is to be a version's.
+pub fn judge_number(number: u16) -> Verdict
+    ensures { λ r. ⌜ r ≡ numberVerdict number ⌝ }
+{
+    also(Verdict::Fits, !is_extension(number), WRONG_VERSION, 0)
+}
+
+// The version of one of the two numbers.
+pub fn version_of(number: u16) -> Version
+    ensures { λ r. ⌜ r ≡ versionOf number ⌝ }
+{
+    if number == EXTENSIONS_2_0 {
+        return Version::V2;
+    }
+    Version::V1
+}
+
+pub fn number_of(version: Version) -> u16
+    ensures { λ r. ⌜ r ≡ numberOf version ⌝ }
+{
+    match version {
+        Version::V1 => EXTENSIONS_1_0,
+        Version::V2 => EXTENSIONS_2_0,
+    }
+}
+
+// The VERSION payload that carries a version.
+pub fn info_of(version: Version) -> VersionInfo
+    ensures { λ r. ⌜ r ≡ infoOf version ⌝ }
+{
+    VersionInfo {
+        bcd_mbim_version: MBIM_1_0,
+        bcd_mbim_extended_version: number_of(version),
+    }
+}
+
+pub fn larger(a: Version, b: Version) -> Version
+    ensures { λ r. ⌜ r ≡ larger a b ⌝ }
+{
+    match a {
+        Version::V1 => b,
+        Version::V2 => Version::V2,
+    }
+}
+
+pub fn lower(a: Version, b: Version) -> Version
+    ensures { λ r. ⌜ r ≡ lower a b ⌝ }
+{
+    match a {
+        Version::V1 => Version::V1,
+        Version::V2 => b,
+    }
+}
+
+// Whether a is above b.
+pub fn is_above(a: Version, b: Version) -> bool
+    ensures { λ r. ⌜ r ≡ above a b ⌝ }
+{
+    match a {
+        Version::V1 => false,
+        Version::V2 => !is_later(b),
+    }
+}
+
+// Whether the version is 2.00.
+pub fn is_later(version: Version) -> bool
+    ensures { λ r. ⌜ r ≡ isLater version ⌝ }
+{
+    match version {
+        Version::V1 => false,
+        Version::V2 => true,
+    }
+}

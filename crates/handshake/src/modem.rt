@@ -1,0 +1,292 @@
+// The modem's end: it serves its list of services first, answers VERSION or takes another first
+// command as the rule says, and then keeps the version that it settled on.
+use crate::info_of;
+use crate::judge_number;
+use crate::larger;
+use crate::lower;
+use crate::version_of;
+use protocol::Refusal;
+use protocol::Verdict;
+use protocol::Version;
+use protocol::WRONG_VERSION;
+use protocol::Written;
+use protocol::also;
+use protocol::first;
+use protocol::service::Carried;
+use protocol::service::Kind;
+use protocol::service::ServiceId;
+use protocol::service::kind_of;
+use version_info::VersionInfoRead;
+ghost use mathlib.Core.Path.{_≡_};
+ghost use Rattle.protocol.specs.Verdict.{judge};
+ghost use Rattle.version_info.specs.VersionInfo.{readOf};
+ghost use Rattle.handshake.specs.Modem.{at, madeRules, madeOf, startOf, roleOfKind, roleOf, failed, listedStage, servicesOf, answerOf, giveOf, answerBy, canAnswer, versionOfCommand, firstOther, otherAt, commandOf};
+
+// How far the handshake is.
+pub enum ModemStage {
+    Start,
+    // The list of services was served; the first other command is awaited.
+    Listed,
+    Settled { version: Version },
+}
+
+// 01's end of a modem. `lists_version` says whether VERSION is in its own list of services.
+pub struct Modem {
+    pub native: Version,
+    pub advertised: Version,
+    pub lists_version: bool,
+    pub stage: ModemStage,
+}
+
+pub enum ModemMade {
+    Made(Modem),
+    Refused(Refusal),
+}
+
+// What a command is answered.
+pub enum ModemAnswer {
+    // Status 0 as far as the handshake goes: the command is to be served.
+    Serve(Carried),
+    // Status 0, with as many payload bytes at the front of the output.
+    Version(usize),
+    // Another status, and no payload.
+    Failed(u32),
+    // No answer yet, and nothing changed.
+    Refused(Refusal),
+}
+
+// The end after a command, and the answer.
+pub struct ModemStep {
+    pub modem: Modem,
+    pub answer: ModemAnswer,
+}
+
+// What a command is to the handshake.
+pub enum Role {
+    Services,
+    Version,
+    Other,
+}
+
+// The status of a command that is not supported now.
+pub const NO_DEVICE_SUPPORT: u32 = 9;
+
+// The command type of a query; a set has another.
+pub const QUERY: u32 = 0;
+
+// A modem at its start, from the numbers of its native and its advertised version.
+pub fn make(native: u16, advertised: u16, lists_version: bool) -> ModemMade
+    ensures { λ r. ⌜ r ≡ madeOf native advertised «lists_version» ⌝ }
+{
+    match judge_numbers(native, advertised) {
+        Verdict::Fits => ModemMade::Made(Modem {
+            native: version_of(native),
+            advertised: version_of(advertised),
+            lists_version,
+            stage: ModemStage::Start,
+        }),
+        Verdict::Fault(refusal) => ModemMade::Refused(refusal),
+    }
+}
+
+pub fn open(modem: Modem) -> Modem
+    ensures { λ r. ⌜ r ≡ startOf modem ⌝ }
+{
+    at_stage(modem, ModemStage::Start)
+}
+
+pub fn close(modem: Modem) -> Modem
+    ensures { λ r. ⌜ r ≡ startOf modem ⌝ }
+{
+    at_stage(modem, ModemStage::Start)
+}
+
+// A command: its service and CID, its type, and its payload.
+pub fn command(
+    modem: Modem,
+    service: ServiceId,
+    cid: u32,
+    command_type: u32,
+    payload: &[u8],
+    out: &mut [u8],
+) -> ModemStep
+    ensures { λ r. ⌜ r ≡ commandOf modem service cid «command_type» (now (payload .entry)) (now (out .entry)) .step ⌝ }
+    ensures { λ _. ⌜ now (out .exit) ≡ commandOf modem service cid «command_type» (now (payload .entry)) (now (out .entry)) .output ⌝ }
+{
+    let carried = kind_of(service, cid);
+    match role_of(carried) {
+        Role::Services => serve_list(modem, carried),
+        Role::Version => take_version(modem, command_type, payload, out),
+        Role::Other => take_other(modem, carried),
+    }
+}
+
+fn judge_numbers(native: u16, advertised: u16) -> Verdict
+    ensures { λ r. ⌜ r ≡ judge (madeRules native advertised) ⌝ }
+{
+    let known = first(judge_number(native), judge_number(advertised));
+    also(known, native < advertised, WRONG_VERSION, 0)
+}
+
+fn role_of(carried: Carried) -> Role
+    ensures { λ r. ⌜ r ≡ roleOf carried ⌝ }
+{
+    match carried {
+        Carried::Payload(kind) => role_of_kind(kind),
+        Carried::Refused(_) => Role::Other,
+    }
+}
+
+fn role_of_kind(kind: Kind) -> Role
+    ensures { λ r. ⌜ r ≡ roleOfKind kind ⌝ }
+{
+    match kind {
+        Kind::RegisterState => Role::Other,
+        Kind::PacketService => Role::Other,
+        Kind::SignalState => Role::Other,
+        Kind::DeviceServices => Role::Services,
+        Kind::VersionInfo => Role::Version,
+    }
+}
+
+// DEVICE_SERVICES, as a query or a set.
+fn serve_list(modem: Modem, carried: Carried) -> ModemStep
+    ensures { λ r. ⌜ r ≡ servicesOf modem carried ⌝ }
+{
+    let stage = modem.stage;
+    ModemStep {
+        modem: at_stage(modem, stage_after_list(stage)),
+        answer: ModemAnswer::Serve(carried),
+    }
+}
+
+fn stage_after_list(stage: ModemStage) -> ModemStage
+    ensures { λ r. ⌜ r ≡ listedStage stage ⌝ }
+{
+    match stage {
+        ModemStage::Start => ModemStage::Listed,
+        ModemStage::Listed => ModemStage::Listed,
+        ModemStage::Settled { version } => ModemStage::Settled { version },
+    }
+}
+
+fn take_version(modem: Modem, command_type: u32, payload: &[u8], out: &mut [u8]) -> ModemStep
+    ensures { λ r. ⌜ r ≡ versionOfCommand modem «command_type» (now (payload .entry)) (now (out .entry)) .step ⌝ }
+    ensures { λ _. ⌜ now (out .exit) ≡ versionOfCommand modem «command_type» (now (payload .entry)) (now (out .entry)) .output ⌝ }
+{
+    if can_answer(modem, command_type) {
+        return answer_version(modem, payload, out);
+    }
+    fail(modem)
+}
+
+// Whether VERSION may be answered now, if its payload is good.
+fn can_answer(modem: Modem, command_type: u32) -> bool
+    ensures { λ r. ⌜ r ≡ canAnswer modem «command_type» ⌝ }
+{
+    let stage = modem.stage;
+    match stage {
+        ModemStage::Start => false,
+        ModemStage::Listed => {
+            if modem.lists_version {
+                return command_type == QUERY;
+            }
+            false
+        }
+        ModemStage::Settled { version: _ } => false,
+    }
+}
+
+fn answer_version(modem: Modem, payload: &[u8], out: &mut [u8]) -> ModemStep
+    ensures { λ r. ⌜ r ≡ answerBy modem (readOf (now (payload .entry))) (now (out .entry)) .step ⌝ }
+    ensures { λ _. ⌜ now (out .exit) ≡ answerBy modem (readOf (now (payload .entry))) (now (out .entry)) .output ⌝ }
+{
+    match version_info::read(payload) {
+        VersionInfoRead::Info(info) => {
+            let native = version_of(info.bcd_mbim_extended_version);
+            give_version(modem, answer_of(modem, native), out)
+        }
+        VersionInfoRead::Refused(_) => fail(modem),
+    }
+}
+
+// The answer to a host of a native version.
+fn answer_of(modem: Modem, native: Version) -> Version
+    ensures { λ r. ⌜ r ≡ answerOf modem native ⌝ }
+{
+    let advertised = modem.advertised;
+    let own = modem.native;
+    larger(advertised, lower(native, own))
+}
+
+// Writes the answer and settles there.
+fn give_version(modem: Modem, version: Version, out: &mut [u8]) -> ModemStep
+    ensures { λ r. ⌜ r ≡ giveOf modem version (now (out .entry)) .step ⌝ }
+    ensures { λ _. ⌜ now (out .exit) ≡ giveOf modem version (now (out .entry)) .output ⌝ }
+{
+    match version_info::write(info_of(version), out) {
+        Written::Length(n) => ModemStep {
+            modem: at_stage(modem, ModemStage::Settled { version }),
+            answer: ModemAnswer::Version(n),
+        },
+        Written::Refused(refusal) => ModemStep {
+            modem,
+            answer: ModemAnswer::Refused(refusal),
+        },
+    }
+}
+
+// Any command but DEVICE_SERVICES and VERSION.
+fn take_other(modem: Modem, carried: Carried) -> ModemStep
+    ensures { λ r. ⌜ r ≡ otherAt (modem .stage) modem carried ⌝ }
+{
+    let stage = modem.stage;
+    match stage {
+        ModemStage::Start => fail(modem),
+        ModemStage::Listed => take_first_other(modem, carried),
+        ModemStage::Settled { version: _ } => ModemStep {
+            modem,
+            answer: ModemAnswer::Serve(carried),
+        },
+    }
+}
+
+fn take_first_other(modem: Modem, carried: Carried) -> ModemStep
+    ensures { λ r. ⌜ r ≡ firstOther (modem .advertised) modem carried ⌝ }
+{
+    let advertised = modem.advertised;
+    match advertised {
+        Version::V1 => ModemStep {
+            modem: at_stage(
+                modem,
+                ModemStage::Settled {
+                    version: Version::V1,
+                },
+            ),
+            answer: ModemAnswer::Serve(carried),
+        },
+        Version::V2 => fail(modem),
+    }
+}
+
+fn fail(modem: Modem) -> ModemStep
+    ensures { λ r. ⌜ r ≡ failed modem ⌝ }
+{
+    ModemStep {
+        modem,
+        answer: ModemAnswer::Failed(NO_DEVICE_SUPPORT),
+    }
+}
+
+fn at_stage(modem: Modem, stage: ModemStage) -> Modem
+    ensures { λ r. ⌜ r ≡ at modem stage ⌝ }
+{
+    let native = modem.native;
+    let advertised = modem.advertised;
+    Modem {
+        native,
+        advertised,
+        lists_version: modem.lists_version,
+        stage,
+    }
+}
