@@ -1,3 +1,4 @@
 pub mod Accepts
 pub mod Back
 pub mod Transferred
+pub mod Settled
