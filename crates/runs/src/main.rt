@@ -1,0 +1,418 @@
+// Prints what host and modem come to in each of the 12 runs of the handshake: two native versions of
+// the host, three pairs of a modem's native and advertised version, VERSION listed or not.
+use handshake::host::Ask;
+use handshake::host::Host;
+use handshake::host::HostAnswer;
+use handshake::host::HostMade;
+use handshake::host::HostStage;
+use handshake::modem::Modem;
+use handshake::modem::ModemAnswer;
+use handshake::modem::ModemMade;
+use handshake::modem::ModemStage;
+use handshake::modem::QUERY;
+use libc::STDOUT_FILENO;
+use protocol::Version;
+use protocol::service::DEVICE_SERVICES;
+use protocol::service::REGISTER_STATE;
+use protocol::service::VERSION;
+use protocol::service::basic_connect_id;
+use protocol::service::extensions_id;
+
+// Both ends, and the number of the host's refusal, 0 for none.
+struct Ends {
+    host: Host,
+    modem: Modem,
+    refused: u32,
+}
+
+// A list of services with CID 15 of the extensions, and one without.
+const WITH_VERSION: [u8; 100] = [
+    0x02,
+    0x00,
+    0x00,
+    0x00,
+    0x00,
+    0x00,
+    0x00,
+    0x00,
+    0x18,
+    0x00,
+    0x00,
+    0x00,
+    0x2C,
+    0x00,
+    0x00,
+    0x00,
+    0x44,
+    0x00,
+    0x00,
+    0x00,
+    0x20,
+    0x00,
+    0x00,
+    0x00,
+    0xA2,
+    0x89,
+    0xCC,
+    0x33,
+    0xBC,
+    0xBB,
+    0x8B,
+    0x4F,
+    0xB6,
+    0xB0,
+    0x13,
+    0x3E,
+    0xC2,
+    0xAA,
+    0xE6,
+    0xDF,
+    0x00,
+    0x00,
+    0x00,
+    0x00,
+    0x00,
+    0x00,
+    0x00,
+    0x00,
+    0x04,
+    0x00,
+    0x00,
+    0x00,
+    0x09,
+    0x00,
+    0x00,
+    0x00,
+    0x0A,
+    0x00,
+    0x00,
+    0x00,
+    0x0B,
+    0x00,
+    0x00,
+    0x00,
+    0x10,
+    0x00,
+    0x00,
+    0x00,
+    0x3D,
+    0x01,
+    0xDC,
+    0xC5,
+    0xFE,
+    0xF5,
+    0x4D,
+    0x05,
+    0x0D,
+    0x3A,
+    0xBE,
+    0xF7,
+    0x05,
+    0x8E,
+    0x9A,
+    0xAF,
+    0x00,
+    0x00,
+    0x00,
+    0x00,
+    0x00,
+    0x00,
+    0x00,
+    0x00,
+    0x01,
+    0x00,
+    0x00,
+    0x00,
+    0x0F,
+    0x00,
+    0x00,
+    0x00,
+];
+
+const WITHOUT_VERSION: [u8; 60] = [
+    0x01,
+    0x00,
+    0x00,
+    0x00,
+    0x00,
+    0x00,
+    0x00,
+    0x00,
+    0x10,
+    0x00,
+    0x00,
+    0x00,
+    0x2C,
+    0x00,
+    0x00,
+    0x00,
+    0xA2,
+    0x89,
+    0xCC,
+    0x33,
+    0xBC,
+    0xBB,
+    0x8B,
+    0x4F,
+    0xB6,
+    0xB0,
+    0x13,
+    0x3E,
+    0xC2,
+    0xAA,
+    0xE6,
+    0xDF,
+    0x00,
+    0x00,
+    0x00,
+    0x00,
+    0x00,
+    0x00,
+    0x00,
+    0x00,
+    0x04,
+    0x00,
+    0x00,
+    0x00,
+    0x09,
+    0x00,
+    0x00,
+    0x00,
+    0x0A,
+    0x00,
+    0x00,
+    0x00,
+    0x0B,
+    0x00,
+    0x00,
+    0x00,
+    0x10,
+    0x00,
+    0x00,
+    0x00,
+];
+
+fn main() {
+    print(b"host\tmodem\tadvertised\tVERSION\thost's end\tmodem's end\n");
+    print_host(0x0100);
+    print_host(0x0200);
+}
+
+fn print_host(native: u16) {
+    print_modem(native, 0x0100, 0x0100);
+    print_modem(native, 0x0200, 0x0100);
+    print_modem(native, 0x0200, 0x0200);
+}
+
+fn print_modem(native: u16, modem: u16, advertised: u16) {
+    let with_version = WITH_VERSION;
+    let without_version = WITHOUT_VERSION;
+    print_run(native, modem, advertised, true, &with_version);
+    print_run(native, modem, advertised, false, &without_version);
+}
+
+fn print_run(native: u16, modem: u16, advertised: u16, is_listed: bool, services: &[u8]) {
+    print_number(native);
+    print(b"\t");
+    print_number(modem);
+    print(b"\t");
+    print_number(advertised);
+    if is_listed {
+        print(b"\tlisted\t");
+    } else {
+        print(b"\tnot listed\t");
+    }
+    print_ends(run(native, modem, advertised, is_listed, services));
+}
+
+// From ends just opened: DEVICE_SERVICES and its reply, then, unless the host refuses, its first
+// command and the reply. Each call is given its end as the one before left it.
+fn run(native: u16, modem: u16, advertised: u16, is_listed: bool, services: &[u8]) -> Ends {
+    let ends = Ends {
+        host: opened_host(native, advertised),
+        modem: opened_modem(modem, advertised, is_listed),
+        refused: 0,
+    };
+    let listed = turn(ends, services);
+    if listed.refused != 0 {
+        return listed;
+    }
+    turn(listed, services)
+}
+
+fn opened_host(native: u16, advertised: u16) -> Host {
+    match handshake::host::make(native) {
+        HostMade::Made(host) => {
+            let step = handshake::host::open(host, advertised);
+            step.host
+        }
+        HostMade::Refused(_) => Host {
+            native: Version::V1,
+            stage: HostStage::Closed,
+        },
+    }
+}
+
+fn opened_modem(native: u16, advertised: u16, is_listed: bool) -> Modem {
+    match handshake::modem::make(native, advertised, is_listed) {
+        ModemMade::Made(modem) => handshake::modem::open(modem),
+        ModemMade::Refused(_) => Modem {
+            native: Version::V1,
+            advertised: Version::V1,
+            lists_version: is_listed,
+            stage: ModemStage::Start,
+        },
+    }
+}
+
+// The command that the host asks for, and its reply.
+fn turn(ends: Ends, services: &[u8]) -> Ends {
+    let mut sent = [0u8; 4];
+    let host = ends.host;
+    match handshake::host::next_command(host, &mut sent) {
+        Ask::Services => services_turn(ends, services),
+        Ask::Version(_) => version_turn(ends, &sent),
+        Ask::Free(_) => other_turn(ends),
+        Ask::Nothing => ends,
+        Ask::Refused(_) => ends,
+    }
+}
+
+fn services_turn(ends: Ends, services: &[u8]) -> Ends {
+    let mut room = [0u8; 4];
+    let host = ends.host;
+    let modem = ends.modem;
+    let done = handshake::modem::command(
+        modem,
+        basic_connect_id(),
+        DEVICE_SERVICES,
+        QUERY,
+        b"",
+        &mut room,
+    );
+    let heard = handshake::host::services_reply(host, 0, services);
+    let answer = heard.answer;
+    let host = heard.host;
+    let modem = done.modem;
+    Ends {
+        host,
+        modem,
+        refused: number_of(answer),
+    }
+}
+
+fn version_turn(ends: Ends, payload: &[u8]) -> Ends {
+    let mut room = [0u8; 4];
+    let host = ends.host;
+    let modem = ends.modem;
+    let done = handshake::modem::command(
+        modem,
+        extensions_id(),
+        VERSION,
+        QUERY,
+        payload,
+        &mut room,
+    );
+    let answered = done.answer;
+    let status = status_of(answered);
+    let heard = handshake::host::version_reply(host, status, &room);
+    let answer = heard.answer;
+    let host = heard.host;
+    let modem = done.modem;
+    Ends {
+        host,
+        modem,
+        refused: number_of(answer),
+    }
+}
+
+fn other_turn(ends: Ends) -> Ends {
+    let mut room = [0u8; 4];
+    let host = ends.host;
+    let modem = ends.modem;
+    let done = handshake::modem::command(
+        modem,
+        basic_connect_id(),
+        REGISTER_STATE,
+        QUERY,
+        b"",
+        &mut room,
+    );
+    let modem = done.modem;
+    Ends {
+        host,
+        modem,
+        refused: 0,
+    }
+}
+
+fn status_of(answer: ModemAnswer) -> u32 {
+    match answer {
+        ModemAnswer::Failed(status) => status,
+        ModemAnswer::Serve(_) => 0,
+        ModemAnswer::Version(_) => 0,
+        ModemAnswer::Refused(_) => 9,
+    }
+}
+
+fn number_of(answer: HostAnswer) -> u32 {
+    match answer {
+        HostAnswer::Refused(refusal) => refusal.number,
+        HostAnswer::Unchanged => 0,
+        HostAnswer::Opened => 0,
+        HostAnswer::AsksVersion => 0,
+        HostAnswer::Settled(_) => 0,
+    }
+}
+
+fn print_ends(ends: Ends) {
+    if ends.refused != 0 {
+        print(b"refuses ");
+        io::print_decimal(STDOUT_FILENO, ends.refused as u64);
+    } else {
+        let host = ends.host;
+        let stage = host.stage;
+        print_host_stage(stage);
+    }
+    print(b"\t");
+    let modem = ends.modem;
+    let stage = modem.stage;
+    print_modem_stage(stage);
+    print(b"\n");
+}
+
+fn print_host_stage(stage: HostStage) {
+    match stage {
+        HostStage::Settled { version } => print_version(version),
+        HostStage::Closed => print(b"closed"),
+        HostStage::Open { advertised: _ } => print(b"open"),
+        HostStage::AwaitsVersion { advertised: _ } => print(b"awaits VERSION"),
+    }
+}
+
+fn print_modem_stage(stage: ModemStage) {
+    match stage {
+        ModemStage::Settled { version } => print_version(version),
+        ModemStage::Start => print(b"start"),
+        ModemStage::Listed => print(b"waits"),
+    }
+}
+
+fn print_version(version: Version) {
+    match version {
+        Version::V1 => print(b"1.00"),
+        Version::V2 => print(b"2.00"),
+    }
+}
+
+fn print_number(number: u16) {
+    if number == 0x0200 {
+        print(b"2.00");
+    } else {
+        print(b"1.00");
+    }
+}
+
+fn print(text: &[u8]) {
+    io::write_all(STDOUT_FILENO, text);
+}
