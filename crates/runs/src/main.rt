@@ -1,5 +1,6 @@
-// Prints what host and modem come to in each of the 12 runs of the handshake: two native versions of
-// the host, three pairs of a modem's native and advertised version, VERSION listed or not.
+// Demand 3 to be watched. Prints what host and modem come to in each of the 12 runs of the handshake
+// (two native versions of the host, three pairs of a modem's native and advertised version, VERSION
+// listed or not), and a record that is written, cut, fed and read.
 use handshake::host::Ask;
 use handshake::host::Host;
 use handshake::host::HostAnswer;
@@ -11,8 +12,14 @@ use handshake::modem::ModemMade;
 use handshake::modem::ModemStage;
 use handshake::modem::QUERY;
 use libc::STDOUT_FILENO;
+use message::MessageHeader;
+use packet_service::PacketForm;
+use packet_service::PacketService;
+use packet_service::PacketServiceRead;
 use protocol::Version;
+use protocol::message_type::INDICATE_STATUS;
 use protocol::service::DEVICE_SERVICES;
+use protocol::service::PACKET_SERVICE;
 use protocol::service::REGISTER_STATE;
 use protocol::service::VERSION;
 use protocol::service::basic_connect_id;
@@ -196,6 +203,64 @@ fn main() {
     print(b"host\tmodem\tadvertised\tVERSION\thost's end\tmodem's end\n");
     print_host(0x0100);
     print_host(0x0200);
+    print(b"\nversion read at\tUplinkSpeed\tDownlinkSpeed\n");
+    print_carried();
+}
+
+// A packet service record written, cut at 64 bytes into an indication, fed, and read at both versions.
+fn print_carried() {
+    let mut payload = [0u8; 32];
+    let mut stream = [0u8; 128];
+    let mut bytes = io::buffer();
+    let mut received = [0u8; 32];
+    let info = PacketService {
+        nw_error: 0,
+        packet_service_state: 2,
+        uplink_speed: 50000000,
+        downlink_speed: 150000000,
+        form: PacketForm::V2 {
+            current_data_class: 0x40,
+            frequency_range: 1,
+        },
+    };
+    packet_service::write(info, &mut payload);
+    let message = MessageHeader {
+        message_type: INDICATE_STATUS,
+        transaction: 0,
+        service: basic_connect_id(),
+        cid: PACKET_SERVICE,
+        word: 0,
+    };
+    exchange::pass(
+        message,
+        64,
+        &payload,
+        &mut stream,
+        &mut bytes,
+        &mut received,
+    );
+    print(b"2.00\t");
+    print_read(packet_service::read(Version::V2, &received));
+    print(b"1.00\t");
+    print_read(packet_service::read(Version::V1, &received));
+}
+
+fn print_read(read: PacketServiceRead) {
+    match read {
+        PacketServiceRead::Info(info) => {
+            io::print_decimal(STDOUT_FILENO, info.uplink_speed);
+            print(b"\t");
+            io::print_decimal(STDOUT_FILENO, info.downlink_speed);
+            print(b"\n");
+        }
+        PacketServiceRead::Refused(refusal) => {
+            print(b"refused ");
+            io::print_decimal(STDOUT_FILENO, refusal.number as u64);
+            print(b" at ");
+            io::print_decimal(STDOUT_FILENO, refusal.place as u64);
+            print(b"\n");
+        }
+    }
 }
 
 fn print_host(native: u16) {
