@@ -37,7 +37,6 @@ use Rattle.handshake.specs.declared.modem.ModemStage.{ModemStage}
 use Rattle.handshake.specs.declared.modem.ModemStage.the-variants as modem
 use Rattle.handshake.specs.declared.modem.Modem.{Modem}
 use Rattle.handshake.specs.declared.modem.ModemMade.the-variants as modemMade
-use Rattle.handshake.specs.declared.modem.ModemStep.{ModemStep}
 use Rattle.handshake.specs.declared.modem.Role.{Role}
 use Rattle.handshake.specs.declared.modem.Role.the-variants as role
 

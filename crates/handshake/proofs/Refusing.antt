@@ -1,7 +1,7 @@
 -- At an accepted list an opened host refuses with 13 or 14 exactly in 01's two cases, and is then as before.
 -- Assumes nothing.
 use Prim.Native.Nat.{ℕ}
-use mathlib.Core.Path.{_≡_, refl, ap, _∙_}
+use mathlib.Core.Path.{_≡_, refl}
 use mathlib.Core.Bool.{Bool, true, false, not, cond, _&&_}
 use mathlib.Core.List.{List}
 use Rattle.protocol.specs.Refusal.{aboveHost, versionNotListed}
@@ -12,7 +12,6 @@ use Rattle.handshake.specs.Versions.{above, isLater}
 use Rattle.handshake.specs.Host.{end, versionListed, listRules, listAt, listReply, servicesReplyOf, refusedWith}
 use Rattle.handshake.specs.Run.{listedAs}
 use Rattle.handshake.specs.declared.host.HostStage.the-variants.{Open}
-use Rattle.handshake.specs.declared.host.HostStep.{HostStep}
 
 -- an accepted list is judged by the versions and by whether VERSION is listed
 pub list-judged : (n a : Version) (listed : Bool) (s : List ℕ) → versionListed s ≡ listedAs listed

@@ -1,9 +1,9 @@
 -- The run of demand 3 on the level of the ends: from ends just opened both settle on the rule's version, never above either native version,
 -- or the host refuses, exactly in the two cases and before its next command. Assumes nothing.
 use Prim.Native.Nat.{ℕ, _≤_}
-use mathlib.Core.Path.{_≡_, refl, _∙_}
+use mathlib.Core.Path.{_≡_, refl}
 use mathlib.Core.Bool.{Bool, true, false}
-use mathlib.Core.List.{List, []}
+use mathlib.Core.List.{List}
 use native.Mathlib.Omega.{arith}
 use lib.ListN.{length, take}
 use Rattle.wire.specs.Numbers.{u32At}
@@ -20,9 +20,9 @@ use Rattle.version_info.specs.VersionInfo.{rules, verdictOf, readOf, bytesOf, w
 use Rattle.version_info.specs.declared.VersionInfoRead.the-variants.{Info}
 use Rattle.version_info.proofs.RoundTrip.{round-trip}
 use Rattle.handshake.specs.Versions.{numberOf, numberVerdict, versionOf, infoOf, larger, lower, above}
-use Rattle.handshake.specs.Host.{end, settledAt, madeOf, openedOf, askOf, versionCid, versionListed, listRules, listAt, listReply, servicesReplyOf, answeredAt, answeredBy, versionReplyOf}
-use Rattle.handshake.specs.Modem.{end as modemEnd, madeRules, madeOf as modemMadeOf, startOf, answerOf, roleOfKind, roleOf, servicesOf, gave, giveOf, answerBy, canAnswer, versionOfCommand, otherAt, commandBy, commandOf}
-use Rattle.handshake.specs.Run.{Command, Both, both, servicesCid, heardBy, answered, delivered, Rooms, turn, run, expected, Settles, Refuses, Outcome, listedAs, Ready}
+use Rattle.handshake.specs.Host.{end, settledAt, madeOf, openedOf, askOf, versionCid, versionListed, listRules, listAt, answeredAt, answeredBy, versionReplyOf}
+use Rattle.handshake.specs.Modem.{end as modemEnd, madeRules, madeOf as modemMadeOf, startOf, roleOfKind, roleOf, servicesOf, gave, giveOf, answerBy, canAnswer, versionOfCommand, otherAt, commandBy, commandOf}
+use Rattle.handshake.specs.Run.{Command, both, servicesCid, heardBy, answered, delivered, Rooms, turn, run, expected, Outcome, listedAs, Ready}
 use Rattle.handshake.specs.declared.host.HostStage.{HostStage}
 use Rattle.handshake.specs.declared.host.HostStage.the-variants as host
 use Rattle.handshake.specs.declared.host.HostMade.the-variants as hostMade

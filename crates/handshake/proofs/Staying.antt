@@ -2,13 +2,12 @@
 -- Assumes nothing.
 use Prim.Native.Nat.{ℕ}
 use mathlib.Core.Path.{_≡_, refl, ap}
-use mathlib.Core.Bool.{Bool, true, false, cond, _&&_}
+use mathlib.Core.Bool.{Bool, true, false, cond}
 use mathlib.Core.List.{List, [], _∷_}
 use lib.Dec.{eqb}
 use Rattle.protocol.specs.Service.{kindOf}
 use Rattle.protocol.specs.declared.Version.{Version}
 use Rattle.protocol.specs.declared.service.Carried.{Carried}
-use Rattle.protocol.specs.declared.service.ServiceId.{ServiceId}
 use Rattle.version_info.specs.VersionInfo.{readOf}
 use Rattle.version_info.specs.declared.VersionInfoRead.{VersionInfoRead}
 use Rattle.version_info.specs.declared.VersionInfoRead.the-variants as read

@@ -12,7 +12,7 @@ use Rattle.protocol.specs.declared.Refusal.{Refusal}
 use Rattle.protocol.specs.declared.Verdict.{Verdict}
 use Rattle.protocol.specs.declared.Verdict.the-variants.{Fits, Fault}
 use Rattle.protocol.specs.declared.Version.{Version}
-use Rattle.protocol.specs.declared.Version.the-variants.{V1, V2}
+use Rattle.protocol.specs.declared.Version.the-variants.{V1}
 use Rattle.protocol.specs.declared.Written.{Written}
 use Rattle.protocol.specs.declared.Written.the-variants as written
 use Rattle.version_info.specs.VersionInfo.{readOf, writeOf}

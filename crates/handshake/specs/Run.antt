@@ -3,13 +3,13 @@
 -- In this order: what is sent; one command and its reply; the run; what it comes to. Each call is given its end as the one before left it.
 use Prim.Native.Nat.{ℕ, _≤_}
 use mathlib.Core.Path.{_≡_}
-use mathlib.Core.Bool.{Bool, true, false, not, cond, _&&_}
+use mathlib.Core.Bool.{Bool, false, not, cond, _&&_}
 use mathlib.Core.List.{List, []}
 use lib.ListN.{length, take}
 use Rattle.protocol.specs.Refusal.{refusal, aboveHost, versionNotListed}
 use Rattle.protocol.specs.Service.{idAt, basicConnect, extensions, kindOf}
 use Rattle.protocol.specs.declared.Version.{Version}
-use Rattle.protocol.specs.declared.Version.the-variants.{V1, V2}
+use Rattle.protocol.specs.declared.Version.the-variants.{V1}
 use Rattle.protocol.specs.declared.service.ServiceId.{ServiceId}
 use Rattle.services_query.specs.declared.ListedAnswer.{ListedAnswer}
 use Rattle.services_query.specs.declared.ListedAnswer.the-variants as list
@@ -157,8 +157,7 @@ Outcome (settles v) host modem advertised b = Settles host modem v b
 
 -- what a list says of VERSION
 abbrev pub listedAs : Bool → ListedAnswer
-listedAs true = list.Listed
-listedAs false = list.NotListed
+listedAs listed = cond listed list.Listed list.NotListed
 
 -- what a run is given: a modem that advertises nothing above its own, its services list as accepted bytes that list VERSION or not,
 -- another command that is neither DEVICE_SERVICES nor VERSION, and room

@@ -22,7 +22,7 @@ ghost use mathlib.Core.Path.{_≡_};
 ghost use mathlib.Core.Bool.{_&&_, not};
 ghost use Rattle.protocol.specs.Verdict.{judge};
 ghost use Rattle.handshake.specs.Versions.{isLater};
-ghost use Rattle.handshake.specs.Host.{at, settledAt, madeOf, openedOf, closedOf, askOf, listRules, acceptedList, judgedList, listAt, servicesReplyOf, answeredAt, failedAt, versionReplyOf};
+ghost use Rattle.handshake.specs.Host.{at, unchanged, refused, settledAt, madeOf, openedOf, closedOf, askOf, listRules, acceptedList, judgedList, listAt, servicesReplyOf, answeredAt, failedAt, versionReplyOf};
 
 // How far the handshake is.
 pub enum HostStage {
@@ -100,10 +100,7 @@ pub fn open(host: Host, advertised: u16) -> HostStep
             ),
             answer: HostAnswer::Opened,
         },
-        Verdict::Fault(refusal) => HostStep {
-            host,
-            answer: HostAnswer::Refused(refusal),
-        },
+        Verdict::Fault(refusal) => refuse(host, refusal),
     }
 }
 
@@ -138,18 +135,12 @@ pub fn services_reply(host: Host, status: u32, payload: &[u8]) -> HostStep
     ensures { λ r. ⌜ r ≡ servicesReplyOf host status (now (payload .entry)) ⌝ }
 {
     if status != 0 {
-        return HostStep {
-            host,
-            answer: HostAnswer::Unchanged,
-        };
+        return keep(host);
     }
     match is_listed(payload, extensions_id(), VERSION) {
         ListedAnswer::Listed => take_list(host, true),
         ListedAnswer::NotListed => take_list(host, false),
-        ListedAnswer::Refused(refusal) => HostStep {
-            host,
-            answer: HostAnswer::Refused(refusal),
-        },
+        ListedAnswer::Refused(refusal) => refuse(host, refusal),
     }
 }
 
@@ -165,10 +156,7 @@ pub fn version_reply(host: Host, status: u32, payload: &[u8]) -> HostStep
             host,
             version_of(info.bcd_mbim_extended_version),
         ),
-        VersionInfoRead::Refused(refusal) => HostStep {
-            host,
-            answer: HostAnswer::Refused(refusal),
-        },
+        VersionInfoRead::Refused(refusal) => refuse(host, refusal),
     }
 }
 
@@ -178,19 +166,10 @@ fn take_list(host: Host, listed: bool) -> HostStep
 {
     let stage = host.stage;
     match stage {
-        HostStage::Closed => HostStep {
-            host,
-            answer: HostAnswer::Unchanged,
-        },
+        HostStage::Closed => keep(host),
         HostStage::Open { advertised } => judge_list(host, advertised, listed),
-        HostStage::AwaitsVersion { advertised: _ } => HostStep {
-            host,
-            answer: HostAnswer::Unchanged,
-        },
-        HostStage::Settled { version: _ } => HostStep {
-            host,
-            answer: HostAnswer::Unchanged,
-        },
+        HostStage::AwaitsVersion { advertised: _ } => keep(host),
+        HostStage::Settled { version: _ } => keep(host),
     }
 }
 
@@ -206,10 +185,7 @@ fn judge_list(host: Host, advertised: Version, listed: bool) -> HostStep
         0,
     ) {
         Verdict::Fits => accept_list(host, advertised, listed),
-        Verdict::Fault(refusal) => HostStep {
-            host,
-            answer: HostAnswer::Refused(refusal),
-        },
+        Verdict::Fault(refusal) => refuse(host, refusal),
     }
 }
 
@@ -251,19 +227,10 @@ fn take_answer(host: Host, answered: Version) -> HostStep
 {
     let stage = host.stage;
     match stage {
-        HostStage::Closed => HostStep {
-            host,
-            answer: HostAnswer::Unchanged,
-        },
-        HostStage::Open { advertised: _ } => HostStep {
-            host,
-            answer: HostAnswer::Unchanged,
-        },
+        HostStage::Closed => keep(host),
+        HostStage::Open { advertised: _ } => keep(host),
         HostStage::AwaitsVersion { advertised } => settle(host, larger(advertised, answered)),
-        HostStage::Settled { version: _ } => HostStep {
-            host,
-            answer: HostAnswer::Unchanged,
-        },
+        HostStage::Settled { version: _ } => keep(host),
     }
 }
 
@@ -272,19 +239,10 @@ fn take_failure(host: Host) -> HostStep
 {
     let stage = host.stage;
     match stage {
-        HostStage::Closed => HostStep {
-            host,
-            answer: HostAnswer::Unchanged,
-        },
-        HostStage::Open { advertised: _ } => HostStep {
-            host,
-            answer: HostAnswer::Unchanged,
-        },
+        HostStage::Closed => keep(host),
+        HostStage::Open { advertised: _ } => keep(host),
         HostStage::AwaitsVersion { advertised } => settle(host, advertised),
-        HostStage::Settled { version: _ } => HostStep {
-            host,
-            answer: HostAnswer::Unchanged,
-        },
+        HostStage::Settled { version: _ } => keep(host),
     }
 }
 
@@ -294,6 +252,24 @@ fn settle(host: Host, version: Version) -> HostStep
     HostStep {
         host: at_stage(host, HostStage::Settled { version }),
         answer: HostAnswer::Settled(version),
+    }
+}
+
+fn keep(host: Host) -> HostStep
+    ensures { λ r. ⌜ r ≡ unchanged host ⌝ }
+{
+    HostStep {
+        host,
+        answer: HostAnswer::Unchanged,
+    }
+}
+
+fn refuse(host: Host, refusal: Refusal) -> HostStep
+    ensures { λ r. ⌜ r ≡ refused host refusal ⌝ }
+{
+    HostStep {
+        host,
+        answer: HostAnswer::Refused(refusal),
     }
 }
 

@@ -13,7 +13,7 @@ returns c =
 returns-2 : tie.Need-returns-2
 unfolding listRules judgeFrom
 returns-2 c =
-    rw (← c .before .before .before .before .before .before .is-above .ensures, ← c .before .before .before .before .before .also .ensures, ← c .before .before .before .before .is-unlisted .ensures, ← c .before .before .before .also2 .ensures, c .before .refusal .given .1)
+    rw (← c .before .before .before .before .before .before .before .is-above .ensures, ← c .before .before .before .before .before .before .also .ensures, ← c .before .before .before .before .before .is-unlisted .ensures, ← c .before .before .before .before .also2 .ensures, c .before .before .refusal .given .1, c .refuse .ensures)
 
 pub judge-list-spec : {M : Type 1} → statement M
-judge-list-spec = tie.close (tie.spec (λ c. search needs) (λ c. search needs) (λ c. search needs) (λ c. search needs) (λ c. search needs) (λ c. search needs) (λ c. search needs) returns returns-2)
+judge-list-spec = tie.close (tie.spec (λ c. search needs) (λ c. search needs) (λ c. search needs) (λ c. search needs) (λ c. search needs) (λ c. search needs) (λ c. search needs) (λ c. search needs) returns returns-2)

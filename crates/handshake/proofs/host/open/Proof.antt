@@ -10,7 +10,7 @@ returns c = rw (← c .before .before .before .before .judge-number .ensures, c 
 
 returns-2 : tie.Need-returns-2
 unfolding openedOf
-returns-2 c = rw (← c .before .before .before .judge-number .ensures, c .before .refusal .given .1)
+returns-2 c = rw (← c .before .before .before .before .judge-number .ensures, c .before .before .refusal .given .1, c .refuse .ensures)
 
 pub open-spec : {M : Type 1} → statement M
-open-spec = tie.close (tie.spec (λ c. search needs) (λ c. search needs) (λ c. search needs) (λ c. search needs) (λ c. search needs) returns returns-2)
+open-spec = tie.close (tie.spec (λ c. search needs) (λ c. search needs) (λ c. search needs) (λ c. search needs) (λ c. search needs) (λ c. search needs) returns returns-2)

@@ -7,7 +7,7 @@ use Rattle.handshake.proofs.host.services_reply.Tie as tie
 
 returns : tie.Need-returns
 unfolding servicesReplyOf
-returns c = rw (ne-eqb _ _ (c .if1 .taken))
+returns c = rw (c .keep .ensures, ne-eqb _ _ (c .before .if1 .taken))
 
 returns-2 : tie.Need-returns-2
 unfolding servicesReplyOf listReply
@@ -22,7 +22,7 @@ returns-3 c =
 returns-4 : tie.Need-returns-4
 unfolding servicesReplyOf listReply
 returns-4 c =
-    rw (eq-eqb _ _ (c .before .before .before .before .before .if1 .left), ← c .before .before .before .before .extensions-id .ensures, ← c .before .before .before .is-listed .ensures, c .before .refusal .given .1)
+    rw (eq-eqb _ _ (c .before .before .before .before .before .before .if1 .left), ← c .before .before .before .before .before .extensions-id .ensures, ← c .before .before .before .before .is-listed .ensures, c .before .before .refusal .given .1, c .refuse .ensures)
 
 pub services-reply-spec : {M : Type 1} → statement M
-services-reply-spec = tie.close (tie.spec returns (λ c. search needs) (λ c. search needs) (λ c. search needs) (λ c. search needs) (λ c. search needs) (λ c. search needs) (λ c. search needs) returns-2 returns-3 returns-4)
+services-reply-spec = tie.close (tie.spec (λ c. search needs) returns (λ c. search needs) (λ c. search needs) (λ c. search needs) (λ c. search needs) (λ c. search needs) (λ c. search needs) (λ c. search needs) (λ c. search needs) returns-2 returns-3 returns-4)

@@ -16,7 +16,7 @@ returns-2 c =
 
 returns-3 : tie.Need-returns-3
 unfolding versionReplyOf answeredBy
-returns-3 c = rw (eq-eqb _ _ (c .before .before .before .before .if1 .left), ← c .before .before .before .read .ensures, c .before .refusal .given .1)
+returns-3 c = rw (eq-eqb _ _ (c .before .before .before .before .before .if1 .left), ← c .before .before .before .before .read .ensures, c .before .before .refusal .given .1, c .refuse .ensures)
 
 pub version-reply-spec : {M : Type 1} → statement M
-version-reply-spec = tie.close (tie.spec (λ c. search needs) returns (λ c. search needs) (λ c. search needs) (λ c. search needs) (λ c. search needs) (λ c. search needs) returns-2 returns-3)
+version-reply-spec = tie.close (tie.spec (λ c. search needs) returns (λ c. search needs) (λ c. search needs) (λ c. search needs) (λ c. search needs) (λ c. search needs) (λ c. search needs) returns-2 returns-3)
