@@ -1,4 +1,5 @@
--- A payload is accepted exactly when it meets the rules in words of fields, and then the record shown is the one at its places.
+-- A payload is accepted exactly when it meets the rules in words of fields, and then the record shown is the one at its places; a record is written
+-- exactly when its fields meet them.
 -- Assumes nothing.
 use mathlib.Core.Path.{_≡_, refl, sym}
 use mathlib.Core.Logic.{_↔_, _⊎_, ⊎-map}
@@ -18,11 +19,14 @@ use Rattle.protocol.specs.declared.Version.{Version}
 use Rattle.protocol.specs.declared.Version.the-variants.{V1, V2}
 use Rattle.protocol.proofs.Tests.{or-cases, cases-or, and-cases, cases-and, not-kept, kept-not, equal-kept, kept-equal}
 use Rattle.protocol.proofs.Classes.{none-or-class, class-or-none}
-use Rattle.protocol.proofs.Verdicts.{then-kept, kept-then, exact-length, length-exact}
+use Rattle.protocol.proofs.Verdicts.{fits-kept, kept-fits, then-kept, kept-then, exact-length, length-exact, written-both, both-written}
+use Rattle.protocol.specs.declared.Written.the-variants.{Length}
+use Rattle.packet_service.specs.declared.PacketForm.{PacketForm}
+use Rattle.packet_service.specs.declared.PacketForm.the-variants.{V1 as Form1, V2 as Form2}
 use Rattle.packet_service.specs.declared.PacketService.{PacketService}
 use Rattle.packet_service.specs.declared.PacketServiceRead.the-variants.{Info}
-use Rattle.packet_service.specs.PacketService.{lengthOf, recordAt, laterRules, formRules, rules, verdictOf, shown, readOf}
-use Rattle.packet_service.specs.Claims.{LaterFits, FormFits, Acceptable}
+use Rattle.packet_service.specs.PacketService.{lengthOf, recordAt, laterRules, formRules, rules, verdictOf, shown, readOf, bytesOf, writeOf}
+use Rattle.packet_service.specs.Claims.{LaterFits, FormFits, Acceptable, FormWritable, Writable}
 
 -- ---- each rule as a fact
 
@@ -101,3 +105,32 @@ acceptable v s a =
 
 pub accepted-exactly : (v : Version) (s : List ℕ) → (readOf v s ≡ Info (recordAt v s)) ↔ Acceptable v s
 accepted-exactly v s = (λ e. accepted v s (recordAt v s) e .0, acceptable v s)
+
+-- ---- written exactly when the fields are in their tables and there is room
+
+form-said : (state : ℕ) (f : PacketForm) → Kept (formRules state f) → FormWritable state f
+unfolding formRules laterRules
+form-said state (Form1 class) k = class-said V1 class (k .0)
+form-said state (Form2 class range) k = (class-said V2 class (k .0), later-said state class range k)
+
+said-form : (state : ℕ) (f : PacketForm) → FormWritable state f → Kept (formRules state f)
+unfolding formRules
+said-form state (Form1 class) w = (said-class V1 class w, tt)
+said-form state (Form2 class range) w = said-later state class range (w .0) (w .1)
+
+writable-said : (p : PacketService) → verdictOf p ≡ Fits → Writable p
+unfolding verdictOf rules
+writable-said p e =
+    let k = fits-kept (rules p) e in
+    record { state = ltb-false 4 (p .«packet_service_state») (k .0); form = form-said (p .«packet_service_state») (p .form) (k .1) }
+
+said-writable : (p : PacketService) → Writable p → verdictOf p ≡ Fits
+unfolding verdictOf rules
+said-writable p w = kept-fits (rules p) (le-ltb 4 (p .«packet_service_state») (w .state), said-form (p .«packet_service_state») (p .form) (w .form))
+
+pub written-exactly : (p : PacketService) (s : List ℕ) → (writeOf p s .answer ≡ Length (length (bytesOf p))) ↔ (Writable p × (length (bytesOf p) ≤ length s))
+unfolding writeOf
+written-exactly p s = (
+  λ e. let w = written-both (verdictOf p) (bytesOf p) s (length (bytesOf p)) e in (writable-said p (w .0), w .1),
+  λ w. both-written (verdictOf p) (bytesOf p) s (said-writable p (w .0)) (w .1),
+)

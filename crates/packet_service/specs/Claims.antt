@@ -31,6 +31,16 @@ pub record Acceptable (v : Version) (s : List ℕ) : Type 0 where
   pub class : (u32At s 8 ≡ 0) ⊎ IsClass v (u32At s 8)
   pub form : FormFits v s
 
+-- ---- what a writer accepts, in words of fields
+
+abbrev pub FormWritable : ℕ → PacketForm → Type 0
+FormWritable state (Form1 class) = (class ≡ 0) ⊎ IsClass V1 class
+FormWritable state (Form2 class range) = ((class ≡ 0) ⊎ IsClass V2 class) × LaterFits state class range
+
+pub record Writable (p : PacketService) : Type 0 where
+  pub state : p .«packet_service_state» ≤ 4
+  pub form : FormWritable (p .«packet_service_state») (p .form)
+
 -- ---- each field is of its width
 
 abbrev pub FormSized : PacketForm → Type 0
