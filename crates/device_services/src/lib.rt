@@ -20,12 +20,14 @@ ghost use Rattle.protocol.specs.Verdict.{judge};
 ghost use Rattle.device_services.specs.DeviceServices.{countOf, headAt, pairPlace, offsetOf, cidCountAt, elementAt, cidAt, lengthVerdict, contentRules, elementVerdict, verdictOf, readOf};
 
 // What stands before the pairs.
+#[repr(C)]
 pub struct DeviceServices {
     pub device_services_count: u32,
     pub max_dss_sessions: u32,
 }
 
 // What an element has besides its CIDs.
+#[repr(C)]
 pub struct DeviceService {
     pub device_service_id: ServiceId,
     pub dss_payload: u32,

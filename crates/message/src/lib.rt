@@ -49,6 +49,7 @@ pub enum Fragment {
 
 // A fragmented message without its information. The word is a command's type or a reply's status;
 // an indication has none and shows 0.
+#[repr(C)]
 pub struct MessageHeader {
     pub message_type: u32,
     pub transaction: u32,

@@ -12,6 +12,7 @@ ghost use lib.Seq.{sets};
 ghost use Rattle.pairs.specs.Pair.{rangeAt, ifSized, unfit, offsetWithoutSize, verdictOf, padded, placed, rangeBytes};
 
 // 01's pair. An accepted one shows `length` bytes of the payload from `start`; absent is (0, 0).
+#[repr(C)]
 pub struct Range {
     pub start: u32,
     pub length: u32,

@@ -14,6 +14,7 @@ pub enum Version {
 }
 
 // 01's refusal: a number of its table and a place, a byte offset where 01 says no other.
+#[repr(C)]
 pub struct Refusal {
     pub number: u32,
     pub place: usize,

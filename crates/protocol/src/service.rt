@@ -8,6 +8,7 @@ ghost use lib.Seq.{sets};
 ghost use Rattle.protocol.specs.Service.{basicConnect, extensions, idAt, idBytes, sameId, basicConnectCids, extensionsCids, among, kindOf};
 
 // The 16 bytes of a service id in printed order, as four little-endian words.
+#[repr(C)]
 pub struct ServiceId {
     pub word0: u32,
     pub word1: u32,

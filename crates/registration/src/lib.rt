@@ -46,6 +46,7 @@ pub struct Registration {
     pub form: RegistrationForm,
 }
 
+#[repr(C)]
 pub struct RegistrationTexts {
     pub provider_id: Range,
     pub provider_name: Range,

@@ -33,12 +33,14 @@ ghost use Rattle.device_services.specs.DeviceServices.{fixedPart};
 ghost use Rattle.services_writer.specs.ServicesWriter.{lengthOf, sizeVerdict, writtenVerdict, fieldBytes, cidBytes, elementBytes, pairBytes, piece, bytesOf, writeOf};
 
 // An element with its CIDs, of which the first `cid_count` count.
+#[repr(C)]
 pub struct ServiceElement {
     pub fields: DeviceService,
     pub cids: [u32; 128],
 }
 
 // The record, of whose elements the first `device_services_count` count.
+#[repr(C)]
 pub struct ServiceList {
     pub device_services_count: u32,
     pub max_dss_sessions: u32,

@@ -32,6 +32,7 @@ ghost use Rattle.protocol.specs.declared.Version.the-variants.{V1, V2};
 ghost use Rattle.signal_state.specs.SignalState.{entryPlace, entryAt, noEntries, entriesAt, countIn, stateAt, unmarked, numberRules, wrongCountOf, listRules, entryRules, isKnown, entryIn, entriesVerdict, anyKnown, contradicts, bodyVerdict, headOf, refused, readEntries, readOf, versionOf, sizeOf, limitVerdict, listedVerdict, numberBytes, entryBytes, entriesBytes, listBytes, listedBytes, writeOf};
 
 // One entry of the list.
+#[repr(C)]
 pub struct RsrpSnr {
     pub rsrp: u32,
     pub snr: u32,

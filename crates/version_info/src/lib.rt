@@ -14,6 +14,7 @@ ghost use lib.Seq.{sets};
 ghost use Rattle.version_info.specs.VersionInfo.{isExtension, recordAt, verdictOf, readOf, bytesOf, writeOf};
 
 // Two BCD numbers.
+#[repr(C)]
 pub struct VersionInfo {
     pub bcd_mbim_version: u16,
     pub bcd_mbim_extended_version: u16,
