@@ -369,7 +369,8 @@ fn clear_if(dropped: bool, bytes: &mut [u8])
     }
 }
 
-fn clear(bytes: &mut [u8])
+// Fills the bytes with zeros.
+pub fn clear(bytes: &mut [u8])
     ensures { λ _. ⌜ now (bytes .exit) ≡ replicate (length (now (bytes .entry))) 0 ⌝ }
 {
     let mut i: usize = 0;
