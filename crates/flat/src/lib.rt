@@ -1,6 +1,10 @@
 // Plain structs in C's layout for the payloads' records and answers, and the way from one to the
 // other: one module a payload. Nothing is judged here but the number of a version.
 pub mod packets;
+pub mod quality;
+pub mod registrations;
+pub mod services;
+pub mod signals;
 pub mod versions;
 
 use handshake::judge_number;
