@@ -1,0 +1,3 @@
+pub mod Packets
+pub mod Registrations
+pub mod Signals

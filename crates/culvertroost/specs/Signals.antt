@@ -1,0 +1,16 @@
+-- SIGNAL_STATE for C: the number of the version is judged, then the payload is read or the record written at that version.
+use Prim.Native.Nat.{ℕ}
+use mathlib.Core.List.{List}
+use Rattle.protocol.specs.Verdict.{Writing}
+use Rattle.signal_state.specs.SignalState.{refused, readOf, writeOf}
+use Rattle.signal_state.specs.declared.SignalStateShown.{SignalStateShown}
+use Rattle.flat.specs.Answers.{atVersion, unwritten}
+use Rattle.flat.specs.Signals.{recordOf}
+use Rattle.flat.specs.declared.signals.SignalStateInfo.{SignalStateInfo}
+
+abbrev pub readAt : ℕ → List ℕ → SignalStateShown
+readAt n s = atVersion n refused (λ v. readOf v s)
+
+-- with the entries that stand in the same struct
+abbrev pub writeAt : SignalStateInfo → List ℕ → Writing
+writeAt i s = atVersion (i .version) (unwritten s) (λ v. writeOf (recordOf v i) (i .entries) s)

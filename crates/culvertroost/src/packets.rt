@@ -1,0 +1,38 @@
+// PACKET_SERVICE, for C. The number of the version is judged before anything else.
+use flat::Numbered;
+use flat::WrittenAnswer;
+use flat::packets::PacketServiceAnswer;
+use flat::packets::PacketServiceInfo;
+use flat::packets::answer_of;
+use flat::packets::record_of;
+use flat::version_at;
+use flat::written_answer;
+use packet_service::PacketServiceRead;
+use packet_service::read;
+use packet_service::write;
+use protocol::Written;
+ghost use mathlib.Core.Path.{_≡_};
+ghost use Rattle.flat.specs.Answers.{writtenAnswer};
+ghost use Rattle.flat.specs.Packets.{answerOf};
+ghost use Rattle.culvertroost.specs.Packets.{readAt, writeAt};
+
+#[no_mangle]
+pub extern "C" fn cvr_packet_service_read(version: u16, payload: &[u8]) -> PacketServiceAnswer
+    ensures { λ r. ⌜ r ≡ answerOf (readAt version (now (payload .entry))) ⌝ }
+{
+    match version_at(version) {
+        Numbered::At(v) => answer_of(read(v, payload)),
+        Numbered::Refused(refusal) => answer_of(PacketServiceRead::Refused(refusal)),
+    }
+}
+
+#[no_mangle]
+pub extern "C" fn cvr_packet_service_write(info: PacketServiceInfo, out: &mut [u8]) -> WrittenAnswer
+    ensures { λ r. ⌜ r ≡ writtenAnswer (writeAt info (now (out .entry)) .answer) ⌝ }
+    ensures { λ _. ⌜ now (out .exit) ≡ writeAt info (now (out .entry)) .output ⌝ }
+{
+    match version_at(info.version) {
+        Numbered::At(v) => written_answer(write(record_of(v, info), out)),
+        Numbered::Refused(refusal) => written_answer(Written::Refused(refusal)),
+    }
+}

@@ -1,0 +1,85 @@
+// DEVICE_SERVICES, for C.
+use device_services::read;
+use flat::WrittenAnswer;
+use flat::services::DeviceServicesAnswer;
+use flat::services::ElementInfo;
+use flat::services::ListedInfo;
+use flat::services::answer_of;
+use flat::services::element_info;
+use flat::services::listed_info;
+use flat::written_answer;
+use protocol::service::ServiceId;
+use protocol::service::id_at;
+use services_query::cids_of;
+use services_query::element;
+use services_query::is_listed;
+use services_writer::ServiceList;
+use services_writer::write;
+ghost use mathlib.Core.Path.{_≡_};
+ghost use Rattle.protocol.specs.Service.{idAt};
+ghost use Rattle.device_services.specs.DeviceServices.{readOf};
+ghost use Rattle.services_query.specs.ServicesQuery.{elementOf, cidsOf, listedOf};
+ghost use Rattle.services_writer.specs.ServicesWriter.{writeOf};
+ghost use Rattle.flat.specs.Answers.{writtenAnswer};
+ghost use Rattle.flat.specs.Services.{answerOf, elementInfo, listedInfo};
+
+#[no_mangle]
+pub extern "C" fn cvr_device_services_read(payload: &[u8]) -> DeviceServicesAnswer
+    ensures { λ r. ⌜ r ≡ answerOf (readOf (now (payload .entry))) ⌝ }
+{
+    answer_of(read(payload))
+}
+
+// The element with a number, from 0; its CIDs go to the front of the list.
+#[no_mangle]
+pub extern "C" fn cvr_device_services_element(
+    payload: &[u8],
+    number: u32,
+    cids: &mut [u32],
+) -> ElementInfo
+    ensures { λ r. ⌜ r ≡ elementInfo (elementOf (now (payload .entry)) number (now (cids .entry)) .answer) ⌝ }
+    ensures { λ _. ⌜ now (cids .exit) ≡ elementOf (now (payload .entry)) number (now (cids .entry)) .output ⌝ }
+{
+    element_info(element(payload, number, cids))
+}
+
+// The first element of a service; its CIDs go to the front of the list.
+#[no_mangle]
+pub extern "C" fn cvr_device_services_cids(
+    payload: &[u8],
+    service: ServiceId,
+    cids: &mut [u32],
+) -> ElementInfo
+    ensures { λ r. ⌜ r ≡ elementInfo (cidsOf (now (payload .entry)) service (now (cids .entry)) .answer) ⌝ }
+    ensures { λ _. ⌜ now (cids .exit) ≡ cidsOf (now (payload .entry)) service (now (cids .entry)) .output ⌝ }
+{
+    element_info(cids_of(payload, service, cids))
+}
+
+// Whether any element is of the service and holds the CID.
+#[no_mangle]
+pub extern "C" fn cvr_device_services_listed(
+    payload: &[u8],
+    service: ServiceId,
+    cid: u32,
+) -> ListedInfo
+    ensures { λ r. ⌜ r ≡ listedInfo (listedOf (now (payload .entry)) service cid) ⌝ }
+{
+    listed_info(is_listed(payload, service, cid))
+}
+
+#[no_mangle]
+pub extern "C" fn cvr_device_services_write(list: ServiceList, out: &mut [u8]) -> WrittenAnswer
+    ensures { λ r. ⌜ r ≡ writtenAnswer (writeOf list (now (out .entry)) .answer) ⌝ }
+    ensures { λ _. ⌜ now (out .exit) ≡ writeOf list (now (out .entry)) .output ⌝ }
+{
+    written_answer(write(list, out))
+}
+
+// The id whose printed bytes come first, zero where there are none.
+#[no_mangle]
+pub extern "C" fn cvr_service_id(bytes: &[u8]) -> ServiceId
+    ensures { λ r. ⌜ r ≡ idAt (now (bytes .entry)) 0 ⌝ }
+{
+    id_at(bytes, 0)
+}

@@ -1,0 +1,13 @@
+-- All members 0.
+use borrow.Author.Needs.{needs}
+use mathlib.Core.Path.{refl}
+use Rattle.flat.specs.Signals.{noInfo}
+use Rattle.flat.proofs.signals.no_info.Statement.{statement}
+use Rattle.flat.proofs.signals.no_info.Tie as tie
+
+returns : tie.Need-returns
+unfolding noInfo
+returns c = refl
+
+pub no-info-spec : {M : Type 1} → statement M
+no-info-spec = tie.close (tie.spec returns)
