@@ -127,7 +127,7 @@ static void carry(cvr_message_header header, const payload *sent, receiver *to, 
     cvr_cut_answer cut = cvr_message_cut(header, TRANSFER_SIZE, sent->bytes, sent->length, fragments,
                                          sizeof fragments);
     need(cut.refusal, "cut");
-    printf("line: %s in %u fragments, %zu bytes\n", type_name(header.message_type), (unsigned)cut.count,
+    printf("line: %s, fragments: %u, bytes: %zu\n", type_name(header.message_type), (unsigned)cut.count,
            cut.length);
     receive(to, fragments, cut.length, got);
     printf("%s: got %s, transaction %u, CID %u, %zu bytes of information\n", to->name,

@@ -1,0 +1,527 @@
+//! The C interface: its structs and its functions, one a call, over slices. What each member and each
+//! function means stands in include/culvertroost.h. This is the only module with `unsafe`: a slice is
+//! valid for its length, and Rust's borrows keep what is written apart from everything else.
+//! Slices cross as a pointer and a length.
+
+/// How many bytes of memory each state takes.
+pub const ASSEMBLY_SIZE: usize = 4144;
+pub const HOST_SIZE: usize = 6;
+pub const MODEM_SIZE: usize = 10;
+
+pub const MOST_ENTRIES: usize = 16;
+pub const MOST_SERVICES: usize = 32;
+pub const MOST_CIDS: usize = 128;
+
+/// A struct in C's layout, with its size and the offset of its last member.
+macro_rules! layout {
+    ($(#[$note:meta])* $name:ident, $size:literal, $last:literal, { $($member:ident: $type:ty),+ $(,)? }) => {
+        $(#[$note])*
+        #[repr(C)]
+        #[derive(Clone, Copy, Debug, PartialEq)]
+        pub struct $name {
+            $(pub $member: $type),+
+        }
+
+        const _: () = {
+            let places = [$(std::mem::offset_of!($name, $member)),+];
+            assert!(size_of::<$name>() == $size);
+            assert!(places[places.len() - 1] == $last);
+        };
+    };
+}
+
+layout!(#[derive(Default, Eq)] Refusal, 16, 8, { number: u32, place: usize });
+layout!(#[derive(Default)] WrittenAnswer, 24, 16, { refusal: Refusal, length: usize });
+layout!(
+    /// A service id: its 16 bytes in printed order, as four little-endian words.
+    #[derive(Default, Eq)]
+    ServiceId, 16, 12, { word0: u32, word1: u32, word2: u32, word3: u32 }
+);
+
+layout!(#[derive(Default, Eq)] VersionInfo, 4, 2, {
+    bcd_mbim_version: u16,
+    bcd_mbim_extended_version: u16,
+});
+layout!(#[derive(Default)] VersionInfoAnswer, 24, 16, { refusal: Refusal, info: VersionInfo });
+
+layout!(#[derive(Default, Eq)] PacketService, 40, 32, {
+    version: u16,
+    nw_error: u32,
+    packet_service_state: u32,
+    highest_available_data_class: u32,
+    current_data_class: u32,
+    frequency_range: u32,
+    uplink_speed: u64,
+    downlink_speed: u64,
+});
+layout!(#[derive(Default)] PacketServiceAnswer, 56, 16, { refusal: Refusal, info: PacketService });
+
+layout!(#[derive(Default, Eq)] Registration, 32, 28, {
+    version: u16,
+    nw_error: u32,
+    register_state: u32,
+    register_mode: u32,
+    available_data_class: u32,
+    cellular_class: u32,
+    registration_flag: u32,
+    preferred_data_class: u32,
+});
+layout!(#[derive(Default, Eq)] Range, 8, 4, { start: u32, length: u32 });
+layout!(#[derive(Default, Eq)] RegistrationTexts, 24, 16, {
+    provider_id: Range,
+    provider_name: Range,
+    roaming_text: Range,
+});
+layout!(#[derive(Default)] RegistrationAnswer, 72, 48, {
+    refusal: Refusal,
+    info: Registration,
+    texts: RegistrationTexts,
+});
+
+layout!(#[derive(Default, Eq)] RsrpSnr, 20, 16, {
+    rsrp: u32,
+    snr: u32,
+    rsrp_threshold: u32,
+    snr_threshold: u32,
+    system_type: u32,
+});
+layout!(#[derive(Default, Eq)] SignalState, 348, 28, {
+    version: u16,
+    rssi: u32,
+    error_rate: u32,
+    signal_strength_interval: u32,
+    rssi_threshold: u32,
+    error_rate_threshold: u32,
+    count: u32,
+    entries: [RsrpSnr; MOST_ENTRIES],
+});
+layout!(#[derive(Default)] SignalStateAnswer, 368, 16, { refusal: Refusal, info: SignalState });
+
+layout!(#[derive(Default)] ReadingAnswer, 24, 20, { refusal: Refusal, kind: u32, value: f32 });
+layout!(#[derive(Default)] BarsAnswer, 24, 20, { refusal: Refusal, reading: u32, bars: u32 });
+
+layout!(#[derive(Default, Eq)] DeviceServices, 8, 4, {
+    device_services_count: u32,
+    max_dss_sessions: u32,
+});
+layout!(#[derive(Default)] DeviceServicesAnswer, 24, 16, { refusal: Refusal, info: DeviceServices });
+layout!(#[derive(Default, Eq)] DeviceService, 28, 24, {
+    device_service_id: ServiceId,
+    dss_payload: u32,
+    max_dss_instances: u32,
+    cid_count: u32,
+});
+layout!(#[derive(Default)] ElementAnswer, 48, 20, { refusal: Refusal, listed: u32, element: DeviceService });
+layout!(#[derive(Default)] ListedAnswer, 24, 16, { refusal: Refusal, listed: u32 });
+layout!(
+    /// An element with its CIDs, of which the first `fields.cid_count` count.
+    #[derive(Eq)]
+    ServiceElement, 540, 28, { fields: DeviceService, cids: [u32; MOST_CIDS] }
+);
+layout!(
+    /// A list to be written, of whose elements the first `device_services_count` count.
+    #[derive(Eq)]
+    ServiceList, 17288, 8, {
+        device_services_count: u32,
+        max_dss_sessions: u32,
+        elements: [ServiceElement; MOST_SERVICES],
+    }
+);
+
+layout!(#[derive(Default)] WholeAnswer, 24, 20, { refusal: Refusal, message_type: u32, transaction: u32 });
+layout!(
+    /// What the first fragment of a message says besides lengths. `word` is a command's type or a
+    /// reply's status; an indication has none.
+    #[derive(Default, Eq)]
+    MessageHeader, 32, 28, {
+        message_type: u32,
+        transaction: u32,
+        service: ServiceId,
+        cid: u32,
+        word: u32,
+    }
+);
+layout!(#[derive(Default)] CutAnswer, 32, 24, { refusal: Refusal, count: u32, length: usize });
+layout!(#[derive(Default)] KindAnswer, 24, 16, { refusal: Refusal, kind: u32 });
+layout!(#[derive(Default)] FeedAnswer, 64, 56, {
+    refusal: Refusal,
+    complete: u32,
+    dropped: u32,
+    message: MessageHeader,
+    length: usize,
+});
+
+layout!(#[derive(Default)] HostAnswer, 24, 20, { refusal: Refusal, event: u32, version: u16 });
+layout!(#[derive(Default)] AskAnswer, 32, 24, { refusal: Refusal, command: u32, version: u16, length: usize });
+layout!(#[derive(Default)] ModemAnswer, 48, 40, {
+    refusal: Refusal,
+    action: u32,
+    status: u32,
+    kind: u32,
+    place: usize,
+    length: usize,
+});
+
+extern "C" {
+    fn cvr_service_id(bytes: *const u8, bytes_length: usize) -> ServiceId;
+
+    fn cvr_version_info_read(payload: *const u8, payload_length: usize) -> VersionInfoAnswer;
+    fn cvr_version_info_write(info: VersionInfo, out: *mut u8, out_length: usize) -> WrittenAnswer;
+
+    fn cvr_packet_service_read(
+        version: u16,
+        payload: *const u8,
+        payload_length: usize,
+    ) -> PacketServiceAnswer;
+    fn cvr_packet_service_write(
+        info: PacketService,
+        out: *mut u8,
+        out_length: usize,
+    ) -> WrittenAnswer;
+
+    fn cvr_registration_read(
+        version: u16,
+        payload: *const u8,
+        payload_length: usize,
+    ) -> RegistrationAnswer;
+    fn cvr_registration_write(
+        info: Registration,
+        provider_id: *const u8,
+        provider_id_length: usize,
+        provider_name: *const u8,
+        provider_name_length: usize,
+        roaming_text: *const u8,
+        roaming_text_length: usize,
+        out: *mut u8,
+        out_length: usize,
+    ) -> WrittenAnswer;
+
+    fn cvr_signal_state_read(
+        version: u16,
+        payload: *const u8,
+        payload_length: usize,
+    ) -> SignalStateAnswer;
+    fn cvr_signal_state_write(info: SignalState, out: *mut u8, out_length: usize) -> WrittenAnswer;
+
+    fn cvr_rsrp(code: u32) -> ReadingAnswer;
+    fn cvr_snr(code: u32) -> ReadingAnswer;
+    fn cvr_bars(rssi: u32) -> BarsAnswer;
+
+    fn cvr_device_services_read(payload: *const u8, payload_length: usize) -> DeviceServicesAnswer;
+    fn cvr_device_services_element(
+        payload: *const u8,
+        payload_length: usize,
+        number: u32,
+        cids: *mut u32,
+        cids_length: usize,
+    ) -> ElementAnswer;
+    fn cvr_device_services_cids(
+        payload: *const u8,
+        payload_length: usize,
+        service: ServiceId,
+        cids: *mut u32,
+        cids_length: usize,
+    ) -> ElementAnswer;
+    fn cvr_device_services_listed(
+        payload: *const u8,
+        payload_length: usize,
+        service: ServiceId,
+        cid: u32,
+    ) -> ListedAnswer;
+    fn cvr_device_services_write(
+        list: ServiceList,
+        out: *mut u8,
+        out_length: usize,
+    ) -> WrittenAnswer;
+
+    fn cvr_message_judge(message: *const u8, message_length: usize) -> WholeAnswer;
+    fn cvr_message_cut(
+        message: MessageHeader,
+        size: usize,
+        information: *const u8,
+        information_length: usize,
+        out: *mut u8,
+        out_length: usize,
+    ) -> CutAnswer;
+    fn cvr_payload_kind(message: MessageHeader) -> KindAnswer;
+    fn cvr_transaction_next(transaction: u32) -> u32;
+
+    fn cvr_assembly_empty(memory: *mut u8, memory_length: usize) -> Refusal;
+    fn cvr_assembly_feed(
+        memory: *mut u8,
+        memory_length: usize,
+        piece: *const u8,
+        piece_length: usize,
+        out: *mut u8,
+        out_length: usize,
+    ) -> FeedAnswer;
+
+    fn cvr_host_make(memory: *mut u8, memory_length: usize, native: u16) -> Refusal;
+    fn cvr_host_open(memory: *mut u8, memory_length: usize, advertised: u16) -> HostAnswer;
+    fn cvr_host_close(memory: *mut u8, memory_length: usize) -> HostAnswer;
+    fn cvr_host_next_command(
+        memory: *const u8,
+        memory_length: usize,
+        out: *mut u8,
+        out_length: usize,
+    ) -> AskAnswer;
+    fn cvr_host_services_reply(
+        memory: *mut u8,
+        memory_length: usize,
+        status: u32,
+        payload: *const u8,
+        payload_length: usize,
+    ) -> HostAnswer;
+    fn cvr_host_version_reply(
+        memory: *mut u8,
+        memory_length: usize,
+        status: u32,
+        payload: *const u8,
+        payload_length: usize,
+    ) -> HostAnswer;
+
+    fn cvr_modem_make(
+        memory: *mut u8,
+        memory_length: usize,
+        native: u16,
+        advertised: u16,
+        lists_version: u32,
+    ) -> Refusal;
+    fn cvr_modem_open(memory: *mut u8, memory_length: usize) -> Refusal;
+    fn cvr_modem_close(memory: *mut u8, memory_length: usize) -> Refusal;
+    fn cvr_modem_command(
+        memory: *mut u8,
+        memory_length: usize,
+        service: ServiceId,
+        cid: u32,
+        command_type: u32,
+        payload: *const u8,
+        payload_length: usize,
+        out: *mut u8,
+        out_length: usize,
+    ) -> ModemAnswer;
+}
+
+pub fn service_id(bytes: &[u8]) -> ServiceId {
+    unsafe { cvr_service_id(bytes.as_ptr(), bytes.len()) }
+}
+
+pub fn version_info_read(payload: &[u8]) -> VersionInfoAnswer {
+    unsafe { cvr_version_info_read(payload.as_ptr(), payload.len()) }
+}
+
+pub fn version_info_write(info: VersionInfo, out: &mut [u8]) -> WrittenAnswer {
+    unsafe { cvr_version_info_write(info, out.as_mut_ptr(), out.len()) }
+}
+
+pub fn packet_service_read(version: u16, payload: &[u8]) -> PacketServiceAnswer {
+    unsafe { cvr_packet_service_read(version, payload.as_ptr(), payload.len()) }
+}
+
+pub fn packet_service_write(info: PacketService, out: &mut [u8]) -> WrittenAnswer {
+    unsafe { cvr_packet_service_write(info, out.as_mut_ptr(), out.len()) }
+}
+
+pub fn registration_read(version: u16, payload: &[u8]) -> RegistrationAnswer {
+    unsafe { cvr_registration_read(version, payload.as_ptr(), payload.len()) }
+}
+
+pub fn registration_write(
+    info: Registration,
+    provider_id: &[u8],
+    provider_name: &[u8],
+    roaming_text: &[u8],
+    out: &mut [u8],
+) -> WrittenAnswer {
+    unsafe {
+        cvr_registration_write(
+            info,
+            provider_id.as_ptr(),
+            provider_id.len(),
+            provider_name.as_ptr(),
+            provider_name.len(),
+            roaming_text.as_ptr(),
+            roaming_text.len(),
+            out.as_mut_ptr(),
+            out.len(),
+        )
+    }
+}
+
+pub fn signal_state_read(version: u16, payload: &[u8]) -> SignalStateAnswer {
+    unsafe { cvr_signal_state_read(version, payload.as_ptr(), payload.len()) }
+}
+
+pub fn signal_state_write(info: SignalState, out: &mut [u8]) -> WrittenAnswer {
+    unsafe { cvr_signal_state_write(info, out.as_mut_ptr(), out.len()) }
+}
+
+pub fn rsrp(code: u32) -> ReadingAnswer {
+    unsafe { cvr_rsrp(code) }
+}
+
+pub fn snr(code: u32) -> ReadingAnswer {
+    unsafe { cvr_snr(code) }
+}
+
+pub fn bars(rssi: u32) -> BarsAnswer {
+    unsafe { cvr_bars(rssi) }
+}
+
+pub fn device_services_read(payload: &[u8]) -> DeviceServicesAnswer {
+    unsafe { cvr_device_services_read(payload.as_ptr(), payload.len()) }
+}
+
+pub fn device_services_element(payload: &[u8], number: u32, cids: &mut [u32]) -> ElementAnswer {
+    unsafe {
+        cvr_device_services_element(
+            payload.as_ptr(),
+            payload.len(),
+            number,
+            cids.as_mut_ptr(),
+            cids.len(),
+        )
+    }
+}
+
+pub fn device_services_cids(payload: &[u8], service: ServiceId, cids: &mut [u32]) -> ElementAnswer {
+    unsafe {
+        cvr_device_services_cids(
+            payload.as_ptr(),
+            payload.len(),
+            service,
+            cids.as_mut_ptr(),
+            cids.len(),
+        )
+    }
+}
+
+pub fn device_services_listed(payload: &[u8], service: ServiceId, cid: u32) -> ListedAnswer {
+    unsafe { cvr_device_services_listed(payload.as_ptr(), payload.len(), service, cid) }
+}
+
+pub fn device_services_write(list: ServiceList, out: &mut [u8]) -> WrittenAnswer {
+    unsafe { cvr_device_services_write(list, out.as_mut_ptr(), out.len()) }
+}
+
+pub fn message_judge(message: &[u8]) -> WholeAnswer {
+    unsafe { cvr_message_judge(message.as_ptr(), message.len()) }
+}
+
+pub fn message_cut(
+    message: MessageHeader,
+    size: usize,
+    information: &[u8],
+    out: &mut [u8],
+) -> CutAnswer {
+    unsafe {
+        cvr_message_cut(
+            message,
+            size,
+            information.as_ptr(),
+            information.len(),
+            out.as_mut_ptr(),
+            out.len(),
+        )
+    }
+}
+
+pub fn payload_kind(message: MessageHeader) -> KindAnswer {
+    unsafe { cvr_payload_kind(message) }
+}
+
+pub fn transaction_next(transaction: u32) -> u32 {
+    unsafe { cvr_transaction_next(transaction) }
+}
+
+pub fn assembly_empty(memory: &mut [u8]) -> Refusal {
+    unsafe { cvr_assembly_empty(memory.as_mut_ptr(), memory.len()) }
+}
+
+pub fn assembly_feed(memory: &mut [u8], piece: &[u8], out: &mut [u8]) -> FeedAnswer {
+    unsafe {
+        cvr_assembly_feed(
+            memory.as_mut_ptr(),
+            memory.len(),
+            piece.as_ptr(),
+            piece.len(),
+            out.as_mut_ptr(),
+            out.len(),
+        )
+    }
+}
+
+pub fn host_make(memory: &mut [u8], native: u16) -> Refusal {
+    unsafe { cvr_host_make(memory.as_mut_ptr(), memory.len(), native) }
+}
+
+pub fn host_open(memory: &mut [u8], advertised: u16) -> HostAnswer {
+    unsafe { cvr_host_open(memory.as_mut_ptr(), memory.len(), advertised) }
+}
+
+pub fn host_close(memory: &mut [u8]) -> HostAnswer {
+    unsafe { cvr_host_close(memory.as_mut_ptr(), memory.len()) }
+}
+
+pub fn host_next_command(memory: &[u8], out: &mut [u8]) -> AskAnswer {
+    unsafe { cvr_host_next_command(memory.as_ptr(), memory.len(), out.as_mut_ptr(), out.len()) }
+}
+
+pub fn host_services_reply(memory: &mut [u8], status: u32, payload: &[u8]) -> HostAnswer {
+    unsafe {
+        cvr_host_services_reply(
+            memory.as_mut_ptr(),
+            memory.len(),
+            status,
+            payload.as_ptr(),
+            payload.len(),
+        )
+    }
+}
+
+pub fn host_version_reply(memory: &mut [u8], status: u32, payload: &[u8]) -> HostAnswer {
+    unsafe {
+        cvr_host_version_reply(
+            memory.as_mut_ptr(),
+            memory.len(),
+            status,
+            payload.as_ptr(),
+            payload.len(),
+        )
+    }
+}
+
+pub fn modem_make(memory: &mut [u8], native: u16, advertised: u16, lists_version: u32) -> Refusal {
+    unsafe { cvr_modem_make(memory.as_mut_ptr(), memory.len(), native, advertised, lists_version) }
+}
+
+pub fn modem_open(memory: &mut [u8]) -> Refusal {
+    unsafe { cvr_modem_open(memory.as_mut_ptr(), memory.len()) }
+}
+
+pub fn modem_close(memory: &mut [u8]) -> Refusal {
+    unsafe { cvr_modem_close(memory.as_mut_ptr(), memory.len()) }
+}
+
+pub fn modem_command(
+    memory: &mut [u8],
+    service: ServiceId,
+    cid: u32,
+    command_type: u32,
+    payload: &[u8],
+    out: &mut [u8],
+) -> ModemAnswer {
+    unsafe {
+        cvr_modem_command(
+            memory.as_mut_ptr(),
+            memory.len(),
+            service,
+            cid,
+            command_type,
+            payload.as_ptr(),
+            payload.len(),
+            out.as_mut_ptr(),
+            out.len(),
+        )
+    }
+}

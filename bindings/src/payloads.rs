@@ -1,0 +1,174 @@
+//! The five payloads, decibels and bars.
+
+use crate::c::{self, Refusal};
+use crate::{
+    DeviceService, DeviceServices, PacketService, Registration, RsrpSnr, ServiceElement, ServiceId,
+    ServiceList, SignalState, VersionInfo,
+};
+
+impl VersionInfo {
+    pub fn read(payload: &[u8]) -> Result<VersionInfo, Refusal> {
+        let answer = c::version_info_read(payload);
+        answer.refusal.or(answer.info)
+    }
+
+    /// Gives how many bytes were written at the front of the output, as every writer does.
+    pub fn write(&self, out: &mut [u8]) -> Result<usize, Refusal> {
+        written(c::version_info_write(*self, out))
+    }
+}
+
+impl PacketService {
+    pub fn read(version: u16, payload: &[u8]) -> Result<PacketService, Refusal> {
+        let answer = c::packet_service_read(version, payload);
+        answer.refusal.or(answer.info)
+    }
+
+    pub fn write(&self, out: &mut [u8]) -> Result<usize, Refusal> {
+        written(c::packet_service_write(*self, out))
+    }
+}
+
+/// The texts of a registration, UTF-16LE, not judged beyond their size.
+#[derive(Clone, Copy, Debug, Default, PartialEq, Eq)]
+pub struct Texts<'a> {
+    pub provider_id: &'a [u8],
+    pub provider_name: &'a [u8],
+    pub roaming_text: &'a [u8],
+}
+
+impl Registration {
+    pub fn read(version: u16, payload: &[u8]) -> Result<(Registration, Texts<'_>), Refusal> {
+        let answer = c::registration_read(version, payload);
+        let texts = Texts {
+            provider_id: text(payload, answer.texts.provider_id),
+            provider_name: text(payload, answer.texts.provider_name),
+            roaming_text: text(payload, answer.texts.roaming_text),
+        };
+        answer.refusal.or((answer.info, texts))
+    }
+
+    pub fn write(&self, texts: &Texts, out: &mut [u8]) -> Result<usize, Refusal> {
+        let Texts { provider_id, provider_name, roaming_text } = *texts;
+        written(c::registration_write(*self, provider_id, provider_name, roaming_text, out))
+    }
+}
+
+impl SignalState {
+    pub fn read(version: u16, payload: &[u8]) -> Result<SignalState, Refusal> {
+        let answer = c::signal_state_read(version, payload);
+        answer.refusal.or(answer.info)
+    }
+
+    pub fn write(&self, out: &mut [u8]) -> Result<usize, Refusal> {
+        written(c::signal_state_write(*self, out))
+    }
+
+    /// The entries that count.
+    pub fn entries(&self) -> &[RsrpSnr] {
+        &self.entries[..self.entries.len().min(self.count as usize)]
+    }
+}
+
+impl DeviceServices {
+    pub fn read(payload: &[u8]) -> Result<DeviceServices, Refusal> {
+        let answer = c::device_services_read(payload);
+        answer.refusal.or(answer.info)
+    }
+
+    /// The element with this number, from 0; its CIDs go to the front of the list.
+    pub fn element(
+        payload: &[u8],
+        number: u32,
+        cids: &mut [u32],
+    ) -> Result<Option<DeviceService>, Refusal> {
+        shown(c::device_services_element(payload, number, cids))
+    }
+
+    /// The first element of the service; its CIDs go to the front of the list.
+    pub fn cids(
+        payload: &[u8],
+        service: ServiceId,
+        cids: &mut [u32],
+    ) -> Result<Option<DeviceService>, Refusal> {
+        shown(c::device_services_cids(payload, service, cids))
+    }
+
+    /// Whether any element of the service holds the CID.
+    pub fn is_listed(payload: &[u8], service: ServiceId, cid: u32) -> Result<bool, Refusal> {
+        let answer = c::device_services_listed(payload, service, cid);
+        answer.refusal.or(answer.listed != 0)
+    }
+}
+
+impl ServiceList {
+    pub fn empty() -> ServiceList {
+        let none = ServiceElement { fields: DeviceService::default(), cids: [0; c::MOST_CIDS] };
+        let elements = [none; c::MOST_SERVICES];
+        ServiceList { device_services_count: 0, max_dss_sessions: 0, elements }
+    }
+
+    /// Adds an element; false if the list or the element has no room for it.
+    pub fn add(&mut self, service: ServiceId, cids: &[u32]) -> bool {
+        let Some(element) = self.elements.get_mut(self.device_services_count as usize) else {
+            return false;
+        };
+        let Some(front) = element.cids.get_mut(..cids.len()) else {
+            return false;
+        };
+        front.copy_from_slice(cids);
+        element.fields.device_service_id = service;
+        element.fields.cid_count = cids.len() as u32;
+        self.device_services_count += 1;
+        true
+    }
+
+    pub fn write(&self, out: &mut [u8]) -> Result<usize, Refusal> {
+        written(c::device_services_write(*self, out))
+    }
+}
+
+/// A reading of RSRP or SNR; below the range it carries the range's lower edge.
+#[derive(Clone, Copy, Debug, PartialEq)]
+pub enum Reading {
+    Dbm(f32),
+    Db(f32),
+    BelowRange(f32),
+    Unknown,
+}
+
+pub fn rsrp(code: u32) -> Result<Reading, Refusal> {
+    reading(c::rsrp(code))
+}
+
+pub fn snr(code: u32) -> Result<Reading, Refusal> {
+    reading(c::snr(code))
+}
+
+/// The bars of an RSSI; none where it is unknown.
+pub fn bars(rssi: u32) -> Result<Option<u32>, Refusal> {
+    let answer = c::bars(rssi);
+    answer.refusal.or((answer.reading != 0).then_some(answer.bars))
+}
+
+fn written(answer: c::WrittenAnswer) -> Result<usize, Refusal> {
+    answer.refusal.or(answer.length)
+}
+
+fn text(payload: &[u8], range: c::Range) -> &[u8] {
+    let rest = payload.get(range.start as usize..).unwrap_or_default();
+    rest.get(..range.length as usize).unwrap_or_default()
+}
+
+fn shown(answer: c::ElementAnswer) -> Result<Option<DeviceService>, Refusal> {
+    answer.refusal.or((answer.listed != 0).then_some(answer.element))
+}
+
+fn reading(answer: c::ReadingAnswer) -> Result<Reading, Refusal> {
+    answer.refusal.or(match answer.kind {
+        1 => Reading::Dbm(answer.value),
+        2 => Reading::Db(answer.value),
+        3 => Reading::BelowRange(answer.value),
+        _ => Reading::Unknown,
+    })
+}

@@ -1,0 +1,96 @@
+//! Ways to build payloads and to damage them.
+
+use crate::random::Random;
+use crate::samples::Samples;
+
+/// Words as little-endian bytes.
+pub fn words(words: &[u32]) -> Vec<u8> {
+    words.iter().flat_map(|word| word.to_le_bytes()).collect()
+}
+
+/// The same bytes with one word changed.
+pub fn with_word(bytes: &[u8], place: usize, word: u32) -> Vec<u8> {
+    let mut bytes = bytes.to_vec();
+    bytes[place..place + 4].copy_from_slice(&word.to_le_bytes());
+    bytes
+}
+
+/// The same bytes with some words changed.
+pub fn with_words(bytes: &[u8], changes: &[(usize, u32)]) -> Vec<u8> {
+    let change = |bytes: Vec<u8>, (place, word): &(usize, u32)| with_word(&bytes, *place, *word);
+    changes.iter().fold(bytes.to_vec(), change)
+}
+
+/// The same bytes, cut short or made longer with zeros.
+pub fn resized(bytes: &[u8], length: usize) -> Vec<u8> {
+    let mut bytes = bytes.to_vec();
+    bytes.resize(length, 0);
+    bytes
+}
+
+/// Numbers at and around a limit, and far above it.
+pub fn around(limit: u32) -> [u32; 5] {
+    let far = limit | 0x8000_0000;
+    [limit, limit.saturating_add(1), limit | 0x100, far, u32::MAX]
+}
+
+/// Asks with each word at this place set to each value.
+pub fn set_word(
+    samples: &mut Samples,
+    question: u32,
+    arguments: &[u64],
+    good: &[u8],
+    place: usize,
+    values: &[u32],
+) {
+    for value in values {
+        samples.ask(question, arguments, &with_word(good, place, *value));
+    }
+}
+
+/// Asks with every two of these faults together: the order of the rules decides.
+pub fn two_faults(
+    samples: &mut Samples,
+    question: u32,
+    arguments: &[u64],
+    good: &[u8],
+    faults: &[(usize, u32)],
+) {
+    for (number, first) in faults.iter().enumerate() {
+        for second in &faults[number + 1..] {
+            samples.ask(question, arguments, &with_words(good, &[*first, *second]));
+        }
+    }
+}
+
+/// Asks with the payload cut short at these lengths, or made longer.
+pub fn lengths(
+    samples: &mut Samples,
+    question: u32,
+    arguments: &[u64],
+    good: &[u8],
+    lengths: impl IntoIterator<Item = usize>,
+) {
+    for length in lengths {
+        samples.ask(question, arguments, &resized(good, length));
+    }
+}
+
+/// Asks with single bytes changed, about half of them in one bit; of a long payload every third byte.
+pub fn change_bytes(
+    samples: &mut Samples,
+    question: u32,
+    arguments: &[u64],
+    good: &[u8],
+    random: &mut Random,
+) {
+    let step = if good.len() > 100 { 3 } else { 1 };
+    for place in (0..good.len()).step_by(step) {
+        let mut bad = good.to_vec();
+        bad[place] ^= match place % 2 {
+            0 => random.below(255) as u8 + 1,
+            _ => 1 << random.below(8),
+        };
+        samples.ask(question, arguments, &bad);
+    }
+}

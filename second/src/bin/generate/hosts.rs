@@ -1,0 +1,145 @@
+//! Samples of the host's end of the handshake.
+
+use crate::damage::{resized, with_word, words};
+use crate::random::Random;
+use crate::samples::Samples;
+use second::flat::question::{
+    HOST_CLOSE, HOST_NEXT, HOST_OPEN, HOST_SERVICES_REPLY, HOST_VERSION_REPLY, MAKE_HOST, SHOW_HOST,
+};
+use second::payload::{BASIC_CONNECT, EXTENSIONS};
+
+const VERSIONS: [u64; 2] = [0x0100, 0x0200];
+const NUMBERS: [u64; 5] = [0, 0x00FF, 0x0101, 0x0300, 0xFFFF];
+
+pub fn all(samples: &mut Samples) {
+    for native in NUMBERS {
+        samples.ask(MAKE_HOST, &[0x0200], &[]);
+        samples.ask(HOST_OPEN, &[0x0100], &[]);
+        samples.ask(MAKE_HOST, &[native], &[]);
+        show(samples);
+        samples.ask(HOST_OPEN, &[native], &[]);
+        show(samples);
+    }
+    for native in VERSIONS {
+        for advertised in VERSIONS {
+            // A host at 1.00 sends no VERSION, so few replies are enough there.
+            let some = if native == 0x0100 { 1 } else { replies().len() };
+            for reply in &replies()[..some] {
+                run(samples, native, advertised, true, reply);
+            }
+            run(samples, native, advertised, false, &replies()[1]);
+            let some = if native == 0x0100 { 4 } else { lists().len() };
+            for list in lists().iter().rev().take(some) {
+                lists_at(samples, native, advertised, list);
+            }
+        }
+    }
+    walk(samples);
+}
+
+/// A list of one element with these CIDs.
+pub fn list(service: [u8; 16], cids: &[u32]) -> Vec<u8> {
+    let size = 28 + 4 * cids.len() as u32;
+    let head = words(&[1, 0, 16, size]);
+    let numbers = words(&[0, 0, cids.len() as u32]);
+    [head, service.to_vec(), numbers, words(cids)].concat()
+}
+
+/// Lists with VERSION and without it, and refused ones.
+fn lists() -> Vec<Vec<u8>> {
+    let good = list(EXTENSIONS, &[15]);
+    let mut twice = with_word(&resized(&[], 24), 0, 2);
+    for (place, word) in [(8, 24), (12, 32), (16, 56), (20, 32)] {
+        twice = with_word(&twice, place, word);
+    }
+    twice.extend(&list(EXTENSIONS, &[14])[16..]);
+    twice.extend(&good[16..]);
+    vec![
+        vec![],
+        with_word(&good, 12, 28),
+        resized(&good, 4097),
+        with_word(&good, 0, 33),
+        words(&[0, 0]),
+        list(BASIC_CONNECT, &[15]),
+        list(EXTENSIONS, &[14, 16]),
+        twice,
+        good,
+    ]
+}
+
+/// Replies to VERSION: status and payload.
+fn replies() -> Vec<(u64, Vec<u8>)> {
+    vec![
+        (0, vec![0, 1, 0, 1]),
+        (0, vec![0, 1, 0, 2]),
+        (0, vec![0, 1, 0]),
+        (0, vec![0, 1, 0, 2, 0]),
+        (0, vec![0, 1, 0, 3]),
+        (0, vec![0, 2, 0, 2]),
+        (2, vec![0, 1, 0, 2]),
+        (9, vec![]),
+        (0xFFFF_FFFF, vec![1]),
+    ]
+}
+
+fn show(samples: &mut Samples) {
+    samples.ask(SHOW_HOST, &[], &[]);
+}
+
+/// One list at a closed and at an opened host, failed and good.
+fn lists_at(samples: &mut Samples, native: u64, advertised: u64, list: &[u8]) {
+    samples.ask(MAKE_HOST, &[native], &[]);
+    samples.ask(HOST_SERVICES_REPLY, &[0], list);
+    samples.ask(HOST_OPEN, &[advertised], &[]);
+    samples.ask(HOST_SERVICES_REPLY, &[9], list);
+    samples.ask(HOST_SERVICES_REPLY, &[0], list);
+    show(samples);
+    samples.ask(HOST_SERVICES_REPLY, &[0], list);
+    samples.ask(HOST_NEXT, &[4], &[]);
+    samples.ask(HOST_CLOSE, &[], &[]);
+    show(samples);
+}
+
+/// A run: list, VERSION's reply, and what comes after settling.
+fn run(samples: &mut Samples, native: u64, advertised: u64, listed: bool, reply: &(u64, Vec<u8>)) {
+    let good = list(EXTENSIONS, if listed { &[15] } else { &[] });
+    let (status, payload) = reply;
+    samples.ask(MAKE_HOST, &[native], &[]);
+    samples.ask(HOST_VERSION_REPLY, &[*status], payload);
+    samples.ask(HOST_OPEN, &[advertised], &[]);
+    samples.ask(HOST_NEXT, &[0], &[]);
+    samples.ask(HOST_VERSION_REPLY, &[*status], payload);
+    samples.ask(HOST_SERVICES_REPLY, &[0], &good);
+    samples.ask(HOST_NEXT, &[3], &[]);
+    samples.ask(HOST_NEXT, &[5], &[]);
+    samples.ask(HOST_VERSION_REPLY, &[*status], payload);
+    show(samples);
+    samples.ask(HOST_VERSION_REPLY, &[0], &[0, 1, 0, 2]);
+    samples.ask(HOST_NEXT, &[0], &[]);
+    show(samples);
+}
+
+/// Random calls, each shown.
+fn walk(samples: &mut Samples) {
+    let mut random = Random::new(8);
+    let (lists, replies) = (lists(), replies());
+    samples.ask(MAKE_HOST, &[0x0200], &[]);
+    for _ in 0..60 {
+        match random.below(16) {
+            0 => samples.ask(MAKE_HOST, &[random.pick(&[0x0100, 0x0200, 0x0200, 0x0300])], &[]),
+            1 => samples.ask(HOST_CLOSE, &[], &[]),
+            2..=4 => samples.ask(HOST_OPEN, &[random.pick(&[0x0100, 0x0200, 0x0200, 0])], &[]),
+            5..=9 => {
+                let any = random.below(lists.len());
+                let list = &lists[random.pick(&[8, 8, 8, 4, any])];
+                samples.ask(HOST_SERVICES_REPLY, &[random.pick(&[0, 0, 0, 2])], list)
+            }
+            10..=13 => {
+                let (status, payload) = &replies[random.below(replies.len())];
+                samples.ask(HOST_VERSION_REPLY, &[*status], payload)
+            }
+            _ => samples.ask(HOST_NEXT, &[random.pick(&[0, 3, 4, 9])], &[]),
+        };
+        show(samples);
+    }
+}

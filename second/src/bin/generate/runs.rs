@@ -1,0 +1,100 @@
+//! Whole runs: host and modem with writer, cutter, assembler and readers between them.
+
+use crate::feeds::pieces;
+use crate::samples::Samples;
+use second::flat::question as q;
+use second::message::{COMMAND, COMMAND_DONE};
+use second::payload::{BASIC_CONNECT, EXTENSIONS};
+
+const ROOM: u64 = 4096;
+
+pub fn all(samples: &mut Samples) {
+    samples.ask(q::EMPTY_ASSEMBLY, &[], &[]);
+    for host in [0x0100, 0x0200] {
+        for (native, advertised) in [(0x0100, 0x0100), (0x0200, 0x0100), (0x0200, 0x0200)] {
+            for lists_version in [0, 1] {
+                samples.ask(q::MAKE_HOST, &[host], &[]);
+                samples.ask(q::MAKE_MODEM, &[native, advertised, lists_version], &[]);
+                samples.ask(q::HOST_OPEN, &[advertised], &[]);
+                samples.ask(q::MODEM_OPEN, &[], &[]);
+                run(samples, lists_version);
+            }
+        }
+    }
+}
+
+/// The list and its reply; then, unless refused, VERSION or another command and its reply.
+fn run(samples: &mut Samples, lists_version: u64) {
+    samples.ask(q::HOST_NEXT, &[ROOM], &[]);
+    exchange(samples, 1, 16, &[]);
+    let list = write_list(samples, lists_version);
+    let list = carry(samples, [COMMAND_DONE, 1, 16, 0], &list);
+    let reply = samples.ask(q::HOST_SERVICES_REPLY, &[0], &list).numbers;
+    if reply[0] != 0 {
+        samples.ask(q::SHOW_HOST, &[], &[]);
+        return;
+    }
+    let next = samples.ask(q::HOST_NEXT, &[ROOM], &[]);
+    if next.numbers[1] == 2 {
+        let answered = exchange(samples, 2, 15, &next.output);
+        let answered = carry(samples, [COMMAND_DONE, 2, 15, 0], &answered);
+        samples.ask(q::HOST_VERSION_REPLY, &[0], &answered);
+    } else {
+        exchange(samples, 2, 11, &[]);
+    }
+    samples.ask(q::SHOW_MODEM, &[], &[]);
+    let version = samples.ask(q::SHOW_HOST, &[], &[]).numbers[3];
+    if lists_version == 1 {
+        payloads(samples, version);
+    }
+}
+
+/// A command on its way to the modem; gives what the modem wrote.
+fn exchange(samples: &mut Samples, transaction: u32, cid: u32, payload: &[u8]) -> Vec<u8> {
+    let information = carry(samples, [COMMAND, transaction, cid, 0], payload);
+    let service = if cid == 15 { EXTENSIONS } else { BASIC_CONNECT };
+    let input = [&service[..], &information].concat();
+    samples.ask(q::MODEM_COMMAND, &[ROOM, cid.into(), 0], &input).output
+}
+
+/// Cuts, feeds and gives the information that came together.
+fn carry(samples: &mut Samples, head: [u32; 4], information: &[u8]) -> Vec<u8> {
+    let mut output = Vec::new();
+    for piece in pieces(samples, 64, head, information) {
+        output = samples.ask(q::FEED, &[ROOM], &piece).output;
+    }
+    let [message_type, _, cid, word] = head.map(u64::from);
+    let (service, information) = output.split_at(16);
+    samples.ask(q::PAYLOAD_KIND, &[message_type, cid, word], service);
+    information.to_vec()
+}
+
+fn write_list(samples: &mut Samples, lists_version: u64) -> Vec<u8> {
+    let mut arguments = vec![ROOM, 1 + lists_version, 0, 0, 0, 4, 9, 10, 11, 16];
+    let mut input = BASIC_CONNECT.to_vec();
+    if lists_version == 1 {
+        arguments.extend([0, 0, 1, 15]);
+        input.extend(EXTENSIONS);
+    }
+    samples.ask(q::SERVICES_WRITE, &arguments, &input).output
+}
+
+/// Each payload written at the settled version, carried, and read at it.
+fn payloads(samples: &mut Samples, version: u64) {
+    let text = b"0\x000\x001\x000\x001\0T\0";
+    let fields = [ROOM, version, 0, 3, 1, 0x20, 1, 0, 0x20, 10, 2, 0];
+    let registration = samples.ask(q::REGISTRATION_WRITE, &fields, text).output;
+    let fields = [ROOM, version, 0, 2, 0x20, 0x40, 1, 50_000_000, 150_000_000];
+    let packet = samples.ask(q::PACKET_WRITE, &fields, &[]).output;
+    let fields = [ROOM, version, 99, 0, 5, 0, 0, 1, 60, 70, 0, 0, 0x40];
+    let signal = samples.ask(q::SIGNAL_WRITE, &fields, &[]).output;
+    let reads = [
+        (9, q::REGISTRATION_READ, registration),
+        (10, q::PACKET_READ, packet),
+        (11, q::SIGNAL_READ, signal),
+    ];
+    for (cid, read, payload) in reads {
+        let payload = carry(samples, [COMMAND_DONE, 3, cid, 0], &payload);
+        samples.ask(read, &[version], &payload);
+    }
+}

@@ -1,0 +1,326 @@
+//! The DEVICE_SERVICES payload: a list of elements, each a service with its CIDs.
+//! The whole list is judged before anything of it is shown.
+
+use crate::bytes::{put, put_word, service, word};
+use crate::pair::{judge_list, Bounds, Range};
+use crate::refusal::{
+    require, Refusal, COUNT_OVER_LIMIT, INFORMATION_TOO_LONG, OUTPUT_TOO_SMALL, SIZE_WRONG,
+    TOO_SHORT,
+};
+use crate::{ServiceId, MAX_INFORMATION};
+
+/// Most elements of a list.
+pub const MAX_ELEMENTS: usize = 32;
+/// Most CIDs of an element.
+pub const MAX_CIDS: usize = 128;
+
+const DEVICE_SERVICES_COUNT: usize = 0;
+const MAX_DSS_SESSIONS: usize = 4;
+const PAIRS: usize = 8;
+const PAIR: usize = 8;
+
+const DEVICE_SERVICE_ID: usize = 0;
+const DSS_PAYLOAD: usize = 16;
+const MAX_DSS_INSTANCES: usize = 20;
+const CID_COUNT: usize = 24;
+const CID_LIST: usize = 28;
+const CID: usize = 4;
+const SIZE_LIMIT: u32 = (CID_LIST + CID * MAX_CIDS) as u32;
+
+/// An element to write.
+#[derive(Clone, Copy, Debug, PartialEq, Eq)]
+pub struct Element<'a> {
+    pub device_service_id: ServiceId,
+    pub dss_payload: u32,
+    pub max_dss_instances: u32,
+    pub cids: &'a [u32],
+}
+
+/// An element shown beside its CIDs, which stand in the caller's list.
+#[derive(Clone, Copy, Debug, PartialEq, Eq)]
+pub struct Shown {
+    pub device_service_id: ServiceId,
+    pub dss_payload: u32,
+    pub max_dss_instances: u32,
+    pub cid_count: usize,
+}
+
+/// An accepted payload.
+#[derive(Clone, Copy, Debug, PartialEq, Eq)]
+pub struct DeviceServices<'a> {
+    payload: &'a [u8],
+    count: usize,
+}
+
+/// Reads a payload.
+#[inline]
+pub fn read(payload: &[u8]) -> Result<DeviceServices<'_>, Refusal> {
+    let length = payload.len();
+    require(length >= PAIRS, TOO_SHORT, length)?;
+    let count = word(payload, DEVICE_SERVICES_COUNT) as usize;
+    require(count <= MAX_ELEMENTS, COUNT_OVER_LIMIT, DEVICE_SERVICES_COUNT)?;
+    let bounds = Bounds { fixed: PAIRS + PAIR * count, length };
+    require(length >= bounds.fixed, TOO_SHORT, length)?;
+    require(length <= MAX_INFORMATION, INFORMATION_TOO_LONG, 0)?;
+    for number in 0..count {
+        judge_element(payload, PAIRS + PAIR * number, bounds)?;
+    }
+    Ok(DeviceServices { payload, count })
+}
+
+/// The element of this number, from 0, its CIDs put into the list.
+/// No such element: `None`.
+#[inline]
+pub fn element(payload: &[u8], number: u32, list: &mut [u32]) -> Result<Option<Shown>, Refusal> {
+    match read(payload)?.element(number as usize) {
+        None => Ok(None),
+        Some(bytes) => show(bytes, list).map(Some),
+    }
+}
+
+/// The first element of this service, its CIDs put into the list.
+/// No such element: `None`.
+#[inline]
+pub fn first_of_service(
+    payload: &[u8],
+    service_id: &ServiceId,
+    list: &mut [u32],
+) -> Result<Option<Shown>, Refusal> {
+    let services = read(payload)?;
+    let mut elements = services.elements();
+    match elements.find(|bytes| service(bytes, DEVICE_SERVICE_ID) == *service_id) {
+        None => Ok(None),
+        Some(bytes) => show(bytes, list).map(Some),
+    }
+}
+
+/// Whether any element holds both this service and this CID.
+#[inline]
+pub fn listed(payload: &[u8], service_id: &ServiceId, cid: u32) -> Result<bool, Refusal> {
+    Ok(read(payload)?.lists(service_id, cid))
+}
+
+impl<'a> DeviceServices<'a> {
+    #[inline]
+    pub fn count(&self) -> usize {
+        self.count
+    }
+
+    #[inline]
+    pub fn max_dss_sessions(&self) -> u32 {
+        word(self.payload, MAX_DSS_SESSIONS)
+    }
+
+    /// Whether any element holds both this service and this CID.
+    #[inline]
+    pub fn lists(&self, service_id: &ServiceId, cid: u32) -> bool {
+        let of_service = |bytes: &&[u8]| service(bytes, DEVICE_SERVICE_ID) == *service_id;
+        let mut elements = self.elements().filter(of_service);
+        elements.any(|bytes| cids(bytes).any(|listed| listed == cid))
+    }
+
+    #[inline]
+    fn element(&self, number: usize) -> Option<&'a [u8]> {
+        let show = || Range::at(self.payload, PAIRS + PAIR * number).of(self.payload);
+        (number < self.count).then(show)
+    }
+
+    #[inline]
+    fn elements(&self) -> impl Iterator<Item = &'a [u8]> {
+        let payload = self.payload;
+        (0..self.count).map(move |number| Range::at(payload, PAIRS + PAIR * number).of(payload))
+    }
+}
+
+/// Writes a list and gives the length written: 15, then each element's size, then 5 and 11.
+#[inline]
+pub fn write(
+    max_dss_sessions: u32,
+    elements: &[Element],
+    out: &mut [u8],
+) -> Result<usize, Refusal> {
+    require(elements.len() <= MAX_ELEMENTS, COUNT_OVER_LIMIT, DEVICE_SERVICES_COUNT)?;
+    let fixed = PAIRS + PAIR * elements.len();
+    let length = judge_sizes(elements, fixed)?;
+    require(length <= MAX_INFORMATION, INFORMATION_TOO_LONG, 0)?;
+    let room = out.get_mut(..length).ok_or(Refusal::new(OUTPUT_TOO_SMALL, length))?;
+    put_word(room, DEVICE_SERVICES_COUNT, elements.len() as u32);
+    put_word(room, MAX_DSS_SESSIONS, max_dss_sessions);
+    let mut offset = fixed;
+    for (number, element) in elements.iter().enumerate() {
+        let size = size(element);
+        put_word(room, PAIRS + PAIR * number, offset as u32);
+        put_word(room, PAIRS + PAIR * number + 4, size as u32);
+        put_element(element, room.get_mut(offset..).unwrap_or_default());
+        offset += size;
+    }
+    Ok(length)
+}
+
+/// The pair's rules, then its element: size, count, size against count.
+#[inline(always)]
+fn judge_element(payload: &[u8], field: usize, bounds: Bounds) -> Result<(), Refusal> {
+    let pair = Range::at(payload, field);
+    judge_list(pair, field, SIZE_LIMIT, bounds)?;
+    let size = pair.size as usize;
+    require(size >= CID_LIST, SIZE_WRONG, field)?;
+    let place = pair.offset as usize + CID_COUNT;
+    let count = word(payload, place) as usize;
+    require(count <= MAX_CIDS, COUNT_OVER_LIMIT, place)?;
+    require(size == CID_LIST + CID * count, SIZE_WRONG, field)
+}
+
+/// The CIDs of an accepted element.
+#[inline]
+fn cids(element: &[u8]) -> impl Iterator<Item = u32> + '_ {
+    let list = element.get(CID_LIST..).unwrap_or_default();
+    list.chunks_exact(CID).map(|bytes| word(bytes, 0))
+}
+
+/// Fills the caller's list; too small is 11, and leaves it as it was.
+#[inline]
+fn show(element: &[u8], list: &mut [u32]) -> Result<Shown, Refusal> {
+    let cid_count = word(element, CID_COUNT) as usize;
+    let needed = Refusal::new(OUTPUT_TOO_SMALL, CID * cid_count);
+    let room = list.get_mut(..cid_count).ok_or(needed)?;
+    for (place, cid) in room.iter_mut().zip(cids(element)) {
+        *place = cid;
+    }
+    Ok(Shown {
+        device_service_id: service(element, DEVICE_SERVICE_ID),
+        dss_payload: word(element, DSS_PAYLOAD),
+        max_dss_instances: word(element, MAX_DSS_INSTANCES),
+        cid_count,
+    })
+}
+
+#[inline(always)]
+fn size(element: &Element) -> usize {
+    CID_LIST + CID * element.cids.len()
+}
+
+/// Each element's size by its limit; gives the length of the whole payload.
+#[inline(always)]
+fn judge_sizes(elements: &[Element], fixed: usize) -> Result<usize, Refusal> {
+    let mut length = fixed;
+    for (number, element) in elements.iter().enumerate() {
+        let fits = element.cids.len() <= MAX_CIDS;
+        require(fits, SIZE_WRONG, PAIRS + PAIR * number)?;
+        length += size(element);
+    }
+    Ok(length)
+}
+
+#[inline(always)]
+fn put_element(element: &Element, out: &mut [u8]) {
+    put(out, DEVICE_SERVICE_ID, &element.device_service_id);
+    put_word(out, DSS_PAYLOAD, element.dss_payload);
+    put_word(out, MAX_DSS_INSTANCES, element.max_dss_instances);
+    put_word(out, CID_COUNT, element.cids.len() as u32);
+    let list = out.get_mut(CID_LIST..).unwrap_or_default();
+    for (bytes, cid) in list.chunks_exact_mut(CID).zip(element.cids) {
+        put_word(bytes, 0, *cid);
+    }
+}
+
+#[cfg(test)]
+mod tests {
+    use super::*;
+
+    const A: ServiceId = [0xA; 16];
+    const B: ServiceId = [0xB; 16];
+
+    fn of(device_service_id: ServiceId, cids: &[u32]) -> Element<'_> {
+        Element { device_service_id, dss_payload: 1, max_dss_instances: 2, cids }
+    }
+
+    fn written(elements: &[Element]) -> Vec<u8> {
+        let mut out = [0xEE; 5000];
+        let length = write(7, elements, &mut out).unwrap();
+        assert!(out[length..].iter().all(|byte| *byte == 0xEE));
+        out[..length].to_vec()
+    }
+
+    fn with(payload: &[u8], place: usize, value: u32) -> Vec<u8> {
+        let mut payload = payload.to_vec();
+        payload[place..place + 4].copy_from_slice(&value.to_le_bytes());
+        payload
+    }
+
+    #[test]
+    fn a_list_is_read_as_written() {
+        let payload = written(&[of(A, &[1, 2]), of(B, &[]), of(A, &[3])]);
+        assert_eq!(payload.len(), 8 + 24 + 36 + 28 + 32);
+        let services = read(&payload).unwrap();
+        assert_eq!((services.count(), services.max_dss_sessions()), (3, 7));
+        let mut list = [99; 4];
+        let shown = first_of_service(&payload, &A, &mut list).unwrap().unwrap();
+        assert_eq!((shown.cid_count, list), (2, [1, 2, 99, 99]));
+        let shown = element(&payload, 2, &mut list).unwrap().unwrap();
+        assert_eq!((shown.device_service_id, shown.cid_count), (A, 1));
+        assert_eq!(list, [3, 2, 99, 99]);
+        assert_eq!(element(&payload, 3, &mut list), Ok(None));
+        assert_eq!(element(&payload, u32::MAX, &mut []), Ok(None));
+        assert_eq!(first_of_service(&payload, &[0; 16], &mut []), Ok(None));
+    }
+
+    #[test]
+    fn any_element_with_both_is_listed() {
+        let payload = written(&[of(A, &[1, 2]), of(B, &[]), of(A, &[3])]);
+        assert_eq!(listed(&payload, &A, 3), Ok(true));
+        assert_eq!(listed(&payload, &B, 3), Ok(false));
+        assert_eq!(listed(&payload, &A, 4), Ok(false));
+        assert_eq!(listed(&[], &A, 4), Err(Refusal::new(1, 0)));
+    }
+
+    #[test]
+    fn a_small_list_is_11_in_bytes_and_untouched() {
+        let payload = written(&[of(A, &[1, 2])]);
+        let mut list = [99; 1];
+        let refused = Err(Refusal::new(11, 8));
+        assert_eq!(first_of_service(&payload, &A, &mut list), refused);
+        assert_eq!(element(&payload, 0, &mut list), refused);
+        assert_eq!(list, [99]);
+    }
+
+    #[test]
+    fn lengths_and_count_in_their_order() {
+        let read = |payload: &[u8]| read(payload).map(|services| services.count());
+        assert_eq!(read(&[]), Err(Refusal::new(1, 0)));
+        assert_eq!(read(&[0xFF; 7]), Err(Refusal::new(1, 7)));
+        assert_eq!(read(&with(&[0; 8], 0, 33)), Err(Refusal::new(15, 0)));
+        assert_eq!(read(&with(&[0; 8], 0, u32::MAX)), Err(Refusal::new(15, 0)));
+        assert_eq!(read(&with(&[0; 263], 0, 32)), Err(Refusal::new(1, 263)));
+        assert_eq!(read(&with(&[0; 4097], 0, 32)), Err(Refusal::new(5, 0)));
+        assert_eq!(read(&[0; 4096]), Ok(0));
+        assert_eq!(read(&with(&[0; 264], 0, 32)), Err(Refusal::new(8, 8)));
+    }
+
+    #[test]
+    fn pairs_and_elements_in_their_order() {
+        let payload = written(&[of(A, &[1]), of(B, &[2, 3])]);
+        let read = |payload: &[u8]| read(payload).map(|services| services.count());
+        assert_eq!(read(&with(&payload, 20, 541)), Err(Refusal::new(8, 16)));
+        assert_eq!(read(&with(&payload, 20, 0)), Err(Refusal::new(6, 16)));
+        assert_eq!(read(&with(&payload, 16, 20)), Err(Refusal::new(6, 16)));
+        assert_eq!(read(&with(&payload, 16, 0xFFFF_FFFC)), Err(Refusal::new(7, 16)));
+        assert_eq!(read(&with(&payload, 20, 27)), Err(Refusal::new(8, 16)));
+        assert_eq!(read(&with(&payload, 24 + 24, 129)), Err(Refusal::new(15, 48)));
+        assert_eq!(read(&with(&payload, 24 + 24, 2)), Err(Refusal::new(8, 8)));
+        assert_eq!(read(&with(&payload, 12, 31)), Err(Refusal::new(8, 8)));
+    }
+
+    #[test]
+    fn the_writer_judges_15_8_5_11() {
+        let cids = [5; 129];
+        let many = [of(A, &cids); 33];
+        assert_eq!(write(0, &many, &mut []), Err(Refusal::new(15, 0)));
+        assert_eq!(write(0, &many[..32], &mut []), Err(Refusal::new(8, 8)));
+        let long = [of(A, &cids[..128]); 8];
+        assert_eq!(write(0, &long, &mut []), Err(Refusal::new(5, 0)));
+        let fits = 8 + 7 * (8 + 540);
+        assert_eq!(write(0, &long[..7], &mut [0; 100]), Err(Refusal::new(11, fits)));
+        assert_eq!(written(&long[..7]).len(), fits);
+        assert_eq!(written(&[]), [0, 0, 0, 0, 7, 0, 0, 0]);
+    }
+}

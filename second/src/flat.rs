@@ -1,0 +1,704 @@
+//! Questions and answers as numbers and bytes, as INTERFACE.md has them.
+//! Lent outputs are filled with one byte first, and what must stay untouched is checked.
+
+use crate::assembler::{Answer as Fed, Assembler};
+use crate::device_services::{self, Element, Shown};
+use crate::handshake::{host, modem};
+use crate::handshake::{CommandAnswer, Host, Modem, NextCommand, ReplyAnswer};
+use crate::message::{self, Header};
+use crate::packet_service::{self, Form, PacketService};
+use crate::payload::{self, Kind};
+use crate::refusal::Refusal;
+use crate::registration::{self, Registration};
+use crate::signal_quality::{self, Reading};
+use crate::signal_state::{self, RsrpSnr, SignalState};
+use crate::version::{Version, MBIM};
+use crate::{cutter, version_info, ServiceId};
+
+/// The numbers of the questions.
+pub mod question {
+    pub const VERSION_READ: u32 = 1;
+    pub const VERSION_WRITE: u32 = 2;
+    pub const PACKET_READ: u32 = 3;
+    pub const PACKET_WRITE: u32 = 4;
+    pub const REGISTRATION_READ: u32 = 5;
+    pub const REGISTRATION_WRITE: u32 = 6;
+    pub const SIGNAL_READ: u32 = 7;
+    pub const SIGNAL_WRITE: u32 = 8;
+    pub const SERVICES_READ: u32 = 9;
+    pub const ELEMENT: u32 = 10;
+    pub const SERVICE_CIDS: u32 = 11;
+    pub const LISTED: u32 = 12;
+    pub const SERVICES_WRITE: u32 = 13;
+    pub const WHOLE_MESSAGE: u32 = 14;
+    pub const FEED: u32 = 15;
+    pub const EMPTY_ASSEMBLY: u32 = 16;
+    pub const SHOW_ASSEMBLY: u32 = 17;
+    pub const CUT: u32 = 18;
+    pub const NEXT_TRANSACTION: u32 = 19;
+    pub const PAYLOAD_KIND: u32 = 20;
+    pub const MAKE_HOST: u32 = 21;
+    pub const HOST_OPEN: u32 = 22;
+    pub const HOST_CLOSE: u32 = 23;
+    pub const HOST_NEXT: u32 = 24;
+    pub const HOST_SERVICES_REPLY: u32 = 25;
+    pub const HOST_VERSION_REPLY: u32 = 26;
+    pub const MAKE_MODEM: u32 = 27;
+    pub const MODEM_OPEN: u32 = 28;
+    pub const MODEM_CLOSE: u32 = 29;
+    pub const MODEM_COMMAND: u32 = 30;
+    pub const SHOW_HOST: u32 = 31;
+    pub const SHOW_MODEM: u32 = 32;
+    pub const RSRP: u32 = 33;
+    pub const SNR: u32 = 34;
+    pub const BARS: u32 = 35;
+}
+
+/// What a lent output holds before the call.
+const FILL: u8 = 0xAA;
+const FILL_WORD: u32 = 0xAAAA_AAAA;
+
+/// The assembly, the host and the modem that stand between questions.
+#[derive(Default)]
+pub struct Second {
+    assembler: Assembler,
+    host: Option<Host>,
+    modem: Option<Modem>,
+}
+
+/// An answer: 0 and what belongs to it, or a refusal's number and place.
+/// What is no question (unknown number, no host or modem) has no numbers.
+#[derive(Clone, Debug, Default, PartialEq, Eq)]
+pub struct Answer {
+    pub numbers: Vec<u64>,
+    pub output: Vec<u8>,
+}
+
+type Flat = Result<Answer, Refusal>;
+
+impl Second {
+    pub fn new() -> Second {
+        Second::default()
+    }
+
+    pub fn ask(&mut self, question: u32, arguments: &[u64], input: &[u8]) -> Answer {
+        let asked = Asked { arguments, input };
+        let answer = match question {
+            question::FEED => feed(&mut self.assembler, &asked),
+            question::EMPTY_ASSEMBLY => {
+                self.assembler = Assembler::new();
+                plain(&[])
+            }
+            question::SHOW_ASSEMBLY => show_assembly(&self.assembler),
+            question::MAKE_HOST => make_host(&mut self.host, &asked),
+            question::MAKE_MODEM => make_modem(&mut self.modem, &asked),
+            question::HOST_OPEN..=question::HOST_VERSION_REPLY | question::SHOW_HOST => {
+                self.host.as_mut().map_or(none(), |host| ask_host(host, question, &asked))
+            }
+            question::MODEM_OPEN..=question::MODEM_COMMAND | question::SHOW_MODEM => {
+                self.modem.as_mut().map_or(none(), |modem| ask_modem(modem, question, &asked))
+            }
+            _ => ask_stateless(question, &asked),
+        };
+        answer.unwrap_or_else(refused)
+    }
+}
+
+/// The questions that depend on nothing but their line.
+fn ask_stateless(question: u32, asked: &Asked) -> Flat {
+    match question {
+        question::VERSION_READ => version_read(asked),
+        question::VERSION_WRITE => version_write(asked),
+        question::PACKET_READ => packet_read(asked),
+        question::PACKET_WRITE => packet_write(asked),
+        question::REGISTRATION_READ => registration_read(asked),
+        question::REGISTRATION_WRITE => registration_write(asked),
+        question::SIGNAL_READ => signal_read(asked),
+        question::SIGNAL_WRITE => signal_write(asked),
+        question::SERVICES_READ => services_read(asked),
+        question::ELEMENT => element(asked),
+        question::SERVICE_CIDS => service_cids(asked),
+        question::LISTED => listed(asked),
+        question::SERVICES_WRITE => services_write(asked),
+        question::WHOLE_MESSAGE => whole_message(asked),
+        question::CUT => cut(asked),
+        question::NEXT_TRANSACTION => plain(&[cutter::next_transaction(asked.word(0)).into()]),
+        question::PAYLOAD_KIND => payload_kind(asked),
+        question::RSRP => reading(signal_quality::rsrp(asked.word(0))?),
+        question::SNR => reading(signal_quality::snr(asked.word(0))?),
+        question::BARS => bars(asked),
+        _ => none(),
+    }
+}
+
+/// Arguments and input of a question. Numbers that are not there are 0.
+struct Asked<'a> {
+    arguments: &'a [u64],
+    input: &'a [u8],
+}
+
+impl<'a> Asked<'a> {
+    fn number(&self, place: usize) -> u64 {
+        self.arguments.get(place).copied().unwrap_or(0)
+    }
+
+    fn word(&self, place: usize) -> u32 {
+        self.number(place) as u32
+    }
+
+    fn half(&self, place: usize) -> u16 {
+        self.number(place) as u16
+    }
+
+    fn version(&self, place: usize) -> Result<Version, Refusal> {
+        Version::from_bcd(self.half(place))
+    }
+
+    /// The service at the front of the input, and what comes after it.
+    fn service(&self) -> (ServiceId, &'a [u8]) {
+        match self.input.split_first_chunk::<16>() {
+            Some((service, rest)) => (*service, rest),
+            None => ([0; 16], &[]),
+        }
+    }
+}
+
+fn refused(refusal: Refusal) -> Answer {
+    let numbers = vec![refusal.number.into(), refusal.place as u64];
+    Answer { numbers, output: Vec::new() }
+}
+
+fn none() -> Flat {
+    Ok(Answer::default())
+}
+
+fn plain(numbers: &[u64]) -> Flat {
+    with_output(numbers, Vec::new())
+}
+
+fn with_output(numbers: &[u64], output: Vec<u8>) -> Flat {
+    let mut all = vec![0];
+    all.extend_from_slice(numbers);
+    Ok(Answer { numbers: all, output })
+}
+
+/// Lends an output of this room and gives what was written at its front.
+fn lend<T>(
+    room: u64,
+    call: impl FnOnce(&mut [u8]) -> Result<(T, usize), Refusal>,
+) -> Result<(T, Vec<u8>), Refusal> {
+    let mut out = vec![FILL; room as usize];
+    let answer = call(&mut out);
+    let written = answer.as_ref().map_or(0, |(_, written)| *written);
+    let untouched = &out[written..];
+    assert!(untouched.iter().all(|byte| *byte == FILL), "output touched");
+    out.truncate(written);
+    answer.map(|(answer, _)| (answer, out))
+}
+
+/// A writer's answer: its length and its bytes.
+fn written(room: u64, call: impl FnOnce(&mut [u8]) -> Result<usize, Refusal>) -> Flat {
+    let (length, output) = lend(room, |out| call(out).map(|length| (length, length)))?;
+    with_output(&[length as u64], output)
+}
+
+fn version_read(asked: &Asked) -> Flat {
+    let version = version_info::read(asked.input)?;
+    plain(&[MBIM.into(), version.bcd().into()])
+}
+
+fn version_write(asked: &Asked) -> Flat {
+    let (mbim, extension) = (asked.half(1), asked.half(2));
+    written(asked.number(0), |out| version_info::write(mbim, extension, out))
+}
+
+fn packet_read(asked: &Asked) -> Flat {
+    let version = asked.version(0)?;
+    let record = packet_service::read(version, asked.input)?;
+    let (highest, current, frequency_range) = match record.form {
+        Form::V1 { highest_available_data_class } => (highest_available_data_class, 0, 0),
+        Form::V2 { current_data_class, frequency_range } => {
+            (0, current_data_class, frequency_range)
+        }
+    };
+    plain(&[
+        version.bcd().into(),
+        record.nw_error.into(),
+        record.packet_service_state.into(),
+        highest.into(),
+        current.into(),
+        frequency_range.into(),
+        record.uplink_speed,
+        record.downlink_speed,
+    ])
+}
+
+fn packet_write(asked: &Asked) -> Flat {
+    let form = match asked.version(1)? {
+        Version::V1 => Form::V1 { highest_available_data_class: asked.word(4) },
+        Version::V2 => {
+            Form::V2 { current_data_class: asked.word(5), frequency_range: asked.word(6) }
+        }
+    };
+    let record = PacketService {
+        nw_error: asked.word(2),
+        packet_service_state: asked.word(3),
+        uplink_speed: asked.number(7),
+        downlink_speed: asked.number(8),
+        form,
+    };
+    written(asked.number(0), |out| packet_service::write(&record, out))
+}
+
+fn registration_read(asked: &Asked) -> Flat {
+    let version = asked.version(0)?;
+    let record = registration::read(version, asked.input)?;
+    let mut numbers = vec![
+        version.bcd().into(),
+        record.nw_error.into(),
+        record.register_state.into(),
+        record.register_mode.into(),
+        record.available_data_class.into(),
+        record.cellular_class.into(),
+        record.registration_flag.into(),
+        record.preferred_data_class.unwrap_or(0).into(),
+    ];
+    for text in [record.provider_id, record.provider_name, record.roaming_text] {
+        numbers.extend([u64::from(text.offset), u64::from(text.size)]);
+    }
+    plain(&numbers)
+}
+
+fn registration_write(asked: &Asked) -> Flat {
+    let version = asked.version(1)?;
+    let (provider_id, rest) = split(asked.input, asked.number(9));
+    let (provider_name, rest) = split(rest, asked.number(10));
+    let (roaming_text, _) = split(rest, asked.number(11));
+    let record = Registration {
+        nw_error: asked.word(2),
+        register_state: asked.word(3),
+        register_mode: asked.word(4),
+        available_data_class: asked.word(5),
+        cellular_class: asked.word(6),
+        provider_id,
+        provider_name,
+        roaming_text,
+        registration_flag: asked.word(7),
+        preferred_data_class: match version {
+            Version::V1 => None,
+            Version::V2 => Some(asked.word(8)),
+        },
+    };
+    written(asked.number(0), |out| registration::write(&record, out))
+}
+
+/// The first bytes, as many as there are of this size, and the rest.
+fn split(bytes: &[u8], size: u64) -> (&[u8], &[u8]) {
+    bytes.split_at(bytes.len().min(size as usize))
+}
+
+fn signal_read(asked: &Asked) -> Flat {
+    let version = asked.version(0)?;
+    let record = signal_state::read(version, asked.input)?;
+    let count = record.rsrp_snr.map_or(0, |entries| entries.count());
+    let mut numbers = vec![
+        version.bcd().into(),
+        record.rssi.into(),
+        record.error_rate.into(),
+        record.signal_strength_interval.into(),
+        record.rssi_threshold.into(),
+        record.error_rate_threshold.into(),
+        count as u64,
+    ];
+    for entry in record.rsrp_snr.iter().flat_map(|entries| entries.iter()) {
+        let thresholds = [entry.rsrp_threshold, entry.snr_threshold];
+        let [a, b] = thresholds.map(u64::from);
+        numbers.extend([entry.rsrp.into(), entry.snr.into(), a, b, entry.system_type.into()]);
+    }
+    plain(&numbers)
+}
+
+fn signal_write(asked: &Asked) -> Flat {
+    let entries = signal_entries(asked);
+    let rsrp_snr = match asked.version(1)? {
+        Version::V1 => None,
+        Version::V2 => Some(entries.as_slice()),
+    };
+    let record = SignalState {
+        rssi: asked.word(2),
+        error_rate: asked.word(3),
+        signal_strength_interval: asked.word(4),
+        rssi_threshold: asked.word(5),
+        error_rate_threshold: asked.word(6),
+        rsrp_snr,
+    };
+    written(asked.number(0), |out| signal_state::write(&record, out))
+}
+
+/// As many entries as the count says; one above the limit stands for all above it.
+fn signal_entries(asked: &Asked) -> Vec<RsrpSnr> {
+    let count = asked.number(7).min(signal_state::MAX_ENTRIES as u64 + 1) as usize;
+    let entry = |number: usize| RsrpSnr {
+        rsrp: asked.word(8 + 5 * number),
+        snr: asked.word(9 + 5 * number),
+        rsrp_threshold: asked.word(10 + 5 * number),
+        snr_threshold: asked.word(11 + 5 * number),
+        system_type: asked.word(12 + 5 * number),
+    };
+    (0..count).map(entry).collect()
+}
+
+fn services_read(asked: &Asked) -> Flat {
+    let services = device_services::read(asked.input)?;
+    plain(&[services.count() as u64, services.max_dss_sessions().into()])
+}
+
+fn element(asked: &Asked) -> Flat {
+    let number = asked.word(1);
+    let input = asked.input;
+    shown(asked.number(0), |list| device_services::element(input, number, list))
+}
+
+fn service_cids(asked: &Asked) -> Flat {
+    let (service, payload) = asked.service();
+    shown(asked.number(0), |list| device_services::first_of_service(payload, &service, list))
+}
+
+/// Lends a list of this room and answers the element with the CIDs put into it.
+fn shown(room: u64, call: impl FnOnce(&mut [u32]) -> Result<Option<Shown>, Refusal>) -> Flat {
+    let mut list = vec![FILL_WORD; room as usize];
+    let answer = call(&mut list);
+    let count = match &answer {
+        Ok(Some(shown)) => shown.cid_count,
+        _ => 0,
+    };
+    let untouched = &list[count..];
+    assert!(untouched.iter().all(|word| *word == FILL_WORD), "list touched");
+    let Some(shown) = answer? else {
+        return plain(&[0]);
+    };
+    let (a, b) = (shown.dss_payload.into(), shown.max_dss_instances.into());
+    let mut numbers = vec![1, a, b, count as u64];
+    numbers.extend(list[..count].iter().map(|cid| u64::from(*cid)));
+    with_output(&numbers, shown.device_service_id.to_vec())
+}
+
+fn listed(asked: &Asked) -> Flat {
+    let (service, payload) = asked.service();
+    let listed = device_services::listed(payload, &service, asked.word(0))?;
+    plain(&[listed.into()])
+}
+
+/// An element as the arguments give it.
+struct Given {
+    service: ServiceId,
+    dss_payload: u32,
+    max_dss_instances: u32,
+    cids: Vec<u32>,
+}
+
+impl Given {
+    fn element(&self) -> Element<'_> {
+        Element {
+            device_service_id: self.service,
+            dss_payload: self.dss_payload,
+            max_dss_instances: self.max_dss_instances,
+            cids: &self.cids,
+        }
+    }
+}
+
+fn services_write(asked: &Asked) -> Flat {
+    let given = given_elements(asked);
+    let elements: Vec<Element> = given.iter().map(Given::element).collect();
+    written(asked.number(0), |out| device_services::write(asked.word(2), &elements, out))
+}
+
+/// As many elements as the count says; one above the limit stands for all above it.
+fn given_elements(asked: &Asked) -> Vec<Given> {
+    let count = asked.number(1).min(device_services::MAX_ELEMENTS as u64 + 1) as usize;
+    let mut services = asked.input.chunks_exact(16);
+    let mut place = 3;
+    let mut elements = Vec::new();
+    for _ in 0..count {
+        let cid_count = asked.number(place + 2);
+        let service = services.next().and_then(|bytes| bytes.try_into().ok());
+        elements.push(Given {
+            service: service.unwrap_or([0; 16]),
+            dss_payload: asked.word(place),
+            max_dss_instances: asked.word(place + 1),
+            cids: given_cids(asked, place + 3, cid_count),
+        });
+        place += 3 + cid_count.min(device_services::MAX_CIDS as u64) as usize;
+    }
+    elements
+}
+
+/// As many CIDs as the count says; one above the limit stands for all above it.
+fn given_cids(asked: &Asked, from: usize, cid_count: u64) -> Vec<u32> {
+    let count = cid_count.min(device_services::MAX_CIDS as u64 + 1) as usize;
+    (from..from + count).map(|place| asked.word(place)).collect()
+}
+
+fn whole_message(asked: &Asked) -> Flat {
+    let whole = message::whole(asked.input)?;
+    plain(&[whole.message_type.into(), whole.transaction.into()])
+}
+
+fn feed(assembler: &mut Assembler, asked: &Asked) -> Flat {
+    let call = |out: &mut [u8]| match assembler.feed(asked.input, out) {
+        Fed::Refused(refusal) => Err(refusal),
+        Fed::Pending { dropped } => Ok(((None, dropped), 0)),
+        Fed::Complete { header, length, dropped } => Ok(((Some(header), dropped), length)),
+    };
+    let ((header, dropped), information) = lend(asked.number(0), call)?;
+    let Some(header) = header else {
+        return plain(&[0, dropped.into()]);
+    };
+    let numbers = [
+        1,
+        dropped.into(),
+        header.message_type.into(),
+        header.transaction.into(),
+        header.cid.into(),
+        header.word.into(),
+        information.len() as u64,
+    ];
+    with_output(&numbers, [&header.service[..], &information].concat())
+}
+
+fn show_assembly(assembler: &Assembler) -> Flat {
+    let bytes = &assembler.bytes()[..];
+    let Some(progress) = assembler.progress() else {
+        return with_output(&[0; 8], [&[0; 16], bytes].concat());
+    };
+    let header = progress.header;
+    let numbers = [
+        header.message_type.into(),
+        header.transaction.into(),
+        header.cid.into(),
+        header.word.into(),
+        progress.total.into(),
+        progress.next.into(),
+        progress.declared as u64,
+        progress.gathered as u64,
+    ];
+    with_output(&numbers, [&header.service[..], bytes].concat())
+}
+
+fn cut(asked: &Asked) -> Flat {
+    let (service, information) = asked.service();
+    let header = Header {
+        message_type: asked.word(2),
+        transaction: asked.word(3),
+        service,
+        cid: asked.word(4),
+        word: asked.word(5),
+    };
+    let size = asked.number(1) as usize;
+    let call = |out: &mut [u8]| cutter::cut(&header, size, information, out);
+    let (count, output) = lend(asked.number(0), call)?;
+    with_output(&[count.into(), output.len() as u64], output)
+}
+
+fn payload_kind(asked: &Asked) -> Flat {
+    let header = Header {
+        message_type: asked.word(0),
+        transaction: 0,
+        service: asked.service().0,
+        cid: asked.word(1),
+        word: asked.word(2),
+    };
+    plain(&[payload::shown(&header)?.map_or(0, kind_number)])
+}
+
+fn kind_number(kind: Kind) -> u64 {
+    match kind {
+        Kind::RegisterState => 1,
+        Kind::PacketService => 2,
+        Kind::SignalState => 3,
+        Kind::DeviceServices => 4,
+        Kind::Version => 5,
+    }
+}
+
+fn reading(reading: Reading) -> Flat {
+    let (case, value) = match reading {
+        Reading::Dbm(value) => (1, value),
+        Reading::Db(value) => (2, value),
+        Reading::BelowRange(value) => (3, value),
+        Reading::Unknown => return plain(&[4, 0]),
+    };
+    plain(&[case, (value * 2.0 + 1000.0) as u64])
+}
+
+fn bars(asked: &Asked) -> Flat {
+    match signal_quality::bars(asked.word(0))? {
+        Some(bars) => plain(&[1, bars.into()]),
+        None => plain(&[0, 0]),
+    }
+}
+
+fn make_host(host: &mut Option<Host>, asked: &Asked) -> Flat {
+    *host = Some(Host::make(asked.half(0))?);
+    plain(&[])
+}
+
+fn make_modem(modem: &mut Option<Modem>, asked: &Asked) -> Flat {
+    *modem = Some(Modem::make(asked.half(0), asked.half(1), asked.number(2) != 0)?);
+    plain(&[])
+}
+
+fn ask_host(host: &mut Host, question: u32, asked: &Asked) -> Flat {
+    match question {
+        question::HOST_OPEN => {
+            host.open(asked.half(0))?;
+            plain(&[1, 0])
+        }
+        question::HOST_CLOSE => {
+            host.close();
+            plain(&[])
+        }
+        question::HOST_NEXT => next_command(host, asked),
+        question::HOST_SERVICES_REPLY => reply(host.services_reply(asked.word(0), asked.input)),
+        question::HOST_VERSION_REPLY => reply(host.version_reply(asked.word(0), asked.input)),
+        question::SHOW_HOST => show_host(host),
+        _ => none(),
+    }
+}
+
+fn next_command(host: &Host, asked: &Asked) -> Flat {
+    let call = |out: &mut [u8]| {
+        let next = host.next_command(out)?;
+        let length = if next == NextCommand::Version { version_info::LENGTH } else { 0 };
+        Ok((next, length))
+    };
+    let (next, output) = lend(asked.number(0), call)?;
+    match next {
+        NextCommand::Nothing => plain(&[0, 0]),
+        NextCommand::Services => plain(&[1, 0]),
+        NextCommand::Version => with_output(&[2, output.len() as u64], output),
+        NextCommand::Free(version) => plain(&[3, version.bcd().into()]),
+    }
+}
+
+fn reply(answer: ReplyAnswer) -> Flat {
+    match answer {
+        ReplyAnswer::Unchanged => plain(&[0, 0]),
+        ReplyAnswer::AsksVersion => plain(&[2, 0]),
+        ReplyAnswer::Settled(version) => plain(&[3, version.bcd().into()]),
+        ReplyAnswer::Refused(refusal) => Err(refusal),
+    }
+}
+
+fn show_host(host: &Host) -> Flat {
+    let (stage, version) = match host.state() {
+        host::State::Closed => (0, 0),
+        host::State::Opened { advertised } => (1, advertised.bcd()),
+        host::State::Awaiting { advertised } => (2, advertised.bcd()),
+        host::State::Settled { version } => (3, version.bcd()),
+    };
+    plain(&[host.native().bcd().into(), stage, version.into()])
+}
+
+fn ask_modem(modem: &mut Modem, question: u32, asked: &Asked) -> Flat {
+    match question {
+        question::MODEM_OPEN => {
+            modem.open();
+            plain(&[])
+        }
+        question::MODEM_CLOSE => {
+            modem.close();
+            plain(&[])
+        }
+        question::MODEM_COMMAND => command(modem, asked),
+        question::SHOW_MODEM => show_modem(modem),
+        _ => none(),
+    }
+}
+
+fn command(modem: &mut Modem, asked: &Asked) -> Flat {
+    let (service, payload) = asked.service();
+    let (cid, command_type) = (asked.word(1), asked.word(2));
+    let call = |out: &mut [u8]| match modem.command(&service, cid, command_type, payload, out) {
+        CommandAnswer::Refused(refusal) => Err(refusal),
+        answer @ CommandAnswer::Version { .. } => Ok((answer, version_info::LENGTH)),
+        answer => Ok((answer, 0)),
+    };
+    let (answer, output) = lend(asked.number(0), call)?;
+    match answer {
+        CommandAnswer::Serve { kind: Ok(kind) } => plain(&[1, 0, kind_number(kind), 0, 0]),
+        CommandAnswer::Serve { kind: Err(refusal) } => plain(&[1, 0, 0, refusal.place as u64, 0]),
+        CommandAnswer::Failed { status } => plain(&[3, status.into(), 0, 0, 0]),
+        _ => with_output(&[2, 0, 0, 0, output.len() as u64], output),
+    }
+}
+
+fn show_modem(modem: &Modem) -> Flat {
+    let (stage, version) = match modem.state() {
+        modem::State::Start => (0, 0),
+        modem::State::Listed => (1, 0),
+        modem::State::Settled { version } => (2, version.bcd()),
+    };
+    plain(&[
+        modem.native().bcd().into(),
+        modem.advertised().bcd().into(),
+        modem.lists_version().into(),
+        stage,
+        version.into(),
+    ])
+}
+
+#[cfg(test)]
+mod tests {
+    use super::*;
+
+    fn numbers(asked: u32, arguments: &[u64], input: &[u8]) -> Vec<u64> {
+        Second::new().ask(asked, arguments, input).numbers
+    }
+
+    #[test]
+    fn versions_outside_the_table_come_first() {
+        for asked in [question::PACKET_READ, question::REGISTRATION_READ, question::SIGNAL_READ] {
+            assert_eq!(numbers(asked, &[0x0300], &[]), [12, 0]);
+        }
+        for asked in [question::PACKET_WRITE, question::REGISTRATION_WRITE, question::SIGNAL_WRITE]
+        {
+            assert_eq!(numbers(asked, &[0, 0, 9, 9, 9, 9, 9, 9, 9, 9], &[]), [12, 0]);
+        }
+    }
+
+    #[test]
+    fn counts_above_the_limits_need_no_more_arguments() {
+        let signal = [0, 0x0200, 99, 0, 0, 0, 0, u32::MAX.into()];
+        assert_eq!(numbers(question::SIGNAL_WRITE, &signal, &[]), [8, 20]);
+        assert_eq!(numbers(question::SERVICES_WRITE, &[0, 33, 0], &[]), [15, 0]);
+        let services = [0, 1, 0, 0, 0, u32::MAX.into()];
+        assert_eq!(numbers(question::SERVICES_WRITE, &services, &[0; 16]), [8, 8]);
+    }
+
+    #[test]
+    fn readings_are_twice_the_value_and_a_thousand() {
+        assert_eq!(numbers(question::RSRP, &[1], &[]), [0, 1, 688]);
+        assert_eq!(numbers(question::RSRP, &[0], &[]), [0, 3, 688]);
+        assert_eq!(numbers(question::SNR, &[2], &[]), [0, 2, 955]);
+        assert_eq!(numbers(question::SNR, &[128], &[]), [0, 4, 0]);
+        assert_eq!(numbers(question::BARS, &[99], &[]), [0, 0, 0]);
+    }
+
+    #[test]
+    fn an_empty_assembly_is_all_zero() {
+        let shown = Second::new().ask(question::SHOW_ASSEMBLY, &[], &[]);
+        assert_eq!(shown.numbers, [0; 9]);
+        assert_eq!(shown.output, [0; 4112]);
+    }
+
+    #[test]
+    fn a_refused_make_leaves_the_one_before() {
+        let mut second = Second::new();
+        assert!(second.ask(question::SHOW_HOST, &[], &[]).numbers.is_empty());
+        second.ask(question::MAKE_HOST, &[0x0200], &[]);
+        assert_eq!(second.ask(question::MAKE_HOST, &[0x0300], &[]).numbers, [12, 0]);
+        assert_eq!(second.ask(question::SHOW_HOST, &[], &[]).numbers, [0, 0x0200, 0, 0]);
+    }
+}

@@ -1,0 +1,271 @@
+//! The host's end of the handshake.
+
+use crate::device_services;
+use crate::payload::{CID_VERSION, EXTENSIONS};
+use crate::refusal::{Refusal, ABOVE_HOST, OUTPUT_TOO_SMALL, VERSION_NOT_LISTED};
+use crate::version::Version;
+use crate::version_info;
+
+/// A host and where its handshake stands.
+#[derive(Clone, Copy, Debug, PartialEq, Eq)]
+pub struct Host {
+    native: Version,
+    state: State,
+}
+
+#[derive(Clone, Copy, Debug, PartialEq, Eq)]
+pub enum State {
+    Closed,
+    /// Opened; the list of services is still to come.
+    Opened {
+        advertised: Version,
+    },
+    /// The list named VERSION; its reply is still to come.
+    Awaiting {
+        advertised: Version,
+    },
+    Settled {
+        version: Version,
+    },
+}
+
+/// The command that the host may send next.
+#[derive(Clone, Copy, Debug, PartialEq, Eq)]
+pub enum NextCommand {
+    /// None: closed.
+    Nothing,
+    /// DEVICE_SERVICES.
+    Services,
+    /// VERSION; its 4 bytes stand at the start of the output.
+    Version,
+    /// Any; the host is settled at this version.
+    Free(Version),
+}
+
+/// What a reply brought.
+#[derive(Clone, Copy, Debug, PartialEq, Eq)]
+pub enum ReplyAnswer {
+    Unchanged,
+    AsksVersion,
+    Settled(Version),
+    /// Refused; the host is as before.
+    Refused(Refusal),
+}
+
+impl Host {
+    /// A closed host of this native version.
+    pub fn make(native: u16) -> Result<Host, Refusal> {
+        let native = Version::from_bcd(native)?;
+        Ok(Host { native, state: State::Closed })
+    }
+
+    pub fn native(&self) -> Version {
+        self.native
+    }
+
+    pub fn state(&self) -> State {
+        self.state
+    }
+
+    /// The version that the host settled at.
+    pub fn version(&self) -> Option<Version> {
+        match self.state {
+            State::Settled { version } => Some(version),
+            _ => None,
+        }
+    }
+
+    /// Back to the start, with what the modem advertises. A refusal leaves the host as it was.
+    pub fn open(&mut self, advertised: u16) -> Result<(), Refusal> {
+        let advertised = Version::from_bcd(advertised)?;
+        self.state = State::Opened { advertised };
+        Ok(())
+    }
+
+    pub fn close(&mut self) {
+        self.state = State::Closed;
+    }
+
+    /// The next command. The output is written for VERSION only.
+    pub fn next_command(&self, out: &mut [u8]) -> Result<NextCommand, Refusal> {
+        match self.state {
+            State::Closed => Ok(NextCommand::Nothing),
+            State::Opened { .. } => Ok(NextCommand::Services),
+            State::Settled { version } => Ok(NextCommand::Free(version)),
+            State::Awaiting { .. } => {
+                let room = out.first_chunk_mut::<{ version_info::LENGTH }>();
+                let small = Refusal::new(OUTPUT_TOO_SMALL, version_info::LENGTH);
+                *room.ok_or(small)? = version_info::bytes(self.native);
+                Ok(NextCommand::Version)
+            }
+        }
+    }
+
+    /// A reply to DEVICE_SERVICES. Its payload is read in every state, if the status is 0.
+    pub fn services_reply(&mut self, status: u32, payload: &[u8]) -> ReplyAnswer {
+        if status != 0 {
+            return ReplyAnswer::Unchanged;
+        }
+        match device_services::listed(payload, &EXTENSIONS, CID_VERSION) {
+            Err(refusal) => ReplyAnswer::Refused(refusal),
+            Ok(listed) => match self.state {
+                State::Opened { advertised } => self.take_list(advertised, listed),
+                _ => ReplyAnswer::Unchanged,
+            },
+        }
+    }
+
+    /// A reply to VERSION. Its payload is read in every state, if the status is 0.
+    pub fn version_reply(&mut self, status: u32, payload: &[u8]) -> ReplyAnswer {
+        let answered = match status {
+            0 => version_info::read(payload).map(Some),
+            _ => Ok(None),
+        };
+        match (answered, self.state) {
+            (Err(refusal), _) => ReplyAnswer::Refused(refusal),
+            (Ok(Some(answered)), State::Awaiting { advertised }) => {
+                self.settle(advertised.max(answered))
+            }
+            (Ok(None), State::Awaiting { advertised }) => self.settle(advertised),
+            _ => ReplyAnswer::Unchanged,
+        }
+    }
+
+    /// An accepted list at a host just opened: 13, 14, then VERSION or 1.00.
+    fn take_list(&mut self, advertised: Version, listed: bool) -> ReplyAnswer {
+        if advertised > self.native {
+            ReplyAnswer::Refused(Refusal::new(ABOVE_HOST, 0))
+        } else if advertised == Version::V2 && !listed {
+            ReplyAnswer::Refused(Refusal::new(VERSION_NOT_LISTED, 0))
+        } else if self.native == Version::V2 && listed {
+            self.state = State::Awaiting { advertised };
+            ReplyAnswer::AsksVersion
+        } else {
+            self.settle(Version::V1)
+        }
+    }
+
+    fn settle(&mut self, version: Version) -> ReplyAnswer {
+        self.state = State::Settled { version };
+        ReplyAnswer::Settled(version)
+    }
+}
+
+#[cfg(test)]
+mod tests {
+    use super::*;
+    use crate::device_services::Element;
+
+    const ANSWER_V1: [u8; 4] = [0, 1, 0, 1];
+    const ANSWER_V2: [u8; 4] = [0, 1, 0, 2];
+
+    fn list(cids: &[u32]) -> Vec<u8> {
+        let mut out = [0; 100];
+        let element =
+            Element { device_service_id: EXTENSIONS, dss_payload: 0, max_dss_instances: 0, cids };
+        let length = device_services::write(0, &[element], &mut out).unwrap();
+        out[..length].to_vec()
+    }
+
+    fn opened(native: u16, advertised: u16) -> Host {
+        let mut host = Host::make(native).unwrap();
+        host.open(advertised).unwrap();
+        host
+    }
+
+    fn awaiting(advertised: u16) -> Host {
+        let mut host = opened(0x0200, advertised);
+        assert_eq!(host.services_reply(0, &list(&[15])), ReplyAnswer::AsksVersion);
+        host
+    }
+
+    #[test]
+    fn numbers_outside_the_table() {
+        assert_eq!(Host::make(0x0300), Err(Refusal::new(12, 0)));
+        let mut host = awaiting(0x0100);
+        let before = host;
+        assert_eq!(host.open(0), Err(Refusal::new(12, 0)));
+        assert_eq!(host, before);
+    }
+
+    #[test]
+    fn commands_by_state() {
+        let mut out = [9; 5];
+        let mut host = Host::make(0x0200).unwrap();
+        assert_eq!(host.next_command(&mut out), Ok(NextCommand::Nothing));
+        host.open(0x0100).unwrap();
+        assert_eq!(host.next_command(&mut out), Ok(NextCommand::Services));
+        assert_eq!(out, [9; 5]);
+        host.services_reply(0, &list(&[15]));
+        assert_eq!(host.next_command(&mut out[..3]), Err(Refusal::new(11, 4)));
+        assert_eq!(out, [9; 5]);
+        assert_eq!(host.next_command(&mut out), Ok(NextCommand::Version));
+        assert_eq!(out, [0, 1, 0, 2, 9]);
+        host.version_reply(0, &ANSWER_V2);
+        assert_eq!(host.next_command(&mut []), Ok(NextCommand::Free(Version::V2)));
+        host.close();
+        assert_eq!(host.next_command(&mut []), Ok(NextCommand::Nothing));
+    }
+
+    #[test]
+    fn thirteen_before_fourteen_and_a_later_list_counts() {
+        let refused = |number| ReplyAnswer::Refused(Refusal::new(number, 0));
+        assert_eq!(opened(0x0100, 0x0200).services_reply(0, &list(&[])), refused(13));
+        let mut host = opened(0x0200, 0x0200);
+        assert_eq!(host.services_reply(0, &list(&[14])), refused(14));
+        assert_eq!(host, opened(0x0200, 0x0200));
+        assert_eq!(host.services_reply(0, &list(&[15])), ReplyAnswer::AsksVersion);
+    }
+
+    #[test]
+    fn the_larger_of_advertised_and_answered() {
+        let settled = ReplyAnswer::Settled;
+        assert_eq!(awaiting(0x0100).version_reply(0, &ANSWER_V1), settled(Version::V1));
+        assert_eq!(awaiting(0x0100).version_reply(0, &ANSWER_V2), settled(Version::V2));
+        assert_eq!(awaiting(0x0200).version_reply(0, &ANSWER_V1), settled(Version::V2));
+        assert_eq!(awaiting(0x0200).version_reply(9, &[]), settled(Version::V2));
+        assert_eq!(awaiting(0x0100).version_reply(2, &ANSWER_V2), settled(Version::V1));
+    }
+
+    #[test]
+    fn refused_replies_change_nothing() {
+        let mut host = awaiting(0x0100);
+        let before = host;
+        assert_eq!(host.version_reply(0, &[0]), ReplyAnswer::Refused(Refusal::new(1, 1)));
+        assert_eq!(host.services_reply(0, &[]), ReplyAnswer::Refused(Refusal::new(1, 0)));
+        assert_eq!(host, before);
+    }
+
+    #[test]
+    fn replies_that_nobody_awaits_change_nothing() {
+        let closed = Host::make(0x0200).unwrap();
+        let mut settled = awaiting(0x0100);
+        settled.version_reply(0, &ANSWER_V1);
+        for before in [closed, opened(0x0200, 0x0100), settled] {
+            let mut host = before;
+            assert_eq!(host.version_reply(0, &ANSWER_V2), ReplyAnswer::Unchanged);
+            assert_eq!(host.version_reply(9, &ANSWER_V2), ReplyAnswer::Unchanged);
+            assert_eq!(host.services_reply(9, &[]), ReplyAnswer::Unchanged);
+            let refusal = Refusal::new(2, 5);
+            assert_eq!(host.version_reply(0, &[0; 5]), ReplyAnswer::Refused(refusal));
+            assert_eq!(host, before);
+        }
+        for before in [closed, awaiting(0x0100), settled] {
+            let mut host = before;
+            assert_eq!(host.services_reply(0, &list(&[])), ReplyAnswer::Unchanged);
+            assert_eq!(host, before);
+        }
+    }
+
+    #[test]
+    fn without_version_both_run_1_00() {
+        let mut host = opened(0x0200, 0x0100);
+        let answer = host.services_reply(0, &list(&[]));
+        assert_eq!(answer, ReplyAnswer::Settled(Version::V1));
+        let mut host = opened(0x0100, 0x0100);
+        let answer = host.services_reply(0, &list(&[15]));
+        assert_eq!(answer, ReplyAnswer::Settled(Version::V1));
+        host.open(0x0100).unwrap();
+        assert_eq!(host, opened(0x0100, 0x0100));
+    }
+}

@@ -1,0 +1,28 @@
+//! A second, independent implementation of the MBIM scope: payload readers
+//! and writers, fragments, the version handshake and signal readings.
+//! It answers every input without a panic, and only `flat` allocates.
+
+mod bytes;
+mod pair;
+
+pub mod assembler;
+pub mod cutter;
+pub mod data_class;
+pub mod device_services;
+pub mod flat;
+pub mod handshake;
+pub mod message;
+pub mod packet_service;
+pub mod payload;
+pub mod refusal;
+pub mod registration;
+pub mod signal_quality;
+pub mod signal_state;
+pub mod version;
+pub mod version_info;
+
+/// The most information bytes a message may carry, and so the most a payload may have.
+pub const MAX_INFORMATION: usize = 4096;
+
+/// A service id: 16 bytes in printed order.
+pub type ServiceId = [u8; 16];

@@ -1,0 +1,105 @@
+//! A pair: offset and size of a range that a payload's field names.
+//! The rules of a pair stand here once for texts and lists of every payload.
+
+use crate::bytes::word;
+use crate::refusal::{require, Refusal, BEYOND_PAYLOAD, OFFSET_WRONG, SIZE_WRONG};
+
+/// A range of the payload, measured from the payload's start.
+#[derive(Clone, Copy, Debug, Default, PartialEq, Eq)]
+pub struct Range {
+    pub offset: u32,
+    pub size: u32,
+}
+
+impl Range {
+    /// The pair that stands at this field.
+    #[inline(always)]
+    pub fn at(payload: &[u8], field: usize) -> Range {
+        Range { offset: word(payload, field), size: word(payload, field + 4) }
+    }
+
+    /// The bytes of the range; empty when it lies outside.
+    #[inline]
+    pub fn of<'a>(&self, payload: &'a [u8]) -> &'a [u8] {
+        let rest = payload.get(self.offset as usize..).unwrap_or_default();
+        rest.get(..self.size as usize).unwrap_or_default()
+    }
+}
+
+/// What a pair is judged by: the payload's fixed part and whole length.
+#[derive(Clone, Copy)]
+pub struct Bounds {
+    pub fixed: usize,
+    pub length: usize,
+}
+
+/// A text: limit and odd size, then the offset's rules.
+#[inline(always)]
+pub fn judge_text(pair: Range, field: usize, limit: u32, bounds: Bounds) -> Result<(), Refusal> {
+    require(pair.size <= limit && pair.size.is_multiple_of(2), SIZE_WRONG, field)?;
+    judge_offset(pair, field, bounds)
+}
+
+/// A list: limit, then the offset's rules. The list itself is judged after it.
+#[inline(always)]
+pub fn judge_list(pair: Range, field: usize, limit: u32, bounds: Bounds) -> Result<(), Refusal> {
+    require(pair.size <= limit, SIZE_WRONG, field)?;
+    judge_offset(pair, field, bounds)
+}
+
+#[inline(always)]
+fn judge_offset(pair: Range, field: usize, bounds: Bounds) -> Result<(), Refusal> {
+    if pair.size == 0 {
+        return require(pair.offset == 0, OFFSET_WRONG, field);
+    }
+    let offset = u64::from(pair.offset);
+    let stands_well = offset >= bounds.fixed as u64 && offset.is_multiple_of(4);
+    require(stands_well, OFFSET_WRONG, field)?;
+    let end = offset + u64::from(pair.size);
+    require(end <= bounds.length as u64, BEYOND_PAYLOAD, field)
+}
+
+#[cfg(test)]
+mod tests {
+    use super::*;
+
+    const BOUNDS: Bounds = Bounds { fixed: 52, length: 64 };
+
+    fn text(offset: u32, size: u32) -> Result<(), Refusal> {
+        judge_text(Range { offset, size }, 20, 12, BOUNDS)
+    }
+
+    #[test]
+    fn offset_and_size_are_whole_numbers() {
+        assert_eq!(text(0xFFFF_FFFC, 8), Err(Refusal::new(7, 20)));
+    }
+
+    #[test]
+    fn size_zero_wants_offset_zero() {
+        assert_eq!(text(52, 0), Err(Refusal::new(6, 20)));
+        assert_eq!(text(0, 0), Ok(()));
+    }
+
+    #[test]
+    fn size_comes_before_offset_and_offset_before_end() {
+        assert_eq!(text(1, 13), Err(Refusal::new(8, 20)));
+        assert_eq!(text(52, 14), Err(Refusal::new(8, 20)));
+        assert_eq!(text(48, 10), Err(Refusal::new(6, 20)));
+        assert_eq!(text(0xFFFF_FFFF, 10), Err(Refusal::new(6, 20)));
+        assert_eq!(text(56, 10), Err(Refusal::new(7, 20)));
+        assert_eq!(text(52, 12), Ok(()));
+    }
+
+    #[test]
+    fn odd_is_for_texts_only() {
+        let odd = Range { offset: 52, size: 11 };
+        assert_eq!(judge_list(odd, 20, 12, BOUNDS), Ok(()));
+        assert_eq!(text(52, 11), Err(Refusal::new(8, 20)));
+    }
+
+    #[test]
+    fn a_range_outside_shows_no_bytes() {
+        assert_eq!(Range { offset: 2, size: 2 }.of(&[1, 2, 3, 4]), &[3, 4]);
+        assert!(Range { offset: 3, size: 2 }.of(&[1, 2, 3, 4]).is_empty());
+    }
+}

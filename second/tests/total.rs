@@ -1,0 +1,93 @@
+//! No question panics, whatever its arguments and input are, and no answer
+//! touches output that it must leave alone (the questions check that themselves).
+
+use second::flat::{question, Second};
+
+struct Random(u64);
+
+impl Random {
+    fn next(&mut self) -> u64 {
+        self.0 ^= self.0 << 13;
+        self.0 ^= self.0 >> 7;
+        self.0 ^= self.0 << 17;
+        self.0
+    }
+
+    fn below(&mut self, limit: u64) -> u64 {
+        self.next() % limit
+    }
+
+    /// A number that is often small or at the end of its range.
+    fn number(&mut self) -> u64 {
+        match self.below(6) {
+            0 => self.below(5),
+            1 => self.below(200),
+            2 => u64::from(u32::MAX) - self.below(40),
+            3 => [0x0100, 0x0200, 0x20, 0x40, 4096, 4097][self.below(6) as usize],
+            4 => self.next(),
+            _ => u64::MAX - self.below(3),
+        }
+    }
+
+    /// Words that are often small, as bytes, of any length.
+    fn input(&mut self) -> Vec<u8> {
+        let length = [0, 4, 12, 20, 28, 32, 44, 48, 52, 64, 140, 600, 4096, 4100];
+        let length = length[self.below(14) as usize] + self.below(3) as usize;
+        let mut input = Vec::new();
+        while input.len() < length {
+            input.extend((self.number() as u32).to_le_bytes());
+        }
+        input.truncate(length);
+        if length >= 8 && self.below(2) == 0 {
+            input[4..8].copy_from_slice(&(length as u32).to_le_bytes());
+        }
+        input
+    }
+}
+
+#[test]
+fn any_question_is_answered() {
+    let mut random = Random(0x1234_5678_9ABC_DEF1);
+    let mut second = Second::new();
+    second.ask(question::MAKE_HOST, &[0x0200], &[]);
+    second.ask(question::MAKE_MODEM, &[0x0200, 0x0100, 1], &[]);
+    for _ in 0..60_000 {
+        let asked = random.below(37) as u32;
+        let count = random.below(30);
+        let mut arguments: Vec<u64> = (0..count).map(|_| random.number()).collect();
+        if let Some(room) = arguments.first_mut() {
+            let is_room = !matches!(asked, 3 | 5 | 7 | 12 | 19..=22 | 25..=27 | 33..=35);
+            *room = if is_room { *room % 8000 } else { *room };
+        }
+        let input = random.input();
+        let answer = second.ask(asked, &arguments, &input);
+        let refused = answer.numbers.first().is_some_and(|number| *number != 0);
+        assert!(!refused || (answer.numbers.len() == 2 && answer.output.is_empty()));
+    }
+}
+
+/// Good messages with a few bytes changed, fed in any order.
+#[test]
+fn damaged_streams_are_answered() {
+    let mut random = Random(0xFEDC_BA98_7654_3211);
+    let mut second = Second::new();
+    let arguments = [9000, 64, 3, 7, 11, 1];
+    let input: Vec<u8> = (0..=200).collect();
+    let cut = second.ask(question::CUT, &arguments, &input).output;
+    let pieces: Vec<&[u8]> = cut.chunks(64).collect();
+    let mut next = 0;
+    for _ in 0..20_000 {
+        let mut piece = pieces[next % pieces.len()].to_vec();
+        next += 1 + (random.below(20) == 0) as usize;
+        if random.below(15) == 0 {
+            let place = random.below(piece.len() as u64) as usize;
+            piece[place] ^= 1 << random.below(8);
+        }
+        let answer = second.ask(question::FEED, &[random.below(300)], &piece);
+        let shown = second.ask(question::SHOW_ASSEMBLY, &[], &[]);
+        let gathered = shown.numbers[8] as usize;
+        assert!(shown.output[16 + gathered..].iter().all(|byte| *byte == 0));
+        let empty = answer.numbers[0] != 0 || answer.numbers[1] == 1;
+        assert!(!empty || shown.numbers == [0; 9] && shown.output == [0; 4112]);
+    }
+}
