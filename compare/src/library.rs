@@ -1,0 +1,613 @@
+//! The questions of second/INTERFACE.md, answered by the static library. Outputs are filled first,
+//! and what must stay untouched is looked at; so is every member beside a refusal.
+
+use crate::lent::{Lent, FILL};
+use culvertroost::c::{self, *};
+use second::flat::{question as q, Answer};
+
+/// The memory that is lent for the assembly, the host and the modem.
+pub struct Library {
+    assembly: [u8; ASSEMBLY_SIZE],
+    host: Option<[u8; HOST_SIZE]>,
+    modem: Option<[u8; MODEM_SIZE]>,
+}
+
+/// Why there is no answer: a refusal, or something that the header rules out.
+pub enum Stop {
+    Refused(Refusal),
+    Wrong(&'static str),
+}
+
+type Flat = Result<Answer, Stop>;
+
+impl Library {
+    pub fn new() -> Library {
+        Library { assembly: [0; ASSEMBLY_SIZE], host: None, modem: None }
+    }
+
+    /// The answer, or what the library did that it must not.
+    pub fn ask(&mut self, question: u32, arguments: &[u64], input: &[u8]) -> Result<Answer, &str> {
+        let asked = Asked { arguments, input };
+        let answer = match question {
+            q::FEED => feed(&mut self.assembly, &asked),
+            q::EMPTY_ASSEMBLY => empty(&mut self.assembly),
+            q::SHOW_ASSEMBLY => show_assembly(&self.assembly),
+            q::MAKE_HOST => make_host(&mut self.host, &asked),
+            q::MAKE_MODEM => make_modem(&mut self.modem, &asked),
+            q::HOST_OPEN..=q::HOST_VERSION_REPLY | q::SHOW_HOST => match &mut self.host {
+                Some(host) => ask_host(host, question, &asked),
+                None => none(),
+            },
+            q::MODEM_OPEN..=q::MODEM_COMMAND | q::SHOW_MODEM => match &mut self.modem {
+                Some(modem) => ask_modem(modem, question, &asked),
+                None => none(),
+            },
+            _ => ask_stateless(question, &asked),
+        };
+        match answer {
+            Ok(answer) => Ok(answer),
+            Err(Stop::Refused(refusal)) => Ok(refused(refusal)),
+            Err(Stop::Wrong(what)) => Err(what),
+        }
+    }
+}
+
+fn ask_stateless(question: u32, asked: &Asked) -> Flat {
+    match question {
+        q::VERSION_READ => version_read(asked),
+        q::VERSION_WRITE => version_write(asked),
+        q::PACKET_READ => packet_read(asked),
+        q::PACKET_WRITE => packet_write(asked),
+        q::REGISTRATION_READ => registration_read(asked),
+        q::REGISTRATION_WRITE => registration_write(asked),
+        q::SIGNAL_READ => signal_read(asked),
+        q::SIGNAL_WRITE => signal_write(asked),
+        q::SERVICES_READ => services_read(asked),
+        q::ELEMENT => element(asked),
+        q::SERVICE_CIDS => service_cids(asked),
+        q::LISTED => listed(asked),
+        q::SERVICES_WRITE => services_write(asked),
+        q::WHOLE_MESSAGE => whole_message(asked),
+        q::CUT => cut(asked),
+        q::NEXT_TRANSACTION => plain(&[c::transaction_next(asked.word(0)).into()]),
+        q::PAYLOAD_KIND => payload_kind(asked),
+        q::RSRP => reading(c::rsrp(asked.word(0))),
+        q::SNR => reading(c::snr(asked.word(0))),
+        q::BARS => bars(asked),
+        _ => none(),
+    }
+}
+
+/// Arguments and input of a question. Numbers that are not there are 0.
+struct Asked<'a> {
+    arguments: &'a [u64],
+    input: &'a [u8],
+}
+
+impl<'a> Asked<'a> {
+    fn number(&self, place: usize) -> u64 {
+        self.arguments.get(place).copied().unwrap_or(0)
+    }
+
+    fn word(&self, place: usize) -> u32 {
+        self.number(place) as u32
+    }
+
+    fn half(&self, place: usize) -> u16 {
+        self.number(place) as u16
+    }
+
+    /// The service at the front of the input, and what comes after it.
+    fn service(&self) -> (ServiceId, &'a [u8]) {
+        let (service, rest) = self.input.split_at(self.input.len().min(16));
+        (c::service_id(service), rest)
+    }
+}
+
+fn refused(refusal: Refusal) -> Answer {
+    let numbers = vec![refusal.number.into(), refusal.place as u64];
+    Answer { numbers, output: Vec::new() }
+}
+
+fn none() -> Flat {
+    Ok(Answer::default())
+}
+
+fn plain(numbers: &[u64]) -> Flat {
+    with_output(numbers, Vec::new())
+}
+
+fn with_output(numbers: &[u64], output: Vec<u8>) -> Flat {
+    let numbers = [&[0], numbers].concat();
+    Ok(Answer { numbers, output })
+}
+
+fn words(numbers: &[u32]) -> Vec<u64> {
+    numbers.iter().map(|number| u64::from(*number)).collect()
+}
+
+fn service_bytes(service: ServiceId) -> Vec<u8> {
+    let ServiceId { word0, word1, word2, word3 } = service;
+    [word0, word1, word2, word3].iter().flat_map(|word| word.to_le_bytes()).collect()
+}
+
+// ---- refusals and lent outputs
+
+/// An answer with a refusal in it.
+pub trait Refusable: Copy + PartialEq {
+    fn refusal(&self) -> Refusal;
+    /// The answer that holds this refusal and nothing else.
+    fn refused(refusal: Refusal) -> Self;
+}
+
+macro_rules! refusable {
+    ($($answer:ident),*) => {
+        $(impl Refusable for $answer {
+            fn refusal(&self) -> Refusal {
+                self.refusal
+            }
+
+            fn refused(refusal: Refusal) -> Self {
+                $answer { refusal, ..$answer::default() }
+            }
+        })*
+    };
+}
+
+refusable!(WrittenAnswer, VersionInfoAnswer, PacketServiceAnswer, RegistrationAnswer);
+refusable!(SignalStateAnswer, ReadingAnswer, BarsAnswer, DeviceServicesAnswer, ElementAnswer);
+refusable!(ListedAnswer, WholeAnswer, CutAnswer, KindAnswer, FeedAnswer);
+refusable!(HostAnswer, AskAnswer, ModemAnswer);
+
+impl Refusable for Refusal {
+    fn refusal(&self) -> Refusal {
+        *self
+    }
+
+    fn refused(refusal: Refusal) -> Refusal {
+        refusal
+    }
+}
+
+const LAST_NUMBER: u32 = 16;
+
+/// The answer, if it is none of a refusal.
+pub fn accepted<T: Refusable>(answer: T) -> Result<T, Stop> {
+    let refusal = answer.refusal();
+    match refusal {
+        Refusal { number: 0, place: 0 } => Ok(answer),
+        Refusal { number: 0, .. } => Err(Stop::Wrong("a place without a refusal")),
+        _ if refusal.number > LAST_NUMBER => Err(Stop::Wrong("no number of a refusal")),
+        _ if answer != T::refused(refusal) => Err(Stop::Wrong("members beside a refusal")),
+        _ => Err(Stop::Refused(refusal)),
+    }
+}
+
+/// Lends an output of this room and gives what was written at its front.
+fn lend<T: Refusable>(
+    room: u64,
+    call: impl FnOnce(&mut [u8]) -> T,
+    length: impl FnOnce(&T) -> usize,
+) -> Result<(T, Vec<u8>), Stop> {
+    let mut out = Lent::filled(room as usize);
+    let answer = call(out.memory());
+    let written = length(&answer);
+    if !out.holds_past(written) {
+        return Err(Stop::Wrong("output touched"));
+    }
+    Ok((accepted(answer)?, out.bytes()[..written].to_vec()))
+}
+
+/// A writer's answer: its length and its bytes.
+fn written(room: u64, call: impl FnOnce(&mut [u8]) -> WrittenAnswer) -> Flat {
+    let (answer, output) = lend(room, call, |answer| answer.length)?;
+    with_output(&[answer.length as u64], output)
+}
+
+/// Calls with a copy of the memory between guards; a refused call must leave it as it was.
+fn keep<T: Refusable, const N: usize>(
+    memory: &mut [u8; N],
+    call: impl FnOnce(&mut [u8]) -> T,
+) -> Result<T, Stop> {
+    let mut lent = Lent::holding(memory);
+    let answer = call(lent.memory());
+    if !lent.guards_hold() {
+        return Err(Stop::Wrong("bytes beside the memory touched"));
+    }
+    if answer.refusal().number != 0 && lent.bytes() != memory {
+        return Err(Stop::Wrong("memory touched by a refused call"));
+    }
+    memory.copy_from_slice(lent.bytes());
+    Ok(answer)
+}
+
+// ---- payloads
+
+fn version_read(asked: &Asked) -> Flat {
+    let info = accepted(c::version_info_read(asked.input))?.info;
+    plain(&[info.bcd_mbim_version.into(), info.bcd_mbim_extended_version.into()])
+}
+
+fn version_write(asked: &Asked) -> Flat {
+    let info =
+        VersionInfo { bcd_mbim_version: asked.half(1), bcd_mbim_extended_version: asked.half(2) };
+    written(asked.number(0), |out| c::version_info_write(info, out))
+}
+
+fn packet_read(asked: &Asked) -> Flat {
+    let info = accepted(c::packet_service_read(asked.half(0), asked.input))?.info;
+    plain(&[
+        info.version.into(),
+        info.nw_error.into(),
+        info.packet_service_state.into(),
+        info.highest_available_data_class.into(),
+        info.current_data_class.into(),
+        info.frequency_range.into(),
+        info.uplink_speed,
+        info.downlink_speed,
+    ])
+}
+
+fn packet_write(asked: &Asked) -> Flat {
+    let info = PacketService {
+        version: asked.half(1),
+        nw_error: asked.word(2),
+        packet_service_state: asked.word(3),
+        highest_available_data_class: asked.word(4),
+        current_data_class: asked.word(5),
+        frequency_range: asked.word(6),
+        uplink_speed: asked.number(7),
+        downlink_speed: asked.number(8),
+    };
+    written(asked.number(0), |out| c::packet_service_write(info, out))
+}
+
+fn registration_read(asked: &Asked) -> Flat {
+    let RegistrationAnswer { info, texts, .. } =
+        accepted(c::registration_read(asked.half(0), asked.input))?;
+    let mut numbers = words(&[
+        info.version.into(),
+        info.nw_error,
+        info.register_state,
+        info.register_mode,
+        info.available_data_class,
+        info.cellular_class,
+        info.registration_flag,
+        info.preferred_data_class,
+    ]);
+    for text in [texts.provider_id, texts.provider_name, texts.roaming_text] {
+        numbers.extend(words(&[text.start, text.length]));
+    }
+    plain(&numbers)
+}
+
+fn registration_write(asked: &Asked) -> Flat {
+    let info = Registration {
+        version: asked.half(1),
+        nw_error: asked.word(2),
+        register_state: asked.word(3),
+        register_mode: asked.word(4),
+        available_data_class: asked.word(5),
+        cellular_class: asked.word(6),
+        registration_flag: asked.word(7),
+        preferred_data_class: asked.word(8),
+    };
+    let (id, rest) = split(asked.input, asked.number(9));
+    let (name, rest) = split(rest, asked.number(10));
+    let (roaming, _) = split(rest, asked.number(11));
+    written(asked.number(0), |out| c::registration_write(info, id, name, roaming, out))
+}
+
+/// The first bytes, as many as there are of this size, and the rest.
+fn split(bytes: &[u8], size: u64) -> (&[u8], &[u8]) {
+    bytes.split_at(bytes.len().min(size as usize))
+}
+
+fn signal_read(asked: &Asked) -> Flat {
+    let info = accepted(c::signal_state_read(asked.half(0), asked.input))?.info;
+    let (entries, rest) = info.entries.split_at(info.entries.len().min(info.count as usize));
+    if rest.iter().any(|entry| *entry != RsrpSnr::default()) {
+        return Err(Stop::Wrong("entries past the count"));
+    }
+    let mut numbers = words(&[
+        info.version.into(),
+        info.rssi,
+        info.error_rate,
+        info.signal_strength_interval,
+        info.rssi_threshold,
+        info.error_rate_threshold,
+        info.count,
+    ]);
+    for entry in entries {
+        let RsrpSnr { rsrp, snr, rsrp_threshold, snr_threshold, system_type } = *entry;
+        numbers.extend(words(&[rsrp, snr, rsrp_threshold, snr_threshold, system_type]));
+    }
+    plain(&numbers)
+}
+
+fn signal_write(asked: &Asked) -> Flat {
+    let mut info = SignalState {
+        version: asked.half(1),
+        rssi: asked.word(2),
+        error_rate: asked.word(3),
+        signal_strength_interval: asked.word(4),
+        rssi_threshold: asked.word(5),
+        error_rate_threshold: asked.word(6),
+        count: asked.word(7),
+        ..SignalState::default()
+    };
+    for (number, entry) in info.entries.iter_mut().enumerate() {
+        let at = 8 + 5 * number;
+        *entry = RsrpSnr {
+            rsrp: asked.word(at),
+            snr: asked.word(at + 1),
+            rsrp_threshold: asked.word(at + 2),
+            snr_threshold: asked.word(at + 3),
+            system_type: asked.word(at + 4),
+        };
+    }
+    written(asked.number(0), |out| c::signal_state_write(info, out))
+}
+
+fn reading(answer: ReadingAnswer) -> Flat {
+    let ReadingAnswer { kind, value, .. } = accepted(answer)?;
+    let unknown = kind == 4;
+    if unknown && value != 0.0 {
+        return Err(Stop::Wrong("a value of an unknown reading"));
+    }
+    plain(&[kind.into(), if unknown { 0 } else { (value * 2.0 + 1000.0) as u64 }])
+}
+
+fn bars(asked: &Asked) -> Flat {
+    let BarsAnswer { reading, bars, .. } = accepted(c::bars(asked.word(0)))?;
+    plain(&words(&[reading, bars]))
+}
+
+// ---- device services
+
+fn services_read(asked: &Asked) -> Flat {
+    let info = accepted(c::device_services_read(asked.input))?.info;
+    plain(&words(&[info.device_services_count, info.max_dss_sessions]))
+}
+
+fn element(asked: &Asked) -> Flat {
+    let (number, payload) = (asked.word(1), asked.input);
+    shown(asked.number(0), |list| c::device_services_element(payload, number, list))
+}
+
+fn service_cids(asked: &Asked) -> Flat {
+    let (service, payload) = asked.service();
+    shown(asked.number(0), |list| c::device_services_cids(payload, service, list))
+}
+
+const FILL_WORD: u32 = u32::from_ne_bytes([FILL; 4]);
+const GUARD_WORDS: usize = 8;
+
+/// Lends a list of this room between guards and answers the element with the CIDs put into it.
+fn shown(room: u64, call: impl FnOnce(&mut [u32]) -> ElementAnswer) -> Flat {
+    let end = GUARD_WORDS + room as usize;
+    let mut list = vec![FILL_WORD; end + GUARD_WORDS];
+    let answer = call(&mut list[GUARD_WORDS..end]);
+    let count = answer.element.cid_count as usize;
+    let (front, rest) = list.split_at(GUARD_WORDS);
+    let (cids, rest) = rest.split_at(rest.len().min(count));
+    if front.iter().chain(rest).any(|word| *word != FILL_WORD) {
+        return Err(Stop::Wrong("list touched"));
+    }
+    let ElementAnswer { listed, element, .. } = accepted(answer)?;
+    match listed {
+        0 if element == DeviceService::default() => plain(&[0]),
+        1 if count <= room as usize => {
+            let head = [listed, element.dss_payload, element.max_dss_instances, element.cid_count];
+            with_output(&words(&[&head, cids].concat()), service_bytes(element.device_service_id))
+        }
+        _ => Err(Stop::Wrong("members of an element")),
+    }
+}
+
+fn listed(asked: &Asked) -> Flat {
+    let (service, payload) = asked.service();
+    let answer = accepted(c::device_services_listed(payload, service, asked.word(0)))?;
+    plain(&[answer.listed.into()])
+}
+
+fn services_write(asked: &Asked) -> Flat {
+    let mut list = culvertroost::ServiceList::empty();
+    list.device_services_count = asked.word(1);
+    list.max_dss_sessions = asked.word(2);
+    let mut services = asked.input.chunks_exact(16);
+    let mut at = 3;
+    for element in &mut list.elements {
+        let cid_count = asked.word(at + 2);
+        element.fields = DeviceService {
+            device_service_id: c::service_id(services.next().unwrap_or_default()),
+            dss_payload: asked.word(at),
+            max_dss_instances: asked.word(at + 1),
+            cid_count,
+        };
+        let count = MOST_CIDS.min(cid_count as usize);
+        for (number, cid) in element.cids[..count].iter_mut().enumerate() {
+            *cid = asked.word(at + 3 + number);
+        }
+        at += 3 + count;
+    }
+    written(asked.number(0), |out| c::device_services_write(list, out))
+}
+
+// ---- messages
+
+fn whole_message(asked: &Asked) -> Flat {
+    let whole = accepted(c::message_judge(asked.input))?;
+    plain(&words(&[whole.message_type, whole.transaction]))
+}
+
+fn cut(asked: &Asked) -> Flat {
+    let (service, information) = asked.service();
+    let message = MessageHeader {
+        message_type: asked.word(2),
+        transaction: asked.word(3),
+        service,
+        cid: asked.word(4),
+        word: asked.word(5),
+    };
+    let size = asked.number(1) as usize;
+    let call = |out: &mut [u8]| c::message_cut(message, size, information, out);
+    let (answer, output) = lend(asked.number(0), call, |answer| answer.length)?;
+    with_output(&[answer.count.into(), output.len() as u64], output)
+}
+
+fn payload_kind(asked: &Asked) -> Flat {
+    let message = MessageHeader {
+        message_type: asked.word(0),
+        transaction: 0,
+        service: asked.service().0,
+        cid: asked.word(1),
+        word: asked.word(2),
+    };
+    plain(&[accepted(c::payload_kind(message))?.kind.into()])
+}
+
+/// A refused piece must leave the memory all zero.
+fn feed(assembly: &mut [u8; ASSEMBLY_SIZE], asked: &Asked) -> Flat {
+    let mut lent = Lent::holding(assembly);
+    let call = |out: &mut [u8]| c::assembly_feed(lent.memory(), asked.input, out);
+    let answer = lend(asked.number(0), call, |answer| answer.length);
+    if !lent.guards_hold() {
+        return Err(Stop::Wrong("bytes beside the memory touched"));
+    }
+    assembly.copy_from_slice(lent.bytes());
+    if answer.is_err() && assembly.iter().any(|byte| *byte != 0) {
+        return Err(Stop::Wrong("a refused piece left something"));
+    }
+    let (answer, information) = answer?;
+    fed(answer, &information)
+}
+
+fn fed(answer: FeedAnswer, information: &[u8]) -> Flat {
+    let MessageHeader { message_type, transaction, service, cid, word } = answer.message;
+    if answer.complete == 0 {
+        if answer.message != MessageHeader::default() || answer.length != 0 {
+            return Err(Stop::Wrong("a message that is not complete"));
+        }
+        return plain(&[0, answer.dropped.into()]);
+    }
+    let head = [answer.complete, answer.dropped, message_type, transaction, cid, word];
+    let numbers = [words(&head), vec![information.len() as u64]].concat();
+    with_output(&numbers, [&service_bytes(service), information].concat())
+}
+
+fn empty(assembly: &mut [u8; ASSEMBLY_SIZE]) -> Flat {
+    accepted(keep(assembly, c::assembly_empty)?)?;
+    plain(&[])
+}
+
+/// The layout: type, transaction, service, CID, word, total, next, information length, gathered,
+/// then the buffer.
+fn show_assembly(assembly: &[u8; ASSEMBLY_SIZE]) -> Flat {
+    let word = |at: usize| u64::from(u32_at(assembly, at));
+    let numbers = [0, 4, 24, 28, 32, 36, 40, 44].map(word);
+    with_output(&numbers, [&assembly[8..24], &assembly[48..]].concat())
+}
+
+pub fn u32_at(bytes: &[u8], at: usize) -> u32 {
+    u32::from_le_bytes([bytes[at], bytes[at + 1], bytes[at + 2], bytes[at + 3]])
+}
+
+pub fn u16_at(bytes: &[u8], at: usize) -> u16 {
+    u16::from_le_bytes([bytes[at], bytes[at + 1]])
+}
+
+// ---- the two ends
+
+/// A refused `make` leaves the one before, or none.
+fn make<const N: usize>(
+    end: &mut Option<[u8; N]>,
+    call: impl FnOnce(&mut [u8]) -> Refusal,
+) -> Flat {
+    let mut memory = end.unwrap_or([FILL; N]);
+    accepted(keep(&mut memory, call)?)?;
+    *end = Some(memory);
+    plain(&[])
+}
+
+fn make_host(host: &mut Option<[u8; HOST_SIZE]>, asked: &Asked) -> Flat {
+    make(host, |memory| c::host_make(memory, asked.half(0)))
+}
+
+fn make_modem(modem: &mut Option<[u8; MODEM_SIZE]>, asked: &Asked) -> Flat {
+    let (native, advertised, lists_version) = (asked.half(0), asked.half(1), asked.word(2));
+    make(modem, |memory| c::modem_make(memory, native, advertised, lists_version))
+}
+
+fn ask_host(host: &mut [u8; HOST_SIZE], question: u32, asked: &Asked) -> Flat {
+    let (status, payload) = (asked.word(0), asked.input);
+    match question {
+        q::HOST_OPEN => event(keep(host, |memory| c::host_open(memory, asked.half(0)))?),
+        q::HOST_CLOSE => close(keep(host, c::host_close)?),
+        q::HOST_NEXT => next_command(host, asked),
+        q::HOST_SERVICES_REPLY => {
+            event(keep(host, |memory| c::host_services_reply(memory, status, payload))?)
+        }
+        q::HOST_VERSION_REPLY => {
+            event(keep(host, |memory| c::host_version_reply(memory, status, payload))?)
+        }
+        _ => plain(&[0, 2, 4].map(|at| u16_at(host, at).into())),
+    }
+}
+
+fn event(answer: HostAnswer) -> Flat {
+    let HostAnswer { event, version, .. } = accepted(answer)?;
+    plain(&[event.into(), version.into()])
+}
+
+fn close(answer: HostAnswer) -> Flat {
+    let HostAnswer { event, version, .. } = accepted(answer)?;
+    match (event, version) {
+        (0, 0) => plain(&[]),
+        _ => Err(Stop::Wrong("an event of a close")),
+    }
+}
+
+fn next_command(host: &[u8; HOST_SIZE], asked: &Asked) -> Flat {
+    let call = |out: &mut [u8]| c::host_next_command(host, out);
+    let (answer, output) = lend(asked.number(0), call, |answer| answer.length)?;
+    let AskAnswer { command, version, length, .. } = answer;
+    match command {
+        2 if version == 0 => with_output(&[2, length as u64], output),
+        0..=3 if length == 0 => plain(&[command.into(), version.into()]),
+        _ => Err(Stop::Wrong("members of a next command")),
+    }
+}
+
+fn ask_modem(modem: &mut [u8; MODEM_SIZE], question: u32, asked: &Asked) -> Flat {
+    match question {
+        q::MODEM_OPEN => {
+            accepted(keep(modem, c::modem_open)?)?;
+            plain(&[])
+        }
+        q::MODEM_CLOSE => {
+            accepted(keep(modem, c::modem_close)?)?;
+            plain(&[])
+        }
+        q::MODEM_COMMAND => command(modem, asked),
+        _ => plain(&[0, 2, 4, 6, 8].map(|at| u16_at(modem, at).into())),
+    }
+}
+
+fn command(modem: &mut [u8; MODEM_SIZE], asked: &Asked) -> Flat {
+    let (service, payload) = asked.service();
+    let (cid, command_type) = (asked.word(1), asked.word(2));
+    let mut kept = Ok(ModemAnswer::default());
+    let call = |out: &mut [u8]| {
+        kept = keep(modem, |memory| {
+            c::modem_command(memory, service, cid, command_type, payload, out)
+        });
+        kept.as_ref().copied().unwrap_or_default()
+    };
+    let lent = lend(asked.number(0), call, |answer| answer.length);
+    kept?;
+    let (answer, output) = lent?;
+    let ModemAnswer { action, status, kind, place, length, .. } = answer;
+    let numbers = [action.into(), status.into(), kind.into(), place as u64, length as u64];
+    with_output(&numbers, output)
+}

@@ -1,0 +1,301 @@
+//! Hostile memory, lent for an assembly, a host or a modem: too small, random, or damaged. It must
+//! give the refusal that the header names, or a good answer that leaves good memory; everything
+//! outside stays as it was.
+
+use crate::lent::Lent;
+use crate::library::{accepted, u16_at, u32_at, Refusable, Stop};
+use crate::payloads::put;
+use crate::random::Random;
+use culvertroost::c::{self, *};
+use second::message::{COMMAND, COMMAND_DONE, INDICATE_STATUS};
+
+/// How many wrong cases are printed.
+const PRINTED: usize = 20;
+
+type Outcome = Result<Option<Refusal>, &'static str>;
+
+/// Tries so many cases and gives how many went wrong.
+pub fn hostile(random: &mut Random, cases: usize) -> usize {
+    let makers: [(&str, fn(&mut Random) -> Outcome); 3] =
+        [("assembly memory", assembly), ("host memory", host), ("modem memory", modem)];
+    let mut wrong = 0;
+    for (name, case) in makers {
+        let (mut refused, mut failed) = (0, 0);
+        for number in 0..cases {
+            match case(random) {
+                Ok(refusal) => refused += refusal.is_some() as usize,
+                Err(what) => {
+                    failed += 1;
+                    if wrong + failed <= PRINTED {
+                        println!("{name}, case {number}: {what}");
+                    }
+                }
+            }
+        }
+        println!("{name:16} {cases:8} cases {refused:8} refused");
+        wrong += failed;
+    }
+    wrong
+}
+
+fn refusal(number: u32, place: usize) -> Option<Refusal> {
+    Some(Refusal { number, place })
+}
+
+/// The refusal in an answer, if there is one and nothing beside it.
+fn refusal_in<T: Refusable>(answer: T) -> Outcome {
+    match accepted(answer) {
+        Ok(_) => Ok(None),
+        Err(Stop::Refused(refusal)) => Ok(Some(refusal)),
+        Err(Stop::Wrong(what)) => Err(what),
+    }
+}
+
+fn need(holds: bool, what: &'static str) -> Result<(), &'static str> {
+    holds.then_some(()).ok_or(what)
+}
+
+/// A size of memory: as needed, a little less or more, or much less.
+fn size(random: &mut Random, needed: usize) -> usize {
+    match random.below(8) {
+        0 => needed - 1,
+        1 => random.below(needed),
+        2 => needed + random.below(40),
+        _ => needed,
+    }
+}
+
+// ---- the assembly
+
+/// What the header says of memory for an assembly, if it is to be refused.
+fn assembly_refusal(memory: &[u8]) -> Option<Refusal> {
+    if memory.len() < ASSEMBLY_SIZE {
+        return refusal(11, ASSEMBLY_SIZE);
+    }
+    let [total, next, declared, gathered] = [32, 36, 40, 44].map(|at| u32_at(memory, at));
+    if total == 0 {
+        let empty = memory[..48].iter().all(|byte| *byte == 0);
+        return if empty { None } else { refusal(10, 32) };
+    }
+    match u32_at(memory, 0) {
+        COMMAND | COMMAND_DONE | INDICATE_STATUS => {}
+        _ => return refusal(9, 0),
+    }
+    match () {
+        _ if total > 128 => refusal(9, 32),
+        _ if next == 0 || next >= total => refusal(9, 36),
+        _ if declared > 4096 => refusal(9, 40),
+        _ if gathered > declared => refusal(9, 44),
+        _ => None,
+    }
+}
+
+fn assembly_memory(random: &mut Random) -> Vec<u8> {
+    let size = size(random, ASSEMBLY_SIZE);
+    let mut memory = if random.once_in(3) { vec![0; size] } else { random.bytes(size) };
+    if random.once_in(6) {
+        return memory;
+    }
+    let types = [COMMAND, COMMAND_DONE, INDICATE_STATUS];
+    let declared = random.mostly(&[0, 10, 100, 4095, 4096]) as u32;
+    let fields = [
+        (0, random.mostly(&types) as u32),
+        (4, 7),
+        (32, random.mostly(&[0, 1, 2, 3, 128]) as u32),
+        (36, random.mostly(&[1, 1, 1, 2, 127]) as u32),
+        (40, declared),
+        (44, random.mostly(&[0, declared / 2, declared]) as u32),
+    ];
+    fields.iter().for_each(|(at, word)| put(&mut memory, *at, *word));
+    memory
+}
+
+/// A fragment that may go on with what the memory holds, or any bytes.
+fn piece(random: &mut Random, memory: &[u8]) -> Vec<u8> {
+    if memory.len() < 48 || random.once_in(6) {
+        let length = random.below(100);
+        return random.bytes(length);
+    }
+    let [declared, gathered] = [40, 44].map(|at| u32_at(memory, at));
+    let missing = declared.wrapping_sub(gathered).min(4076) as usize;
+    let carried = if random.once_in(3) { random.below(missing + 2) } else { missing };
+    let mut piece = random.bytes(20 + carried);
+    let length = piece.len() as u32;
+    let fields = [(0, u32_at(memory, 0)), (4, length), (8, u32_at(memory, 4))];
+    fields.iter().for_each(|(at, word)| put(&mut piece, *at, *word));
+    put(&mut piece, 12, u32_at(memory, 32));
+    put(&mut piece, 16, u32_at(memory, 36));
+    piece
+}
+
+fn assembly(random: &mut Random) -> Outcome {
+    let before = assembly_memory(random);
+    let mut memory = Lent::holding(&before);
+    if random.once_in(10) {
+        let refused = refusal_in(c::assembly_empty(memory.memory()))?;
+        need(memory.guards_hold(), "bytes beside the memory touched")?;
+        need(refused == assembly_refusal(&before).filter(|r| r.number == 11), "another refusal")?;
+        left_by_refusal(&before, memory.bytes())?;
+        return Ok(refused);
+    }
+    let piece = piece(random, &before);
+    let mut out = Lent::filled(if random.once_in(4) { random.below(100) } else { 4096 });
+    let answer = c::assembly_feed(memory.memory(), &piece, out.memory());
+    need(memory.guards_hold(), "bytes beside the memory touched")?;
+    need(out.holds_past(answer.length), "output touched")?;
+    let refused = refusal_in(answer)?;
+    let expected = assembly_refusal(&before);
+    need(expected.is_none() || refused == expected, "another refusal")?;
+    if refused.is_some() || answer.complete == 1 {
+        left_by_refusal(&before, memory.bytes())?;
+    } else {
+        left_pending(&before, memory.bytes())?;
+    }
+    Ok(refused)
+}
+
+/// Emptied, if there was room for an assembly; else as it was.
+fn left_by_refusal(before: &[u8], after: &[u8]) -> Result<(), &'static str> {
+    let Some((front, rest)) = after.split_at_checked(ASSEMBLY_SIZE) else {
+        return need(before == after, "small memory touched");
+    };
+    need(front.iter().all(|byte| *byte == 0), "assembly not emptied")?;
+    need(rest == &before[ASSEMBLY_SIZE..], "memory past the assembly touched")
+}
+
+fn left_pending(before: &[u8], after: &[u8]) -> Result<(), &'static str> {
+    let good = assembly_refusal(after).is_none() && u32_at(after, 32) != 0;
+    need(good, "a pending message that is none")?;
+    need(after[ASSEMBLY_SIZE..] == before[ASSEMBLY_SIZE..], "memory past the assembly touched")
+}
+
+// ---- the two ends
+
+/// How much memory an end takes, and what is refused.
+type End = (usize, fn(&[u8]) -> Option<Refusal>);
+
+const HOST: End = (HOST_SIZE, host_refusal);
+const MODEM: End = (MODEM_SIZE, modem_refusal);
+
+fn is_version(number: u16) -> bool {
+    matches!(number, 0x0100 | 0x0200)
+}
+
+/// What the header says of memory for a host, if it is to be refused.
+fn host_refusal(memory: &[u8]) -> Option<Refusal> {
+    if memory.len() < HOST_SIZE {
+        return refusal(11, HOST_SIZE);
+    }
+    let [native, stage, version] = [0, 2, 4].map(|at| u16_at(memory, at));
+    let fits = if stage == 0 { version == 0 } else { is_version(version) };
+    match () {
+        _ if !is_version(native) => refusal(9, 0),
+        _ if stage > 3 => refusal(9, 2),
+        _ if !fits => refusal(9, 4),
+        _ => None,
+    }
+}
+
+fn modem_refusal(memory: &[u8]) -> Option<Refusal> {
+    if memory.len() < MODEM_SIZE {
+        return refusal(11, MODEM_SIZE);
+    }
+    let [native, advertised, flag, stage, version] = [0, 2, 4, 6, 8].map(|at| u16_at(memory, at));
+    let fits = if stage == 2 { is_version(version) } else { version == 0 };
+    match () {
+        _ if !is_version(native) => refusal(9, 0),
+        _ if !is_version(advertised) => refusal(9, 2),
+        _ if flag > 1 => refusal(9, 4),
+        _ if stage > 2 => refusal(9, 6),
+        _ if !fits => refusal(9, 8),
+        _ if advertised > native => refusal(10, 2),
+        _ => None,
+    }
+}
+
+/// Memory of numbers that an end may hold, now and then others.
+fn end_memory(random: &mut Random, needed: usize, numbers: &[&[u32]]) -> Vec<u8> {
+    let size = size(random, needed);
+    let mut memory = random.bytes(size);
+    for (place, good) in numbers.iter().enumerate() {
+        let number = random.mostly(good) as u16;
+        if let Some(field) = memory.get_mut(2 * place..2 * place + 2) {
+            field.copy_from_slice(&number.to_le_bytes());
+        }
+    }
+    memory
+}
+
+fn host(random: &mut Random) -> Outcome {
+    let numbers: [&[u32]; 3] =
+        [&[0x0100, 0x0200], &[0, 1, 1, 2, 2, 3, 3], &[0x0100, 0x0200, 0x0100, 0x0200, 0]];
+    let before = end_memory(random, HOST_SIZE, &numbers);
+    let mut memory = Lent::holding(&before);
+    if random.once_in(8) {
+        let refused = refusal_in(c::host_make(memory.memory(), 0x0200))?;
+        let small = host_refusal(&before).filter(|refusal| refusal.number == 11);
+        return left_by_end(refused, small, &before, &memory, HOST);
+    }
+    let mut out = Lent::filled(random.below(8));
+    let (status, length) = (random.below(2) as u32, random.below(12));
+    let payload = if random.once_in(2) { vec![0, 1, 0, 2] } else { random.bytes(length) };
+    let refused = match random.below(5) {
+        0 => refusal_in(c::host_open(memory.memory(), 0x0100)),
+        1 => refusal_in(c::host_close(memory.memory())),
+        2 => refusal_in(c::host_services_reply(memory.memory(), status, &payload)),
+        3 => refusal_in(c::host_version_reply(memory.memory(), status, &payload)),
+        _ => {
+            let answer = c::host_next_command(memory.memory(), out.memory());
+            need(out.holds_past(answer.length), "output touched")?;
+            refusal_in(answer)
+        }
+    }?;
+    left_by_end(refused, host_refusal(&before), &before, &memory, HOST)
+}
+
+fn modem(random: &mut Random) -> Outcome {
+    let versions: &[u32] = &[0x0100, 0x0200];
+    let numbers: [&[u32]; 5] =
+        [&[0x0200, 0x0200, 0x0100], versions, &[0, 1], &[0, 1, 2], &[0, 0x0100, 0x0200]];
+    let before = end_memory(random, MODEM_SIZE, &numbers);
+    let mut memory = Lent::holding(&before);
+    if random.once_in(8) {
+        let refused = refusal_in(c::modem_make(memory.memory(), 0x0200, 0x0100, random.word()))?;
+        let small = modem_refusal(&before).filter(|refusal| refusal.number == 11);
+        return left_by_end(refused, small, &before, &memory, MODEM);
+    }
+    let mut out = Lent::filled(random.below(8));
+    let service = random.pick(&[culvertroost::BASIC_CONNECT, culvertroost::EXTENSIONS]);
+    let cid = random.mostly(&[9, 15, 15, 16]) as u32;
+    let refused = match random.below(6) {
+        0 => refusal_in(c::modem_open(memory.memory())),
+        1 => refusal_in(c::modem_close(memory.memory())),
+        _ => {
+            let memory = memory.memory();
+            let answer = c::modem_command(memory, service, cid, 0, &[0, 1, 0, 2], out.memory());
+            need(out.holds_past(answer.length), "output touched")?;
+            refusal_in(answer)
+        }
+    }?;
+    left_by_end(refused, modem_refusal(&before), &before, &memory, MODEM)
+}
+
+/// Bad memory gives the expected refusal; a refusal leaves memory as it was, an answer leaves good
+/// memory and what lies past the end as it was.
+fn left_by_end(
+    refused: Option<Refusal>,
+    expected: Option<Refusal>,
+    before: &[u8],
+    after: &Lent,
+    (size, judge): End,
+) -> Outcome {
+    need(after.guards_hold(), "bytes beside the memory touched")?;
+    need(expected.is_none() || refused == expected, "another refusal")?;
+    if refused.is_some() {
+        need(after.bytes() == before, "memory touched by a refused call")?;
+        return Ok(refused);
+    }
+    need(judge(after.bytes()).is_none(), "bad memory left")?;
+    need(after.bytes()[size..] == before[size..], "memory past the end touched")?;
+    Ok(None)
+}

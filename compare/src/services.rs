@@ -1,0 +1,99 @@
+//! The device services list: written, read, asked for its elements, whole and damaged.
+
+use crate::damage;
+use crate::payloads::{moved, put, written};
+use crate::random::Random;
+use crate::sides::Sides;
+use second::flat::question as q;
+use second::payload::{BASIC_CONNECT, EXTENSIONS};
+
+/// Services that a list may hold; the third differs from the second in one byte.
+pub fn service(random: &mut Random) -> [u8; 16] {
+    let mut service = random.pick(&[BASIC_CONNECT, EXTENSIONS, EXTENSIONS, [0; 16]]);
+    if random.once_in(4) {
+        service[random.below(16)] ^= 1 << random.below(8);
+    }
+    service
+}
+
+fn cid(random: &mut Random) -> u32 {
+    random.pick(&[9, 10, 11, 15, 15, 16, 0, 0x0F00, u32::MAX])
+}
+
+fn cid_count(random: &mut Random) -> u64 {
+    match random.below(12) {
+        0 => random.mostly(&[127, 128, 129, 130]),
+        1 => random.below(129) as u64,
+        _ => random.below(6) as u64,
+    }
+}
+
+/// Arguments and services of a list to be written, and the room that it wants.
+fn list(random: &mut Random) -> (Vec<u64>, Vec<u8>, usize) {
+    let count = match random.below(16) {
+        0 => random.mostly(&[31, 32, 32, 33]),
+        1 => random.below(33) as u64,
+        _ => random.below(5) as u64,
+    };
+    let mut arguments = vec![count, random.hostile().into()];
+    let mut services = Vec::new();
+    let mut room = 8;
+    for _ in 0..count.min(32) {
+        let cid_count = cid_count(random);
+        arguments.extend([random.hostile().into(), random.hostile().into(), cid_count]);
+        arguments.extend((0..cid_count.min(128)).map(|_| u64::from(cid(random))));
+        services.extend(service(random));
+        room += 36 + 4 * cid_count.min(128) as usize;
+    }
+    (arguments, services, room)
+}
+
+pub fn services(sides: &mut Sides, random: &mut Random) {
+    let (arguments, services, length) = list(random);
+    let room = random.room(length.min(5000));
+    let payload = written(sides, q::SERVICES_WRITE, room, &arguments, &services);
+    let payload = if random.once_in(2) { scattered(random) } else { payload };
+    for _ in 0..3 {
+        let payload = damage::maybe(random, &payload);
+        choose(sides, random, &payload);
+    }
+}
+
+/// A list whose pairs stand anywhere: elements overlap, leave gaps or reach beyond the end.
+fn scattered(random: &mut Random) -> Vec<u8> {
+    let count = random.below(4);
+    let mut payload = vec![0; 8 + 8 * count + 4 * random.below(60)];
+    put(&mut payload, 0, count as u32);
+    for number in 0..count {
+        let cid_count = random.below(4) as u32;
+        let size = if random.once_in(8) { random.hostile() } else { 28 + 4 * cid_count };
+        let offset = moved(random, payload.len() as u32, size);
+        put(&mut payload, 8 + 8 * number, offset);
+        put(&mut payload, 12 + 8 * number, size);
+        put_element(random, &mut payload, offset as usize, cid_count);
+    }
+    payload
+}
+
+fn put_element(random: &mut Random, payload: &mut [u8], offset: usize, cid_count: u32) {
+    let inside = payload.get_mut(offset..).unwrap_or_default();
+    if let Some(id) = inside.get_mut(..16) {
+        id.copy_from_slice(&service(random));
+    }
+    put(inside, 24, cid_count);
+    for number in 0..cid_count as usize {
+        put(inside, 28 + 4 * number, cid(random));
+    }
+}
+
+/// Every question about a payload.
+fn choose(sides: &mut Sides, random: &mut Random, payload: &[u8]) {
+    let read = sides.ask(q::SERVICES_READ, &[], payload).numbers;
+    let count = if read[0] == 0 { read[1] as usize } else { 2 };
+    let number = if random.once_in(8) { random.hostile() } else { random.below(count + 1) as u32 };
+    let room = if random.once_in(4) { random.below(4) } else { 128 + random.below(3) } as u64;
+    sides.ask(q::ELEMENT, &[room, number.into()], payload);
+    let input = [&service(random)[..], payload].concat();
+    sides.ask(q::SERVICE_CIDS, &[room], &input);
+    sides.ask(q::LISTED, &[cid(random).into()], &input);
+}

@@ -1,0 +1,164 @@
+//! The two sides: every question goes to both, and their answers must be equal.
+
+use crate::library::Library;
+use second::flat::{question as q, Answer, Second};
+use std::collections::BTreeSet;
+use std::fmt::Write;
+
+/// How many differences are printed in full.
+const PRINTED: usize = 20;
+
+/// The questions that are counted together.
+const GROUPS: [(&str, &[u32]); 11] = [
+    ("VERSION", &[q::VERSION_READ, q::VERSION_WRITE]),
+    ("packet service", &[q::PACKET_READ, q::PACKET_WRITE]),
+    ("registration", &[q::REGISTRATION_READ, q::REGISTRATION_WRITE]),
+    ("signal state", &[q::SIGNAL_READ, q::SIGNAL_WRITE]),
+    (
+        "device services",
+        &[q::SERVICES_READ, q::ELEMENT, q::SERVICE_CIDS, q::LISTED, q::SERVICES_WRITE],
+    ),
+    ("whole messages", &[q::WHOLE_MESSAGE]),
+    ("assembly", &[q::FEED, q::EMPTY_ASSEMBLY, q::SHOW_ASSEMBLY]),
+    ("cutter", &[q::CUT, q::NEXT_TRANSACTION, q::PAYLOAD_KIND]),
+    (
+        "host",
+        &[
+            q::MAKE_HOST,
+            q::HOST_OPEN,
+            q::HOST_CLOSE,
+            q::HOST_NEXT,
+            q::HOST_SERVICES_REPLY,
+            q::HOST_VERSION_REPLY,
+            q::SHOW_HOST,
+        ],
+    ),
+    ("modem", &[q::MAKE_MODEM, q::MODEM_OPEN, q::MODEM_CLOSE, q::MODEM_COMMAND, q::SHOW_MODEM]),
+    ("readings", &[q::RSRP, q::SNR, q::BARS]),
+];
+
+#[derive(Clone, Default)]
+struct Count {
+    cases: usize,
+    refused: usize,
+    numbers: BTreeSet<u64>,
+}
+
+pub struct Sides {
+    second: Second,
+    library: Library,
+    counts: Vec<Count>,
+    pub cases: usize,
+    pub differences: usize,
+}
+
+impl Sides {
+    pub fn new() -> Sides {
+        let counts = vec![Count::default(); q::BARS as usize + 1];
+        Sides { second: Second::new(), library: Library::new(), counts, cases: 0, differences: 0 }
+    }
+
+    /// Asks both sides and gives the library's answer, or none where it has done wrong.
+    pub fn ask(&mut self, question: u32, arguments: &[u64], input: &[u8]) -> Answer {
+        let expected = self.second.ask(question, arguments, input);
+        assert!(!expected.numbers.is_empty(), "question {question} is none");
+        let answer = self.library.ask(question, arguments, input).map_err(str::to_string);
+        self.count(question, expected.numbers[0]);
+        match answer {
+            Ok(answer) if answer == expected => answer,
+            Ok(answer) => {
+                let text = answer_text(&answer);
+                self.differ(question, arguments, input, &expected, &text);
+                answer
+            }
+            Err(wrong) => {
+                self.differ(question, arguments, input, &expected, &wrong);
+                expected
+            }
+        }
+    }
+
+    fn count(&mut self, question: u32, number: u64) {
+        let count = &mut self.counts[question as usize];
+        self.cases += 1;
+        count.cases += 1;
+        if number != 0 {
+            count.refused += 1;
+            count.numbers.insert(number);
+        }
+    }
+
+    fn differ(&mut self, question: u32, arguments: &[u64], input: &[u8], want: &Answer, got: &str) {
+        self.differences += 1;
+        if self.differences > PRINTED {
+            return;
+        }
+        println!("difference {} at case {}", self.differences, self.cases);
+        println!("  question  {question}");
+        println!("  arguments {}", numbers(arguments));
+        println!("  input     {}", groups(input));
+        println!("  second    {}", answer_text(want));
+        println!("  library   {got}");
+    }
+
+    /// One line for each group, and the total.
+    pub fn report(&self) {
+        let mut total = Count::default();
+        for (name, questions) in GROUPS {
+            let mut group = Count::default();
+            for question in questions {
+                group.add(&self.counts[*question as usize]);
+            }
+            group.print(name);
+            total.add(&group);
+        }
+        total.print("total");
+    }
+
+    /// Questions that were not asked.
+    pub fn unasked(&self) -> Vec<usize> {
+        (1..self.counts.len()).filter(|question| self.counts[*question].cases == 0).collect()
+    }
+}
+
+impl Count {
+    fn add(&mut self, other: &Count) {
+        self.cases += other.cases;
+        self.refused += other.refused;
+        self.numbers.extend(&other.numbers);
+    }
+
+    fn print(&self, name: &str) {
+        let seen: Vec<u64> = self.numbers.iter().copied().collect();
+        let (cases, refused) = (self.cases, self.refused);
+        println!("{name:16} {cases:8} cases {refused:8} refused, by {}", numbers(&seen));
+    }
+}
+
+fn answer_text(answer: &Answer) -> String {
+    format!("{} | {}", numbers(&answer.numbers), groups(&answer.output))
+}
+
+fn numbers(numbers: &[u64]) -> String {
+    let words: Vec<String> = numbers.iter().map(u64::to_string).collect();
+    words.join(" ")
+}
+
+/// Bytes as second/INTERFACE.md has them: hex, and runs of 8 or more as a byte and a count.
+fn groups(bytes: &[u8]) -> String {
+    let mut groups = String::new();
+    let mut plain = false;
+    for run in bytes.chunk_by(|one, next| one == next) {
+        let counted = run.len() >= 8;
+        if !groups.is_empty() && (counted || !plain) {
+            groups.push(',');
+        }
+        if counted {
+            let _ = write!(groups, "{:02x}*{}", run[0], run.len());
+        } else {
+            run.iter().for_each(|byte| groups.push_str(&format!("{byte:02x}")));
+        }
+        plain = !counted;
+    }
+    groups
+}
