@@ -100,7 +100,8 @@ static void print_version(const char *text, uint16_t version)
 
 static size_t fragment_length(const uint8_t *fragment)
 {
-    return fragment[4] | (size_t)fragment[5] << 8 | (size_t)fragment[6] << 16 | (size_t)fragment[7] << 24;
+    size_t low = fragment[4] | (size_t)fragment[5] << 8;
+    return low | (size_t)fragment[6] << 16 | (size_t)fragment[7] << 24;
 }
 
 /* Feeds fragments that lie one after another; the last one completes the message. */
@@ -162,9 +163,10 @@ static void send_reply(const message *command, const payload *sent, uint32_t kin
 /* The modem's answer to a command that it got. */
 static cvr_modem_answer take_command(const message *command, payload *reply)
 {
-    cvr_modem_answer answer = cvr_modem_command(modem, sizeof modem, command->header.service,
-                                                command->header.cid, command->header.word, command->bytes,
-                                                command->length, reply->bytes, sizeof reply->bytes);
+    const cvr_message_header *header = &command->header;
+    cvr_modem_answer answer = cvr_modem_command(modem, sizeof modem, header->service, header->cid,
+                                                header->word, command->bytes, command->length,
+                                                reply->bytes, sizeof reply->bytes);
     need(answer.refusal, "modem command");
     reply->length = answer.length;
     return answer;
@@ -199,7 +201,8 @@ static void open_ends(void)
 
 /* ---- DEVICE_SERVICES */
 
-static void add_service(cvr_service_list *list, cvr_service service, const uint32_t *cids, uint32_t count)
+static void add_service(cvr_service_list *list, cvr_service service, const uint32_t *cids,
+                        uint32_t count)
 {
     cvr_service_element *element = &list->elements[list->device_services_count];
     element->fields.device_service_id = service;
@@ -229,8 +232,8 @@ static void print_services(const message *reply)
     uint32_t cids[CVR_MOST_CIDS];
     uint32_t i;
     cvr_device_services_answer list = cvr_device_services_read(reply->bytes, reply->length);
-    cvr_element_answer found = cvr_device_services_cids(reply->bytes, reply->length, basic_connect, cids,
-                                                        CVR_MOST_CIDS);
+    cvr_element_answer found = cvr_device_services_cids(reply->bytes, reply->length, basic_connect,
+                                                        cids, CVR_MOST_CIDS);
     cvr_listed_answer listed = cvr_device_services_listed(reply->bytes, reply->length, extensions,
                                                           CVR_CID_VERSION);
     need(list.refusal, "services read");
@@ -348,8 +351,9 @@ static void ask_registration(void)
     send_reply(&command, &reply, CVR_KIND_REGISTER_STATE, &done);
     read = cvr_registration_read(ask.version, done.bytes, done.length);
     need(read.refusal, "registration read");
-    printf("host: state %u, available classes %02xh, preferred %02xh\n", (unsigned)read.info.register_state,
-           (unsigned)read.info.available_data_class, (unsigned)read.info.preferred_data_class);
+    printf("host: state %u, available classes %02xh, preferred %02xh\n",
+           (unsigned)read.info.register_state, (unsigned)read.info.available_data_class,
+           (unsigned)read.info.preferred_data_class);
     print_text("provider id", &done, read.texts.provider_id);
     print_text("provider name", &done, read.texts.provider_name);
     print_text("roaming text", &done, read.texts.roaming_text);
@@ -420,9 +424,10 @@ static void print_refusal(const message *indication)
 {
     size_t length;
     for (length = 20; length <= 30; length += 10) {
-        cvr_signal_state_answer read = cvr_signal_state_read(CVR_VERSION_2_00, indication->bytes, length);
-        printf("host: its first %zu bytes: refused, %u %s at %zu\n", length, (unsigned)read.refusal.number,
-               refusal_name(read.refusal.number), read.refusal.place);
+        cvr_refusal refusal =
+            cvr_signal_state_read(CVR_VERSION_2_00, indication->bytes, length).refusal;
+        printf("host: its first %zu bytes: refused, %u %s at %zu\n", length,
+               (unsigned)refusal.number, refusal_name(refusal.number), refusal.place);
     }
 }
 
@@ -430,7 +435,8 @@ static void indicate_signal(void)
 {
     static payload sent;
     static message got;
-    cvr_message_header header = {CVR_MESSAGE_INDICATE_STATUS, 0, CVR_BASIC_CONNECT, CVR_CID_SIGNAL_STATE, 0};
+    cvr_message_header header = {CVR_MESSAGE_INDICATE_STATUS, 0, CVR_BASIC_CONNECT,
+                                 CVR_CID_SIGNAL_STATE, 0};
     cvr_kind_answer shown;
     write_signal(&sent);
     carry(header, &sent, &host_side, &got);

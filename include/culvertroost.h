@@ -8,7 +8,8 @@
  * Memory. The library allocates nothing, keeps nothing between calls and never faults. What lasts
  * between calls lies in memory that you lend: bytes of any alignment, without pointers inside, that
  * may be copied. Several assemblies, hosts and modems don't disturb each other; calls on different
- * memory may run in parallel.
+ * memory may run in parallel. Of other libraries it wants memcpy and memset. A call takes less than
+ * 2 KB of stack, but cvr_device_services_write some 36 KB, half of it the list that is passed.
  *
  * What a caller owes:
  *   - a pointer is valid for the length that comes after it (a number of bytes, or of uint32_t where
@@ -16,7 +17,7 @@
  *   - a range that is written to overlaps no other range of the same call.
  * Nothing else is asked. Numbers need not be checked first, lengths need not be sensible.
  *
- * Refusals. Each answer has a `refusal`: a number and a place.
+ * Refusals. An answer is a refusal or has a member `refusal`: a number and a place.
  *   - Number 0: there is no refusal, and the place is 0.
  *   - Any other number is one of enum cvr_refusal_number. Then every other member of the answer is
  *     0, and no output is written. The memory of a host or a modem stays as it was; an assembly is
@@ -25,9 +26,9 @@
  * is laid out on the wire, unless enum cvr_refusal_number says otherwise.
  * An answer that is no refusal leaves the output past what it wrote as it was.
  *
- * Versions are BCD numbers: CVR_VERSION_1_00 or CVR_VERSION_2_00. Functions that take one judge it
- * before anything else. A record's member that only the other version has is 0 in an answer, and a
- * writer doesn't look at it.
+ * Versions are BCD numbers: CVR_VERSION_1_00 or CVR_VERSION_2_00. A reader or writer judges its
+ * version before anything else. A record's member that only the other version has is 0 in an answer,
+ * and a writer doesn't look at it.
  *
  * The library is for x86-64; the checks at the end hold this header to its layout.
  */
@@ -43,25 +44,41 @@ extern "C" {
 
 /* ---- numbers ---------------------------------------------------------------------------------- */
 
-/* The number of a refusal. "Place:" is given where it is not the field that is wrong. */
+/* The number of a refusal. Its place is the field that is wrong, where no other is named. */
 enum cvr_refusal_number {
     CVR_NO_REFUSAL = 0,
-    CVR_TOO_SHORT = 1,           /* fewer bytes than the header or the fixed part. Place: length given */
-    CVR_WRONG_LENGTH = 2,        /* a length disagrees. Place: message, its length field; payload, length given */
-    CVR_UNKNOWN = 3,             /* message type, service or CID not known. Place: 0, 20 or 36 */
-    CVR_WRONG_FRAGMENT = 4,      /* fragment total or number wrong. Place: 12 or 16 */
-    CVR_TOO_LONG = 5,            /* over CVR_MOST_INFORMATION bytes. Place: message, its length field; else 0 */
-    CVR_WRONG_OFFSET = 6,        /* an offset that its size doesn't allow, in the fixed part, or not a multiple of 4 */
-    CVR_PAST_END = 7,            /* offset and size reach beyond the payload. Place: offset field */
-    CVR_WRONG_SIZE = 8,          /* size over its limit, odd for a text, or unfit for its list. Place: offset field */
-    CVR_OUTSIDE_TABLE = 9,       /* a number or a bit outside its table */
-    CVR_CONTRADICTION = 10,      /* fields contradict each other */
-    CVR_OUTPUT_TOO_SMALL = 11,   /* lent output or memory too small. Place: bytes needed */
-    CVR_WRONG_VERSION = 12,      /* no known version, or advertised above native. Place: 0 */
-    CVR_ABOVE_HOST = 13,         /* the modem's version is above the host's. Place: 0 */
-    CVR_VERSION_NOT_LISTED = 14, /* 2.00 is advertised, but VERSION is not listed. Place: 0 */
-    CVR_WRONG_COUNT = 15,        /* a list's count outside its limits */
-    CVR_WRONG_TRANSFER_SIZE = 16 /* transfer size outside its limits. Place: 4 for a fragment, else 0 */
+    /* Fewer bytes than the header or the fixed part. Place: the length given. */
+    CVR_TOO_SHORT = 1,
+    /* A length disagrees. Place: a message's length field; for a payload, the length given. */
+    CVR_WRONG_LENGTH = 2,
+    /* A message type, service or CID that is not known. Place: 0, 20 or 36. */
+    CVR_UNKNOWN = 3,
+    /* The total or the number of a fragment is wrong. Place: 12 or 16. */
+    CVR_WRONG_FRAGMENT = 4,
+    /* Over CVR_MOST_INFORMATION bytes. Place: a message's information length field; else 0. */
+    CVR_TOO_LONG = 5,
+    /* An offset in the fixed part, or not a multiple of 4; or an offset, but size 0. */
+    CVR_WRONG_OFFSET = 6,
+    /* Offset and size reach beyond the payload. Place: the offset field. */
+    CVR_PAST_END = 7,
+    /* A size over its limit, odd for a text, or unfit for its list. Place: the offset field. */
+    CVR_WRONG_SIZE = 8,
+    /* A number or a bit outside its table. */
+    CVR_OUTSIDE_TABLE = 9,
+    /* Fields contradict each other. */
+    CVR_CONTRADICTION = 10,
+    /* Lent output or memory is too small. Place: the bytes needed. */
+    CVR_OUTPUT_TOO_SMALL = 11,
+    /* Not a known version, or advertised above native. Place: 0. */
+    CVR_WRONG_VERSION = 12,
+    /* The modem's advertised version is above the host's. Place: 0. */
+    CVR_ABOVE_HOST = 13,
+    /* 2.00 is advertised, but VERSION is not listed. Place: 0. */
+    CVR_VERSION_NOT_LISTED = 14,
+    /* The count of a list is outside its limits. */
+    CVR_WRONG_COUNT = 15,
+    /* A transfer size outside its limits. Place: 4 for a fragment, else 0. */
+    CVR_WRONG_TRANSFER_SIZE = 16
 };
 
 /* Versions of the extensions, and the one MBIM version beside them. */
@@ -228,7 +245,7 @@ typedef struct cvr_packet_service {
     uint32_t nw_error;                     /* any number */
     uint32_t packet_service_state;         /* 0 to 4 */
     uint32_t highest_available_data_class; /* 1.00 only: at most one class bit */
-    uint32_t current_data_class;           /* 2.00 only: at most one class bit, 0 unless the state is 2 */
+    uint32_t current_data_class;           /* 2.00 only: the same, and 0 unless the state is 2 */
     uint32_t frequency_range;              /* 2.00 only: 0 to 3, 0 unless the class is 40h or 80h */
     uint64_t uplink_speed;                 /* bits per second */
     uint64_t downlink_speed;
@@ -240,7 +257,8 @@ typedef struct cvr_packet_service_answer {
 } cvr_packet_service_answer;
 
 /* Judges a payload of exactly 28 bytes at 1.00, or 32 at 2.00, and shows it. */
-cvr_packet_service_answer cvr_packet_service_read(uint16_t version, const uint8_t *payload, size_t length);
+cvr_packet_service_answer cvr_packet_service_read(uint16_t version, const uint8_t *payload,
+                                                  size_t length);
 
 /* Judges the record and writes 28 or 32 bytes: CVR_PACKET_SERVICE_LENGTH is room enough. */
 cvr_written cvr_packet_service_write(cvr_packet_service info, uint8_t *out, size_t room);
@@ -307,8 +325,9 @@ typedef struct cvr_signal_state {
     uint32_t signal_strength_interval; /* any number, as the next two */
     uint32_t rssi_threshold;
     uint32_t error_rate_threshold;
-    uint32_t count;                    /* 2.00 only: how many entries there are, at most CVR_MOST_ENTRIES */
-    cvr_rsrp_snr entries[CVR_MOST_ENTRIES]; /* 2.00 only; past the count 0 in an answer, ignored by the writer */
+    uint32_t count;                    /* 2.00 only: entries, at most CVR_MOST_ENTRIES */
+    cvr_rsrp_snr entries[CVR_MOST_ENTRIES]; /* 2.00 only; past the count 0 in an answer, and not
+                                               looked at by the writer */
 } cvr_signal_state;
 
 typedef struct cvr_signal_state_answer {
@@ -380,8 +399,8 @@ typedef struct cvr_service_element {
     uint32_t cids[CVR_MOST_CIDS];
 } cvr_service_element;
 
-/* A list to be written, of whose elements the first device_services_count count. It is large: 17,288
- * bytes, passed by value. */
+/* A list to be written, of whose elements the first device_services_count count. It is large and
+ * passed by value. */
 typedef struct cvr_service_list {
     uint32_t device_services_count;
     uint32_t max_dss_sessions;
@@ -514,7 +533,7 @@ cvr_ask_answer cvr_host_next_command(const uint8_t *memory, size_t size, uint8_t
 cvr_host_answer cvr_host_services_reply(uint8_t *memory, size_t size, uint32_t status,
                                         const uint8_t *payload, size_t length);
 
-/* The reply to VERSION: judges the payload. After a failed one the host takes the advertised version. */
+/* The reply to VERSION: judges the payload. A failed one settles the host at the advertised version. */
 cvr_host_answer cvr_host_version_reply(uint8_t *memory, size_t size, uint32_t status,
                                        const uint8_t *payload, size_t length);
 

@@ -68,6 +68,10 @@ compare() {
     cargo run -q --offline --release --manifest-path compare/Cargo.toml -- 1000000
 }
 
+compare_under_valgrind() {
+    valgrind -q --error-exitcode=9 target/cargo/release/compare 5000
+}
+
 step 'archive' build_archive
 step 'header in C' header gcc -std=c99 -x c
 step 'header in C++' header g++ -std=c++11 -x c++
@@ -76,4 +80,6 @@ step 'C example under valgrind' under_valgrind
 step 'C example with sanitizers' sanitized
 step 'Rust example' rust
 step 'compare' compare
-cat "$work/log"
+cp "$work/log" "$work/compare"
+step 'compare under valgrind' compare_under_valgrind
+cat "$work/compare"

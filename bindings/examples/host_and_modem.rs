@@ -195,7 +195,8 @@ fn widen(text: &str) -> Vec<u8> {
 }
 
 fn print_text(label: &str, text: &[u8]) {
-    let units: Vec<u16> = text.chunks(2).map(|unit| u16::from_le_bytes([unit[0], unit[1]])).collect();
+    let units: Vec<u16> =
+        text.chunks(2).map(|unit| u16::from_le_bytes([unit[0], unit[1]])).collect();
     println!("host: {label} \"{}\"", String::from_utf16_lossy(&units));
 }
 

@@ -46,8 +46,10 @@ pub const SIGNAL_STATE: u32 = 11;
 pub const DEVICE_SERVICES: u32 = 16;
 pub const VERSION: u32 = 15;
 
-pub const BASIC_CONNECT: ServiceId = ServiceId::from_words(0x33CC89A2, 0x4F8BBBBC, 0x3E13B0B6, 0xDFE6AAC2);
-pub const EXTENSIONS: ServiceId = ServiceId::from_words(0xC5DC013D, 0x054DF5FE, 0xF7BE3A0D, 0xAF9A8E05);
+pub const BASIC_CONNECT: ServiceId =
+    ServiceId::from_words(0x33CC89A2, 0x4F8BBBBC, 0x3E13B0B6, 0xDFE6AAC2);
+pub const EXTENSIONS: ServiceId =
+    ServiceId::from_words(0xC5DC013D, 0x054DF5FE, 0xF7BE3A0D, 0xAF9A8E05);
 
 impl ServiceId {
     const fn from_words(word0: u32, word1: u32, word2: u32, word3: u32) -> ServiceId {

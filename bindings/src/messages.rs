@@ -74,9 +74,15 @@ impl MessageHeader {
 /// What came of a fragment. `dropped`: an unfinished message was dropped for this one.
 #[derive(Clone, Copy, Debug, PartialEq, Eq)]
 pub enum Fed {
-    Pending { dropped: bool },
+    Pending {
+        dropped: bool,
+    },
     /// The message is complete; so many bytes of information are at the front of the output.
-    Complete { message: MessageHeader, length: usize, dropped: bool },
+    Complete {
+        message: MessageHeader,
+        length: usize,
+        dropped: bool,
+    },
 }
 
 /// Puts messages together from their fragments.

@@ -44,36 +44,32 @@ fn list_payload(sides: &mut Sides, random: &mut Random) -> Vec<u8> {
 
 pub fn host(sides: &mut Sides, random: &mut Random) {
     let native = random.pick(&[0x0100, 0x0200, 0x0200]);
-    sides.ask(q::MAKE_HOST, &[native], &[]);
-    sides.ask(q::SHOW_HOST, &[], &[]);
+    sides.step(q::MAKE_HOST, &[native], &[]);
     for _ in 0..8 {
         host_call(sides, random);
-        sides.ask(q::SHOW_HOST, &[], &[]);
     }
 }
 
 fn host_call(sides: &mut Sides, random: &mut Random) {
     let status = random.mostly(&[0, 0, 0, 9]);
     match random.below(14) {
-        0 => sides.ask(q::MAKE_HOST, &[random.version()], &[]),
-        1..=3 => sides.ask(q::HOST_OPEN, &[random.version()], &[]),
-        4 => sides.ask(q::HOST_CLOSE, &[], &[]),
-        5 | 6 => sides.ask(q::HOST_NEXT, &[random.room(4)], &[]),
+        0 => sides.step(q::MAKE_HOST, &[random.version()], &[]),
+        1..=3 => sides.step(q::HOST_OPEN, &[random.version()], &[]),
+        4 => sides.step(q::HOST_CLOSE, &[], &[]),
+        5 | 6 => sides.step(q::HOST_NEXT, &[random.room(4)], &[]),
         7..=10 => {
             let payload = list_payload(sides, random);
-            sides.ask(q::HOST_SERVICES_REPLY, &[status], &payload)
+            sides.step(q::HOST_SERVICES_REPLY, &[status], &payload)
         }
-        _ => sides.ask(q::HOST_VERSION_REPLY, &[status], &version_payload(random)),
+        _ => sides.step(q::HOST_VERSION_REPLY, &[status], &version_payload(random)),
     };
 }
 
 pub fn modem(sides: &mut Sides, random: &mut Random) {
     let (native, advertised) = random.pick(&[(0x0100, 0x0100), (0x0200, 0x0100), (0x0200, 0x0200)]);
-    sides.ask(q::MAKE_MODEM, &[native, advertised, random.below(2) as u64], &[]);
-    sides.ask(q::SHOW_MODEM, &[], &[]);
+    sides.step(q::MAKE_MODEM, &[native, advertised, random.below(2) as u64], &[]);
     for _ in 0..8 {
         modem_call(sides, random);
-        sides.ask(q::SHOW_MODEM, &[], &[]);
     }
 }
 
@@ -83,19 +79,19 @@ fn modem_call(sides: &mut Sides, random: &mut Random) {
     match random.below(12) {
         0 => {
             let numbers = [random.version(), random.version(), random.below(2) as u64];
-            sides.ask(q::MAKE_MODEM, &numbers, &[])
+            sides.step(q::MAKE_MODEM, &numbers, &[])
         }
-        1 => sides.ask(q::MODEM_OPEN, &[], &[]),
-        2 => sides.ask(q::MODEM_CLOSE, &[], &[]),
-        3..=5 => sides.ask(q::MODEM_COMMAND, &[room, LIST, command_type], &BASIC_CONNECT),
+        1 => sides.step(q::MODEM_OPEN, &[], &[]),
+        2 => sides.step(q::MODEM_CLOSE, &[], &[]),
+        3..=5 => sides.step(q::MODEM_COMMAND, &[room, LIST, command_type], &BASIC_CONNECT),
         6..=8 => {
             let input = [&EXTENSIONS[..], &version_payload(random)].concat();
-            sides.ask(q::MODEM_COMMAND, &[room, VERSION, command_type], &input)
+            sides.step(q::MODEM_COMMAND, &[room, VERSION, command_type], &input)
         }
         _ => {
             let cid = random.mostly(&[9, 10, 11, 12, 15, 16]);
             let input = [&service(random)[..], &version_payload(random)].concat();
-            sides.ask(q::MODEM_COMMAND, &[room, cid, command_type], &input)
+            sides.step(q::MODEM_COMMAND, &[room, cid, command_type], &input)
         }
     };
 }
@@ -104,24 +100,22 @@ fn modem_call(sides: &mut Sides, random: &mut Random) {
 pub fn run(sides: &mut Sides, random: &mut Random) {
     let (native, advertised) = random.pick(&[(0x0100, 0x0100), (0x0200, 0x0100), (0x0200, 0x0200)]);
     let lists_version = random.once_in(2);
-    sides.ask(q::EMPTY_ASSEMBLY, &[], &[]);
-    sides.ask(q::MAKE_HOST, &[random.pick(&[0x0100, 0x0200])], &[]);
-    sides.ask(q::MAKE_MODEM, &[native, advertised, lists_version.into()], &[]);
-    sides.ask(q::HOST_OPEN, &[advertised], &[]);
-    sides.ask(q::MODEM_OPEN, &[], &[]);
+    sides.step(q::EMPTY_ASSEMBLY, &[], &[]);
+    sides.step(q::MAKE_HOST, &[random.pick(&[0x0100, 0x0200])], &[]);
+    sides.step(q::MAKE_MODEM, &[native, advertised, lists_version.into()], &[]);
+    sides.step(q::HOST_OPEN, &[advertised], &[]);
+    sides.step(q::MODEM_OPEN, &[], &[]);
     exchange(sides, 1, LIST, &[]);
     let list = list(sides, lists_version);
     let list = carry(sides, [COMMAND_DONE.into(), 1, LIST, 0], BASIC_CONNECT, &list);
-    let reply = sides.ask(q::HOST_SERVICES_REPLY, &[0], &list).numbers;
+    let reply = sides.step(q::HOST_SERVICES_REPLY, &[0], &list).numbers;
     if reply[0] == 0 {
         settle(sides);
     }
-    sides.ask(q::SHOW_HOST, &[], &[]);
-    sides.ask(q::SHOW_MODEM, &[], &[]);
 }
 
 fn settle(sides: &mut Sides) {
-    let next = sides.ask(q::HOST_NEXT, &[ROOM], &[]);
+    let next = sides.step(q::HOST_NEXT, &[ROOM], &[]);
     if next.numbers[1] != 2 {
         exchange(sides, 2, 11, &[]);
         return;
@@ -129,7 +123,7 @@ fn settle(sides: &mut Sides) {
     let answered = exchange(sides, 2, VERSION, &next.output);
     let head = [COMMAND_DONE.into(), 2, VERSION, 0];
     let answered = carry(sides, head, EXTENSIONS, &answered);
-    sides.ask(q::HOST_VERSION_REPLY, &[0], &answered);
+    sides.step(q::HOST_VERSION_REPLY, &[0], &answered);
 }
 
 /// A command on its way to the modem; gives what the modem wrote.
@@ -137,5 +131,5 @@ fn exchange(sides: &mut Sides, transaction: u64, cid: u64, payload: &[u8]) -> Ve
     let service = if cid == VERSION { EXTENSIONS } else { BASIC_CONNECT };
     let information = carry(sides, [COMMAND.into(), transaction, cid, 0], service, payload);
     let input = [&service[..], &information].concat();
-    sides.ask(q::MODEM_COMMAND, &[ROOM, cid, 0], &input).output
+    sides.step(q::MODEM_COMMAND, &[ROOM, cid, 0], &input).output
 }

@@ -12,14 +12,17 @@ use second::message::{COMMAND, COMMAND_DONE, INDICATE_STATUS};
 /// How many wrong cases are printed.
 const PRINTED: usize = 20;
 
+/// The refusal that a case came to, if any, or what went wrong.
 type Outcome = Result<Option<Refusal>, &'static str>;
+type Case = fn(&mut Random) -> Outcome;
+
+const CASES: [(&str, Case); 3] =
+    [("assembly memory", assembly), ("host memory", host), ("modem memory", modem)];
 
 /// Tries so many cases and gives how many went wrong.
 pub fn hostile(random: &mut Random, cases: usize) -> usize {
-    let makers: [(&str, fn(&mut Random) -> Outcome); 3] =
-        [("assembly memory", assembly), ("host memory", host), ("modem memory", modem)];
     let mut wrong = 0;
-    for (name, case) in makers {
+    for (name, case) in CASES {
         let (mut refused, mut failed) = (0, 0);
         for number in 0..cases {
             match case(random) {

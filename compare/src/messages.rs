@@ -143,14 +143,30 @@ fn stream(sides: &mut Sides, random: &mut Random) -> Vec<Vec<u8>> {
 /// Drops, repeats, exchanges and damages fragments, and puts strays among them.
 fn disturbed(random: &mut Random, pieces: &mut Vec<Vec<u8>>, strays: &[Vec<u8>]) {
     let place = random.below(pieces.len());
-    match random.below(7) {
+    match random.below(9) {
         0 if !pieces.is_empty() => drop(pieces.remove(place)),
         1 if !pieces.is_empty() => pieces.insert(place, pieces[place].clone()),
         2 if place + 1 < pieces.len() => pieces.swap(place, place + 1),
         3 if !pieces.is_empty() => pieces[place] = damage::damaged(random, &pieces[place]),
         4 if !strays.is_empty() => pieces.insert(place, random.pick_from(strays)),
         5 => pieces.insert(place, stray(random)),
+        6 | 7 if !pieces.is_empty() => change_field(random, &mut pieces[place]),
         _ => {}
+    }
+}
+
+/// Another number in a field of the header, or another length that its field agrees with.
+fn change_field(random: &mut Random, piece: &mut Vec<u8>) {
+    let field = random.pick(&[0, 4, 8, 12, 16, 36, 40, 44]);
+    if field == 4 {
+        let length = random.pick(&[19, 20, 21, 43, 44, 47, 48, 49, 4096, 4097]);
+        piece.resize(length, 0);
+        put(piece, 4, length as u32);
+    } else if piece.len() >= field + 4 {
+        let old = u32_at(piece, field);
+        let limit = random.pick(&[old, old, 2, 128, 4096]);
+        let number = if random.once_in(8) { random.hostile() } else { random.near(limit) };
+        put(piece, field, number);
     }
 }
 
@@ -177,12 +193,11 @@ pub fn feeds(sides: &mut Sides, random: &mut Random) {
         disturbed(random, &mut pieces, &strays);
     }
     if random.once_in(8) {
-        sides.ask(q::EMPTY_ASSEMBLY, &[], &[]);
+        sides.step(q::EMPTY_ASSEMBLY, &[], &[]);
     }
     for piece in &pieces {
         let room = if random.once_in(6) { random.below(300) as u64 } else { 4096 };
-        sides.ask(q::FEED, &[room], piece);
-        sides.ask(q::SHOW_ASSEMBLY, &[], &[]);
+        sides.step(q::FEED, &[room], piece);
     }
 }
 
@@ -190,7 +205,7 @@ pub fn feeds(sides: &mut Sides, random: &mut Random) {
 pub fn carry(sides: &mut Sides, head: [u64; 4], service: [u8; 16], information: &[u8]) -> Vec<u8> {
     let mut output = Vec::new();
     for piece in fragments(sides, 64, head, service, information) {
-        output = sides.ask(q::FEED, &[4096], &piece).output;
+        output = sides.step(q::FEED, &[4096], &piece).output;
     }
     sides.ask(q::PAYLOAD_KIND, &[head[0], head[2], head[3]], &service);
     output.split_off(output.len().min(16))

@@ -48,12 +48,21 @@ pub fn version(sides: &mut Sides, random: &mut Random) {
     }
 }
 
+/// One of the good numbers where a rule allows any, else mostly 0.
+fn allowed(random: &mut Random, holds: bool, good: &[u32]) -> u64 {
+    if holds || random.once_in(12) {
+        return random.mostly(good);
+    }
+    0
+}
+
 pub fn packet(sides: &mut Sides, random: &mut Random) {
-    let state = random.mostly(&[0, 1, 2, 2, 2, 3, 4]);
-    let (highest, current) = (random.mostly(&CLASSES), random.mostly(&CLASSES));
-    let range = random.mostly(&[0, 0, 1, 2, 3]);
-    let (error, up, down) = (random.mostly(&ANY), random.next(), random.next());
     let version = random.version();
+    let state = random.mostly(&[0, 1, 2, 2, 2, 3, 4]);
+    let highest = random.mostly(&CLASSES);
+    let current = allowed(random, state == 2, &CLASSES);
+    let range = allowed(random, matches!(current, 0x40 | 0x80), &[0, 1, 2, 3]);
+    let (error, up, down) = (random.mostly(&ANY), random.next(), random.next());
     let record = [version, error, state, highest, current, range, up, down];
     let payload = written(sides, q::PACKET_WRITE, random.room(32), &record, &[]);
     read(sides, random, q::PACKET_READ, version, &payload);
@@ -71,7 +80,7 @@ fn text_length(random: &mut Random, limit: usize) -> usize {
 
 pub fn registration(sides: &mut Sides, random: &mut Random) {
     let state = random.mostly(&[0, 1, 2, 3, 4, 5, 6, 3, 4, 5]);
-    let available = random.mostly(if (3..=5).contains(&state) { &MASKS } else { &[0, 0, 0, 0x20] });
+    let available = allowed(random, (3..=5).contains(&state), &MASKS);
     let sizes = [12, 40, 126].map(|limit| text_length(random, limit));
     let version = random.version();
     let mut record =
@@ -95,21 +104,23 @@ fn moved_pairs(random: &mut Random, payload: &[u8]) -> Vec<u8> {
             continue;
         }
         let size = text_length(random, limit) as u32;
-        let offset = moved(random, payload.len() as u32, size);
+        let offset = moved(random, 52, payload.len() as u32, size);
         put(&mut payload, place, offset);
         put(&mut payload, place + 4, size);
     }
     payload
 }
 
-/// An offset for so many bytes: fitting, just not fitting, or any.
-pub fn moved(random: &mut Random, length: u32, size: u32) -> u32 {
-    match random.below(8) {
+/// An offset for so many bytes past the fixed part: fitting, just not fitting, or any.
+pub fn moved(random: &mut Random, fixed: u32, length: u32, size: u32) -> u32 {
+    let last = length.wrapping_sub(size);
+    match random.below(12) {
         0 => random.hostile(),
-        1 => random.near(length.wrapping_sub(size)),
-        2 => length.wrapping_sub(size) & !3,
-        3 if size == 0 => 0,
-        _ => 4 * random.below(length as usize / 4 + 2) as u32,
+        1 => random.near(last),
+        2 => random.near(fixed),
+        3 => last & !3,
+        _ if size == 0 => 0,
+        _ => fixed + 4 * random.below(last.wrapping_sub(fixed) as usize / 4 + 1) as u32,
     }
 }
 

@@ -59,12 +59,14 @@ impl Random {
         limit.wrapping_add(self.below(5) as u32).wrapping_sub(2)
     }
 
-    /// One of the good numbers, or now and then a hostile one.
+    /// One of the good numbers, or now and then one close to it or a hostile one.
     pub fn mostly(&mut self, good: &[u32]) -> u64 {
-        if self.once_in(32) {
-            return self.hostile().into();
+        let number = self.pick(good);
+        match self.below(48) {
+            0 => self.near(number).into(),
+            1 => self.hostile().into(),
+            _ => number.into(),
         }
-        self.pick(good).into()
     }
 
     /// A version's number, now and then another.

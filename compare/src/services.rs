@@ -67,7 +67,7 @@ fn scattered(random: &mut Random) -> Vec<u8> {
     for number in 0..count {
         let cid_count = random.below(4) as u32;
         let size = if random.once_in(8) { random.hostile() } else { 28 + 4 * cid_count };
-        let offset = moved(random, payload.len() as u32, size);
+        let offset = moved(random, 8 + 8 * count as u32, payload.len() as u32, size);
         put(&mut payload, 8 + 8 * number, offset);
         put(&mut payload, 12 + 8 * number, size);
         put_element(random, &mut payload, offset as usize, cid_count);

@@ -78,6 +78,15 @@ impl Sides {
         }
     }
 
+    /// Asks, and then for the state that the question may have changed.
+    pub fn step(&mut self, question: u32, arguments: &[u64], input: &[u8]) -> Answer {
+        let answer = self.ask(question, arguments, input);
+        if let Some(show) = state_of(question) {
+            self.ask(show, &[], &[]);
+        }
+        answer
+    }
+
     fn count(&mut self, question: u32, number: u64) {
         let count = &mut self.counts[question as usize];
         self.cases += 1;
@@ -132,6 +141,16 @@ impl Count {
         let seen: Vec<u64> = self.numbers.iter().copied().collect();
         let (cases, refused) = (self.cases, self.refused);
         println!("{name:16} {cases:8} cases {refused:8} refused, by {}", numbers(&seen));
+    }
+}
+
+/// The question that shows what this one works on.
+fn state_of(question: u32) -> Option<u32> {
+    match question {
+        q::FEED..=q::SHOW_ASSEMBLY => Some(q::SHOW_ASSEMBLY),
+        q::MAKE_HOST..=q::HOST_VERSION_REPLY => Some(q::SHOW_HOST),
+        q::MAKE_MODEM..=q::MODEM_COMMAND => Some(q::SHOW_MODEM),
+        _ => None,
     }
 }
 
