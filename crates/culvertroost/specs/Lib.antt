@@ -1,3 +1,4 @@
 pub mod Packets
 pub mod Registrations
 pub mod Signals
+pub mod Claims
