@@ -2,13 +2,13 @@
 -- Assumes nothing.
 use mathlib.Core.Path.{_≡_, refl, ap, _∙_}
 use mathlib.Core.Bool.{Bool, true, false, cond, _&&_}
-use mathlib.Core.List.{List, _++_}
+use mathlib.Core.List.{List, _++_, append-nil}
 use Prim.Native.Nat.{ℕ, _+_, _-_, _≤_, _<_}
 use native.Mathlib.Omega.{arith}
 use borrow.Author.Tests.{eqb-true, leb-true, eq-eqb, not-false}
 use lib.Dec.{eqb}
-use lib.ListN.{length, take, drop, length-append, length-drop}
-use lib.Seq.{sets, take-all}
+use lib.ListN.{length, take, drop, replicate, length-append, length-drop}
+use lib.Seq.{sets, take-all, drop-length}
 use Rattle.wire.specs.Numbers.{u32At}
 use Rattle.wire.specs.Runs.{over}
 use Rattle.wire.proofs.Laws.{sets-then, sets-over}
@@ -38,6 +38,10 @@ rest n s = take-all (length s - n) (drop n s) (simp length-drop (omega arith))
 pub delivered : (b xs s : List ℕ) (n : ℕ) {s₁ s₂ : List ℕ} → length b ≡ n → n + length xs ≤ length s → s₁ ≡ sets s 0 b → s₂ ≡ sets s₁ n xs → s₂ ≡ over (b ++ xs) s
 delivered b xs s n {s₁} e room p q =
     sets-then b xs 0 n s e p (q ∙ ap (λ (k : ℕ). sets s₁ k xs) (omega arith)) ∙ sets-over (b ++ xs) s (omega (arith, length-append b xs))
+
+-- a buffer with zeros up to its end
+pub filled : (i : ℕ) (s : List ℕ) → i ≡ length s → replicate i 0 ++ drop i s ≡ replicate (length s) 0
+filled i s e = rw (e, drop-length s) (append-nil (replicate (length s) 0))
 
 -- the bytes xs are such that a message with the progress p may gather them
 abbrev pub Gathers : Progress → List ℕ → Type 0

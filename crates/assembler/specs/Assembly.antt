@@ -158,3 +158,12 @@ stepBy bytes s room (judged.Gathers p from dropped) = gatherOf (assemblyOf p (be
 
 unfoldable pub stepOf : Assembly → List ℕ → ℕ → Step
 stepOf a s room = stepBy (a .bytes) s room (judgedOf (a .progress) s)
+
+-- with a buffer whose length only its caller knows: one that is not of 4,096 bytes is refused and stays as it was
+unfoldable pub lentStepOf : Progress → List ℕ → List ℕ → ℕ → Step
+lentStepOf p bytes s room =
+    cond (eqb (length bytes) mostInformation) (stepOf (assemblyOf p bytes) s room) record {
+      assembly = assemblyOf (empty .progress) bytes;
+      answer = Refused (refusal outputTooSmall mostInformation);
+      information = [];
+    }

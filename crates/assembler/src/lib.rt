@@ -21,12 +21,11 @@ use wire::put_bytes;
 ghost use mathlib.Core.Path.{_≡_};
 ghost use mathlib.Core.List.{_++_};
 ghost use Prim.Native.Nat.{_+_, _≤_, _<_};
-ghost use lib.ListN.{length, take};
-ghost use lib.Seq.{sets};
+ghost use lib.ListN.{length, take, replicate};
 ghost use Rattle.wire.specs.Runs.{over};
 ghost use Rattle.protocol.specs.Verdict.{judge};
 ghost use Rattle.message.specs.Message.{firstHeaderOf};
-ghost use Rattle.assembler.specs.Assembly.{zeros, assemblyOf, empty, byValue, inPlace, refused, grownProgress, gatherOf, begunProgress, begunBytes, startOf, continues, joinRules, joinOf, judgedOf, stepOf};
+ghost use Rattle.assembler.specs.Assembly.{assemblyOf, empty, byValue, inPlace, refused, grownProgress, gatherOf, begunProgress, begunBytes, startOf, continues, joinRules, joinOf, judgedOf, stepOf, lentStepOf};
 
 // How far the pending message has come: 01's assembly without its buffer. Total 0 is no message.
 pub struct Progress {
@@ -138,6 +137,33 @@ pub fn feed_in_place(
     piece: &[u8],
     out: &mut [u8],
 ) -> FedInPlace
+    ensures { λ r. ⌜ r ≡ inPlace (stepOf (assemblyOf progress (now (bytes .entry))) (now (piece .entry)) (length (now (out .entry)))) ⌝ }
+    ensures { λ _. ⌜ now (bytes .exit) ≡ stepOf (assemblyOf progress (now (bytes .entry))) (now (piece .entry)) (length (now (out .entry))) .assembly .bytes ⌝ }
+    ensures { λ _. ⌜ now (out .exit) ≡ over (stepOf (assemblyOf progress (now (bytes .entry))) (now (piece .entry)) (length (now (out .entry))) .information) (now (out .entry)) ⌝ }
+{
+    feed_lent(progress, &mut bytes[..], piece, out)
+}
+
+// The same with a buffer whose length only its caller knows: another one than 4,096 is refused.
+pub fn feed_lent(progress: Progress, bytes: &mut [u8], piece: &[u8], out: &mut [u8]) -> FedInPlace
+    ensures { λ r. ⌜ r ≡ inPlace (lentStepOf progress (now (bytes .entry)) (now (piece .entry)) (length (now (out .entry)))) ⌝ }
+    ensures { λ _. ⌜ now (bytes .exit) ≡ lentStepOf progress (now (bytes .entry)) (now (piece .entry)) (length (now (out .entry))) .assembly .bytes ⌝ }
+    ensures { λ _. ⌜ now (out .exit) ≡ over (lentStepOf progress (now (bytes .entry)) (now (piece .entry)) (length (now (out .entry))) .information) (now (out .entry)) ⌝ }
+{
+    if bytes.len() != MOST_INFORMATION {
+        let progress = Progress::none();
+        let answer = Answer::Refused(Refusal {
+            number: OUTPUT_TOO_SMALL,
+            place: MOST_INFORMATION,
+        });
+        return FedInPlace { progress, answer };
+    }
+    feed_whole(progress, bytes, piece, out)
+}
+
+// The core, on a buffer of 4,096 bytes.
+fn feed_whole(progress: Progress, bytes: &mut [u8], piece: &[u8], out: &mut [u8]) -> FedInPlace
+    requires { ⌜ length (now bytes) ≡ 4096 ⌝ }
     ensures { λ r. ⌜ r ≡ inPlace (stepOf (assemblyOf progress (now (bytes .entry))) (now (piece .entry)) (length (now (out .entry)))) ⌝ }
     ensures { λ _. ⌜ now (bytes .exit) ≡ stepOf (assemblyOf progress (now (bytes .entry))) (now (piece .entry)) (length (now (out .entry))) .assembly .bytes ⌝ }
     ensures { λ _. ⌜ now (out .exit) ≡ over (stepOf (assemblyOf progress (now (bytes .entry))) (now (piece .entry)) (length (now (out .entry))) .information) (now (out .entry)) ⌝ }
@@ -260,11 +286,12 @@ fn begin(header: FragmentHeader, first: FirstHeader) -> Progress
 // The information in `source` joins the message, which then waits or is complete.
 fn gather(
     progress: Progress,
-    bytes: &mut [u8; 4096],
+    bytes: &mut [u8],
     source: &[u8],
     dropped: bool,
     out: &mut [u8],
 ) -> FedInPlace
+    requires { ⌜ length (now bytes) ≡ 4096 ⌝ }
     requires { ⌜ (progress .gathered + length (now source) ≤ progress .«information_length») × (progress .«information_length» ≤ 4096) × (progress .next < progress .total) ⌝ }
     requires { ⌜ (progress .next + 1 ≡ progress .total → progress .gathered + length (now source) ≡ progress .«information_length») ⌝ }
     ensures { λ r. ⌜ r ≡ inPlace (gatherOf (assemblyOf progress (now (bytes .entry))) (now (source .entry)) dropped (length (now (out .entry)))) ⌝ }
@@ -292,27 +319,19 @@ fn gather(
         };
         return FedInPlace { progress, answer };
     }
-    put_in_buffer(bytes, gathered, source);
+    put_bytes(bytes, gathered, source);
     let progress = grow(progress, source.len());
     let answer = Answer::Pending { dropped };
     FedInPlace { progress, answer }
 }
 
 // The first `gathered` bytes of the buffer and then `source`, to the front of `out`.
-fn deliver(bytes: &mut [u8; 4096], gathered: usize, source: &[u8], out: &mut [u8])
-    requires { ⌜ (gathered ≤ 4096) × (gathered + length (now source) ≤ length (now out)) ⌝ }
-    ensures { λ _. ⌜ now (bytes .exit) ≡ now (bytes .entry) ⌝ }
+fn deliver(bytes: &[u8], gathered: usize, source: &[u8], out: &mut [u8])
+    requires { ⌜ (gathered ≤ length (now bytes)) × (gathered + length (now source) ≤ length (now out)) ⌝ }
     ensures { λ _. ⌜ now (out .exit) ≡ over (take gathered (now (bytes .entry)) ++ now (source .entry)) (now (out .entry)) ⌝ }
 {
-    let all = &bytes[..];
-    put_bytes(out, 0, &all[..gathered]);
+    put_bytes(out, 0, &bytes[..gathered]);
     put_bytes(out, gathered, source);
-}
-
-fn put_in_buffer(bytes: &mut [u8; 4096], gathered: usize, source: &[u8])
-    ensures { λ _. ⌜ now (bytes .exit) ≡ sets (now (bytes .entry)) gathered (now (source .entry)) ⌝ }
-{
-    put_bytes(&mut bytes[..], gathered, source);
 }
 
 // One more piece, of n bytes of information.
@@ -330,7 +349,8 @@ fn grow(progress: Progress, n: usize) -> Progress
     }
 }
 
-fn refuse(refusal: Refusal, bytes: &mut [u8; 4096]) -> FedInPlace
+fn refuse(refusal: Refusal, bytes: &mut [u8]) -> FedInPlace
+    requires { ⌜ length (now bytes) ≡ 4096 ⌝ }
     ensures { λ r. ⌜ r ≡ inPlace (refused refusal) ⌝ }
     ensures { λ _. ⌜ now (bytes .exit) ≡ refused refusal .assembly .bytes ⌝ }
 {
@@ -340,7 +360,8 @@ fn refuse(refusal: Refusal, bytes: &mut [u8; 4096]) -> FedInPlace
     FedInPlace { progress, answer }
 }
 
-fn clear_if(dropped: bool, bytes: &mut [u8; 4096])
+fn clear_if(dropped: bool, bytes: &mut [u8])
+    requires { ⌜ length (now bytes) ≡ 4096 ⌝ }
     ensures { λ _. ⌜ now (bytes .exit) ≡ begunBytes dropped (now (bytes .entry)) ⌝ }
 {
     if dropped {
@@ -348,8 +369,13 @@ fn clear_if(dropped: bool, bytes: &mut [u8; 4096])
     }
 }
 
-fn clear(bytes: &mut [u8; 4096])
-    ensures { λ _. ⌜ now (bytes .exit) ≡ zeros ⌝ }
+// Fills the bytes with zeros.
+pub fn clear(bytes: &mut [u8])
+    ensures { λ _. ⌜ now (bytes .exit) ≡ replicate (length (now (bytes .entry))) 0 ⌝ }
 {
-    *bytes = [0; 4096];
+    let mut i: usize = 0;
+    while i < bytes.len() {
+        bytes[i] = 0;
+        i += 1;
+    }
 }

@@ -5,3 +5,5 @@ pub mod Registrations
 pub mod Signals
 pub mod Services
 pub mod Quality
+pub mod Messages
+pub mod Ends

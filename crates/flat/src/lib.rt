@@ -1,5 +1,7 @@
-// Plain structs in C's layout for the payloads' records and answers, and the way from one to the
-// other: one module a payload. Nothing is judged here but the number of a version.
+// Plain structs in C's layout for records and answers, and the way from one to the other: one module
+// a payload or part. Nothing is judged here but the number of a version.
+pub mod ends;
+pub mod messages;
 pub mod packets;
 pub mod quality;
 pub mod registrations;

@@ -6,7 +6,7 @@ use Rattle.assembler.proofs.refuse.Tie as tie
 
 returns : tie.Need-returns
 unfolding empty refused
-returns c = (cc, c .before .clear .ensures)
+returns c = (cc, rw (c .before .before .before .before .before .before .pre) at (c .before .before .before .clear .ensures))
 
 pub refuse-spec : {M : Type 1} → statement M
-refuse-spec = tie.close (tie.spec (λ c. search needs) (λ c. search needs) returns)
+refuse-spec = tie.close (tie.spec (λ c. search needs) (λ c. search needs) (λ c. search needs) returns)

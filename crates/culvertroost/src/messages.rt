@@ -1,0 +1,52 @@
+// Messages, for C: judged whole, cut, and what one shows.
+use cutter::cut;
+use cutter::next_transaction;
+use flat::messages::CutInfo;
+use flat::messages::KindInfo;
+use flat::messages::WholeInfo;
+use flat::messages::cut_info;
+use flat::messages::kind_info;
+use flat::messages::whole_info;
+use message::MessageHeader;
+use message::judge_whole;
+use payload::payload_of;
+ghost use mathlib.Core.Path.{_≡_};
+ghost use Rattle.message.specs.Message.{wholeOf};
+ghost use Rattle.cutter.specs.Cut.{cutOf};
+ghost use Rattle.cutter.specs.Transaction.{nextTransaction};
+ghost use Rattle.payload.specs.Payload.{shownOf};
+ghost use Rattle.flat.specs.Messages.{wholeInfo, cutInfo, kindInfo};
+
+#[no_mangle]
+pub extern "C" fn cvr_message_judge(message: &[u8]) -> WholeInfo
+    ensures { λ r. ⌜ r ≡ wholeInfo (wholeOf (now (message .entry))) ⌝ }
+{
+    whole_info(judge_whole(message))
+}
+
+#[no_mangle]
+pub extern "C" fn cvr_message_cut(
+    message: MessageHeader,
+    size: usize,
+    information: &[u8],
+    out: &mut [u8],
+) -> CutInfo
+    ensures { λ r. ⌜ r ≡ cutInfo (cutOf message size (now (information .entry)) (now (out .entry)) .answer) ⌝ }
+    ensures { λ _. ⌜ now (out .exit) ≡ cutOf message size (now (information .entry)) (now (out .entry)) .output ⌝ }
+{
+    cut_info(cut(message, size, information, out))
+}
+
+#[no_mangle]
+pub extern "C" fn cvr_payload_kind(message: MessageHeader) -> KindInfo
+    ensures { λ r. ⌜ r ≡ kindInfo (shownOf message) ⌝ }
+{
+    kind_info(payload_of(message))
+}
+
+#[no_mangle]
+pub extern "C" fn cvr_transaction_next(transaction: u32) -> u32
+    ensures { λ r. ⌜ r ≡ nextTransaction transaction ⌝ }
+{
+    next_transaction(transaction)
+}

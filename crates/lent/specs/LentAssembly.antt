@@ -1,0 +1,135 @@
+-- The assembly in lent memory (document 01: "the assembly holds 4,096 bytes, all zero when empty"): 48 bytes of numbers, then the 4,096.
+-- In this order: places; which numbers feeding from empty can have left; emptying; feeding.
+use Prim.Native.Nat.{ℕ, _+_}
+use mathlib.Core.Bool.{Bool, not, cond, _&&_}
+use mathlib.Core.List.{List, [], _∷_, _++_}
+use lib.Dec.{ltb, leb, eqb}
+use lib.ListN.{length, take, drop, replicate}
+use Rattle.wire.specs.Numbers.{u32At, digits}
+use Rattle.wire.specs.Runs.{over}
+use Rattle.protocol.specs.Refusal.{refusal, outsideTable, contradiction, outputTooSmall}
+use Rattle.protocol.specs.Verdict.{Rule, rule, judge}
+use Rattle.protocol.specs.Service.{idAt, idBytes}
+use Rattle.protocol.specs.MessageType.{isFragmented}
+use Rattle.protocol.specs.declared.Refusal.{Refusal}
+use Rattle.protocol.specs.declared.Verdict.{Verdict}
+use Rattle.protocol.specs.declared.Verdict.the-variants.{Fits, Fault}
+use Rattle.message.specs.Message.{mostInformation}
+use Rattle.message.specs.declared.MessageHeader.{MessageHeader}
+use Rattle.assembler.specs.Assembly.{assemblyOf, Step, stepOf}
+use Rattle.assembler.specs.declared.Progress.{Progress}
+use Rattle.assembler.specs.declared.Assembly.{Assembly}
+use Rattle.assembler.specs.declared.Answer.{Answer}
+use Rattle.assembler.specs.declared.Answer.the-variants.{Refused}
+
+-- ---- places
+
+abbrev pub assemblySize : ℕ
+assemblySize = 4144
+
+-- type 0, transaction 4, service 8, CID 24, word 28
+unfoldable pub messageIn : List ℕ → MessageHeader
+messageIn m = record {
+  «message_type» = u32At m 0;
+  transaction = u32At m 4;
+  service = idAt m 8;
+  cid = u32At m 24;
+  word = u32At m 28;
+}
+
+-- total 32, expected number 36, declared information 40, gathered 44
+unfoldable pub progressIn : List ℕ → Progress
+progressIn m = record {
+  message = messageIn m;
+  total = u32At m 32;
+  next = u32At m 36;
+  «information_length» = u32At m 40;
+  gathered = u32At m 44;
+}
+
+-- the buffer from 48 on
+abbrev pub bufferIn : List ℕ → List ℕ
+bufferIn m = take 4096 (drop 48 m)
+
+abbrev pub assemblyIn : List ℕ → Assembly
+assemblyIn m = assemblyOf (progressIn m) (bufferIn m)
+
+unfoldable pub messageBytes : MessageHeader → List ℕ
+messageBytes h =
+    digits 4 (h .«message_type») ++ (digits 4 (h .transaction) ++ (idBytes (h .service) ++ (digits 4 (h .cid) ++ digits 4 (h .word))))
+
+unfoldable pub countBytes : Progress → List ℕ
+countBytes p =
+    digits 4 (p .total) ++ (digits 4 (p .next) ++ (digits 4 (p .«information_length») ++ digits 4 (p .gathered)))
+
+unfoldable pub progressBytes : Progress → List ℕ
+progressBytes p = messageBytes (p .message) ++ countBytes p
+
+-- the memory that holds an assembly; what is lent past its end stays as it was
+unfoldable pub held : Assembly → List ℕ → List ℕ
+held a m = over (progressBytes (a .progress) ++ a .bytes) m
+
+-- ---- what feeding from empty can have left: no message, every number 0, or a pending one
+
+-- numbers are 0 exactly when their sum is
+unfoldable pub isNone : Progress → Bool
+isNone p =
+    let h = p .message in
+    eqb (h .service .word0 + h .service .word1 + h .service .word2 + h .service .word3) 0
+    && (eqb (h .«message_type» + h .transaction + h .cid + h .word) 0 && eqb (p .next + p .«information_length» + p .gathered) 0)
+
+abbrev pub pendingRules : Progress → List Rule
+pendingRules p =
+    rule (not (isFragmented (p .message .«message_type»))) outsideTable 0
+    ∷ rule (ltb 128 (p .total)) outsideTable 32
+    ∷ rule (eqb (p .next) 0) outsideTable 36
+    ∷ rule (leb (p .total) (p .next)) outsideTable 36
+    ∷ rule (ltb mostInformation (p .«information_length»)) outsideTable 40
+    ∷ rule (ltb (p .«information_length») (p .gathered)) outsideTable 44
+    ∷ []
+
+unfoldable pub progressVerdict : Progress → Verdict
+progressVerdict p =
+    cond (eqb (p .total) 0) (judge (rule (not (isNone p)) contradiction 32 ∷ [])) (judge (pendingRules p))
+
+-- ---- emptying
+
+abbrev pub tooSmall : Refusal
+tooSmall = refusal outputTooSmall assemblySize
+
+-- 4,144 zeros
+unfoldable pub cleared : List ℕ → List ℕ
+cleared m = over (replicate assemblySize 0) m
+
+pub record Emptied : Type 0 where
+  pub verdict : Verdict
+  pub memory : List ℕ
+
+unfoldable pub emptied : List ℕ → Emptied
+emptied m =
+    cond (ltb (length m) assemblySize) record { verdict = Fault tooSmall; memory = m } record { verdict = Fits; memory = cleared m }
+
+-- ---- feeding the piece s, with room for so many bytes in the output
+
+pub record Feeding : Type 0 where
+  pub memory : List ℕ
+  pub answer : Answer
+  pub information : List ℕ
+
+abbrev pub kept : Step → List ℕ → Feeding
+kept x m = record { memory = held (x .assembly) m; answer = x .answer; information = x .information }
+
+unfoldable pub keptOf : Progress → List ℕ → List ℕ → ℕ → Feeding
+keptOf p m s room = kept (stepOf (assemblyOf p (bufferIn m)) s room) m
+
+-- "a refused fragment leaves an empty assembly"
+abbrev pub refusedIn : Refusal → List ℕ → Feeding
+refusedIn r m = record { memory = m; answer = Refused r; information = [] }
+
+abbrev pub judgedIn : Verdict → Progress → List ℕ → List ℕ → ℕ → Feeding
+judgedIn Fits p m s room = keptOf p m s room
+judgedIn (Fault r) p m s room = refusedIn r (cleared m)
+
+unfoldable pub feedIn : List ℕ → List ℕ → ℕ → Feeding
+feedIn m s room =
+    cond (ltb (length m) assemblySize) (refusedIn tooSmall m) (judgedIn (progressVerdict (progressIn m)) (progressIn m) m s room)

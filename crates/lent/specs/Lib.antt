@@ -1,0 +1,3 @@
+pub mod LentAssembly
+pub mod LentHost
+pub mod LentModem

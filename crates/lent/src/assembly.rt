@@ -1,0 +1,217 @@
+// The assembly in 4,144 bytes: how far the pending message has come in 48, then the 4,096 of its
+// buffer. All zero is the empty assembly.
+use assembler::Answer;
+use assembler::Progress;
+use assembler::clear;
+use assembler::feed_lent;
+use message::MOST_FRAGMENTS;
+use message::MessageHeader;
+use protocol::CONTRADICTION;
+use protocol::MOST_INFORMATION;
+use protocol::OUTPUT_TOO_SMALL;
+use protocol::OUTSIDE_TABLE;
+use protocol::Refusal;
+use protocol::Verdict;
+use protocol::also;
+use protocol::message_type::is_fragmented;
+use protocol::service::id_at;
+use protocol::service::put_id;
+use wire::put_u32;
+use wire::u32_at;
+ghost use mathlib.Core.Path.{_≡_};
+ghost use mathlib.Core.Bool.{not};
+ghost use Prim.Native.Nat.{_≤_};
+ghost use lib.ListN.{length};
+ghost use lib.Seq.{sets};
+ghost use Rattle.wire.specs.Runs.{over};
+ghost use Rattle.protocol.specs.Verdict.{judge};
+ghost use Rattle.lent.specs.LentAssembly.{assemblySize, messageIn, progressIn, messageBytes, countBytes, progressBytes, isNone, pendingRules, progressVerdict, emptied, keptOf, feedIn};
+
+// How many bytes an assembly takes.
+pub const ASSEMBLY_SIZE: usize = 4144;
+
+const MESSAGE_TYPE: usize = 0;
+
+const TRANSACTION: usize = 4;
+
+const SERVICE: usize = 8;
+
+const CID: usize = 24;
+
+const WORD: usize = 28;
+
+const TOTAL: usize = 32;
+
+const NEXT: usize = 36;
+
+const INFORMATION_LENGTH: usize = 40;
+
+const GATHERED: usize = 44;
+
+const BUFFER: usize = 48;
+
+// The verdict on the room for an assembly, which is then empty.
+pub fn empty(memory: &mut [u8]) -> Verdict
+    ensures { λ r. ⌜ r ≡ emptied (now (memory .entry)) .verdict ⌝ }
+    ensures { λ _. ⌜ now (memory .exit) ≡ emptied (now (memory .entry)) .memory ⌝ }
+{
+    if memory.len() < ASSEMBLY_SIZE {
+        return Verdict::Fault(Refusal {
+            number: OUTPUT_TOO_SMALL,
+            place: ASSEMBLY_SIZE,
+        });
+    }
+    clear(&mut memory[..ASSEMBLY_SIZE]);
+    Verdict::Fits
+}
+
+// Feeds one piece to the assembly in the memory.
+pub fn feed(memory: &mut [u8], piece: &[u8], out: &mut [u8]) -> Answer
+    ensures { λ r. ⌜ r ≡ feedIn (now (memory .entry)) (now (piece .entry)) (length (now (out .entry))) .answer ⌝ }
+    ensures { λ _. ⌜ now (memory .exit) ≡ feedIn (now (memory .entry)) (now (piece .entry)) (length (now (out .entry))) .memory ⌝ }
+    ensures { λ _. ⌜ now (out .exit) ≡ over (feedIn (now (memory .entry)) (now (piece .entry)) (length (now (out .entry))) .information) (now (out .entry)) ⌝ }
+{
+    if memory.len() < ASSEMBLY_SIZE {
+        return Answer::Refused(Refusal {
+            number: OUTPUT_TOO_SMALL,
+            place: ASSEMBLY_SIZE,
+        });
+    }
+    let progress = progress_at(memory);
+    match judge_progress(progress) {
+        Verdict::Fits => feed_whole(progress, memory, piece, out),
+        Verdict::Fault(refusal) => {
+            clear(&mut memory[..ASSEMBLY_SIZE]);
+            Answer::Refused(refusal)
+        }
+    }
+}
+
+// Memory that has the room and holds an assembly.
+fn feed_whole(progress: Progress, memory: &mut [u8], piece: &[u8], out: &mut [u8]) -> Answer
+    requires { ⌜ 4144 ≤ length (now memory) ⌝ }
+    ensures { λ r. ⌜ r ≡ keptOf progress (now (memory .entry)) (now (piece .entry)) (length (now (out .entry))) .answer ⌝ }
+    ensures { λ _. ⌜ now (memory .exit) ≡ keptOf progress (now (memory .entry)) (now (piece .entry)) (length (now (out .entry))) .memory ⌝ }
+    ensures { λ _. ⌜ now (out .exit) ≡ over (keptOf progress (now (memory .entry)) (now (piece .entry)) (length (now (out .entry))) .information) (now (out .entry)) ⌝ }
+{
+    let fed = feed_lent(progress, &mut memory[BUFFER..ASSEMBLY_SIZE], piece, out);
+    let next = fed.progress;
+    put_progress(memory, next);
+    fed.answer
+}
+
+fn progress_at(memory: &[u8]) -> Progress
+    ensures { λ r. ⌜ r ≡ progressIn (now (memory .entry)) ⌝ }
+{
+    let message = message_at(memory);
+    Progress {
+        message,
+        total: u32_at(memory, TOTAL),
+        next: u32_at(memory, NEXT),
+        information_length: u32_at(memory, INFORMATION_LENGTH),
+        gathered: u32_at(memory, GATHERED),
+    }
+}
+
+fn message_at(memory: &[u8]) -> MessageHeader
+    ensures { λ r. ⌜ r ≡ messageIn (now (memory .entry)) ⌝ }
+{
+    let service = id_at(memory, SERVICE);
+    MessageHeader {
+        message_type: u32_at(memory, MESSAGE_TYPE),
+        transaction: u32_at(memory, TRANSACTION),
+        service,
+        cid: u32_at(memory, CID),
+        word: u32_at(memory, WORD),
+    }
+}
+
+fn put_progress(memory: &mut [u8], progress: Progress)
+    ensures { λ _. ⌜ now (memory .exit) ≡ sets (now (memory .entry)) 0 (progressBytes progress) ⌝ }
+{
+    let message = progress.message;
+    put_message(memory, message);
+    put_counts(memory, progress);
+}
+
+fn put_message(memory: &mut [u8], message: MessageHeader)
+    ensures { λ _. ⌜ now (memory .exit) ≡ sets (now (memory .entry)) 0 (messageBytes message) ⌝ }
+{
+    let service = message.service;
+    put_u32(memory, MESSAGE_TYPE, message.message_type);
+    put_u32(memory, TRANSACTION, message.transaction);
+    put_id(memory, SERVICE, service);
+    put_u32(memory, CID, message.cid);
+    put_u32(memory, WORD, message.word);
+}
+
+fn put_counts(memory: &mut [u8], progress: Progress)
+    ensures { λ _. ⌜ now (memory .exit) ≡ sets (now (memory .entry)) 32 (countBytes progress) ⌝ }
+{
+    put_u32(memory, TOTAL, progress.total);
+    put_u32(memory, NEXT, progress.next);
+    put_u32(memory, INFORMATION_LENGTH, progress.information_length);
+    put_u32(memory, GATHERED, progress.gathered);
+}
+
+// The verdict on what feeding from empty can have left: no message at all, or one that is pending.
+fn judge_progress(progress: Progress) -> Verdict
+    ensures { λ r. ⌜ r ≡ progressVerdict progress ⌝ }
+{
+    if progress.total == 0 {
+        return also(Verdict::Fits, !is_none(progress), CONTRADICTION, TOTAL);
+    }
+    judge_pending(progress)
+}
+
+fn judge_pending(progress: Progress) -> Verdict
+    ensures { λ r. ⌜ r ≡ judge (pendingRules progress) ⌝ }
+{
+    let typed = also(
+        Verdict::Fits,
+        !is_fragmented(progress.message.message_type),
+        OUTSIDE_TABLE,
+        MESSAGE_TYPE,
+    );
+    let counted = also(typed, MOST_FRAGMENTS < progress.total, OUTSIDE_TABLE, TOTAL);
+    let begun = also(counted, progress.next == 0, OUTSIDE_TABLE, NEXT);
+    let unfinished = also(begun, progress.total <= progress.next, OUTSIDE_TABLE, NEXT);
+    let declared = also(
+        unfinished,
+        MOST_INFORMATION < progress.information_length as usize,
+        OUTSIDE_TABLE,
+        INFORMATION_LENGTH,
+    );
+    also(
+        declared,
+        progress.information_length < progress.gathered,
+        OUTSIDE_TABLE,
+        GATHERED,
+    )
+}
+
+// Whether every number but the total is 0, as then their sums are.
+fn is_none(progress: Progress) -> bool
+    ensures { λ r. ⌜ r ≡ isNone progress ⌝ }
+{
+    let message = progress.message;
+    let service = message.service;
+    let id = service.word0 as u64
+        + service.word1 as u64
+        + service.word2 as u64
+        + service.word3 as u64;
+    let header = message.message_type as u64
+        + message.transaction as u64
+        + message.cid as u64
+        + message.word as u64;
+    let counts = progress.next as u64
+        + progress.information_length as u64
+        + progress.gathered as u64;
+    if id != 0 {
+        return false;
+    }
+    if header != 0 {
+        return false;
+    }
+    counts == 0
+}
