@@ -78,10 +78,11 @@ unfolding hostBytes
 host-fields h t =
     let a = numberOf (h .native) in
     let b = hostNumber (h .stage) in
-    let d = hostVersion (h .stage) in
-    (first a _ (small (h .native)),
+    let d = hostVersion (h .stage) in (
+      first a _ (small (h .native)),
       behind a (digits 2 b ++ (digits 2 d ++ t)) 0 ∙ first b _ (stage-small (h .stage) .0),
-      behind a (digits 2 b ++ (digits 2 d ++ t)) 2 ∙ behind b (digits 2 d ++ t) 0 ∙ first d t (stage-small (h .stage) .1))
+      behind a (digits 2 b ++ (digits 2 d ++ t)) 2 ∙ behind b (digits 2 d ++ t) 0 ∙ first d t (stage-small (h .stage) .1),
+    )
 
 -- the stage and its version are such as the memory may hold, and give the stage back
 host-stage : (s : HostStage)
@@ -134,12 +135,13 @@ modem-fields x t =
     let t₄ = digits 2 f ++ t in
     let t₃ = digits 2 e ++ t₄ in
     let t₂ = digits 2 d ++ t₃ in
-    let t₁ = digits 2 b ++ t₂ in
-    (first a t₁ (small (x .native)),
+    let t₁ = digits 2 b ++ t₂ in (
+      first a t₁ (small (x .native)),
       behind a t₁ 0 ∙ first b t₂ (small (x .advertised)),
       behind a t₁ 2 ∙ behind b t₂ 0 ∙ first d t₃ (flag-small (x .«lists_version»)),
       behind a t₁ 4 ∙ behind b t₂ 2 ∙ behind d t₃ 0 ∙ first e t₄ (modem-small (x .stage) .0),
-      behind a t₁ 6 ∙ behind b t₂ 4 ∙ behind d t₃ 2 ∙ behind e t₄ 0 ∙ first f t (modem-small (x .stage) .1))
+      behind a t₁ 6 ∙ behind b t₂ 4 ∙ behind d t₃ 2 ∙ behind e t₄ 0 ∙ first f t (modem-small (x .stage) .1),
+    )
 
 modem-stage : (s : ModemStage)
     → (ltb 2 (modemNumber s) ≡ false) × (modemWrong (modemNumber s) (modemVersion s) ≡ false) × (modemStageOf (modemNumber s) (versionOf (modemVersion s)) ≡ s)
