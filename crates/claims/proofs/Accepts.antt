@@ -75,12 +75,17 @@ kind-of-carried : (r : Record) (m : MessageHeader) → Carries r m → payloadKi
 unfolding carried
 kind-of-carried r m c = rw (c .service, c .cid) (known-kind r)
 
+has-payload : (m : MessageHeader) → Reply m ⊎ Indication m → isFragmented (carried m .«message_type») ≡ true
+unfolding isFragmented carried
+has-payload m (inl w) = rw (w .done)
+has-payload m (inr w) = rw (w .indicates)
+
 -- the service and the CID are its own, and neither a good reply nor an indication hides its payload
 pub shows : (r : Record) (m : MessageHeader) → Carries r m → shownOf (carried m) ≡ Payload (kindOf r)
 unfolding shownOf shownBy
 shows r m c =
     let k : payloadKind (carried m .service) (carried m .cid) ≡ known.Payload (kindOf r) = kind-of-carried r m c in
-    rw (k, not-hidden m r (c .way))
+    rw (has-payload m (c .way), k, not-hidden m r (c .way))
 
 -- ---- the header's numbers are of their width
 

@@ -2,3 +2,4 @@ pub mod Packets
 pub mod Registrations
 pub mod Signals
 pub mod Ends
+pub mod Claims

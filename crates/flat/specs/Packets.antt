@@ -62,9 +62,10 @@ answerOf (Refused r) = record { refusal = r; info = noInfo }
 
 -- ---- the record that a writer is given, at a version
 
-abbrev pub formOf : Version → PacketServiceInfo → PacketForm
-formOf V1 i = Form1 (i .«highest_available_data_class»)
-formOf V2 i = Form2 (i .«current_data_class») (i .«frequency_range»)
+-- of the members that only one form has, those of the version's
+abbrev pub formOf : Version → ℕ → ℕ → ℕ → PacketForm
+formOf V1 highest current range = Form1 highest
+formOf V2 highest current range = Form2 current range
 
 unfoldable pub recordOf : Version → PacketServiceInfo → PacketService
 recordOf v i = record {
@@ -72,5 +73,5 @@ recordOf v i = record {
   «packet_service_state» = i .«packet_service_state»;
   «uplink_speed» = i .«uplink_speed»;
   «downlink_speed» = i .«downlink_speed»;
-  form = formOf v i;
+  form = formOf v (i .«highest_available_data_class») (i .«current_data_class») (i .«frequency_range»);
 }

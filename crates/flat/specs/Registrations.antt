@@ -59,9 +59,9 @@ answerOf (Refused r) = record { refusal = r; info = noInfo; texts = noTexts }
 
 -- ---- the record that a writer is given, at a version
 
-abbrev pub formOf : Version → RegistrationInfo → RegistrationForm
-formOf V1 i = Form1
-formOf V2 i = Form2 (i .«preferred_data_class»)
+abbrev pub formOf : Version → ℕ → RegistrationForm
+formOf V1 class = Form1
+formOf V2 class = Form2 class
 
 unfoldable pub recordOf : Version → RegistrationInfo → Registration
 recordOf v i = record {
@@ -71,5 +71,5 @@ recordOf v i = record {
   «available_data_class» = i .«available_data_class»;
   «cellular_class» = i .«cellular_class»;
   «registration_flag» = i .«registration_flag»;
-  form = formOf v i;
+  form = formOf v (i .«preferred_data_class»);
 }

@@ -65,7 +65,12 @@ pub fn info_of(fields: PacketService) -> PacketServiceInfo
 pub fn record_of(version: Version, info: PacketServiceInfo) -> PacketService
     ensures { λ r. ⌜ r ≡ recordOf version info ⌝ }
 {
-    let form = form_of(version, info);
+    let form = form_of(
+        version,
+        info.highest_available_data_class,
+        info.current_data_class,
+        info.frequency_range,
+    );
     PacketService {
         nw_error: info.nw_error,
         packet_service_state: info.packet_service_state,
@@ -75,16 +80,16 @@ pub fn record_of(version: Version, info: PacketServiceInfo) -> PacketService
     }
 }
 
-fn form_of(version: Version, info: PacketServiceInfo) -> PacketForm
-    ensures { λ r. ⌜ r ≡ formOf version info ⌝ }
+fn form_of(version: Version, highest: u32, current: u32, range: u32) -> PacketForm
+    ensures { λ r. ⌜ r ≡ formOf version highest current range ⌝ }
 {
     match version {
         Version::V1 => PacketForm::V1 {
-            highest_available_data_class: info.highest_available_data_class,
+            highest_available_data_class: highest,
         },
         Version::V2 => PacketForm::V2 {
-            current_data_class: info.current_data_class,
-            frequency_range: info.frequency_range,
+            current_data_class: current,
+            frequency_range: range,
         },
     }
 }

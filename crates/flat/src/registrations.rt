@@ -77,7 +77,7 @@ pub fn info_of(fields: Registration) -> RegistrationInfo
 pub fn record_of(version: Version, info: RegistrationInfo) -> Registration
     ensures { λ r. ⌜ r ≡ recordOf version info ⌝ }
 {
-    let form = form_of(version, info);
+    let form = form_of(version, info.preferred_data_class);
     Registration {
         nw_error: info.nw_error,
         register_state: info.register_state,
@@ -89,13 +89,13 @@ pub fn record_of(version: Version, info: RegistrationInfo) -> Registration
     }
 }
 
-fn form_of(version: Version, info: RegistrationInfo) -> RegistrationForm
-    ensures { λ r. ⌜ r ≡ formOf version info ⌝ }
+fn form_of(version: Version, preferred_data_class: u32) -> RegistrationForm
+    ensures { λ r. ⌜ r ≡ formOf version «preferred_data_class» ⌝ }
 {
     match version {
         Version::V1 => RegistrationForm::V1,
         Version::V2 => RegistrationForm::V2 {
-            preferred_data_class: info.preferred_data_class,
+            preferred_data_class,
         },
     }
 }

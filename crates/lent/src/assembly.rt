@@ -14,8 +14,7 @@ use protocol::Refusal;
 use protocol::Verdict;
 use protocol::also;
 use protocol::message_type::is_fragmented;
-use protocol::service::id_at;
-use protocol::service::put_id;
+use protocol::service::ServiceId;
 use wire::put_u32;
 use wire::u32_at;
 ghost use mathlib.Core.Path.{_≡_};
@@ -25,6 +24,7 @@ ghost use lib.ListN.{length};
 ghost use lib.Seq.{sets};
 ghost use Rattle.wire.specs.Runs.{over};
 ghost use Rattle.protocol.specs.Verdict.{judge};
+ghost use Rattle.protocol.specs.Service.{idBytes};
 ghost use Rattle.lent.specs.LentAssembly.{assemblySize, messageIn, progressIn, messageBytes, countBytes, progressBytes, isNone, pendingRules, progressVerdict, emptied, keptOf, feedIn};
 
 // How many bytes an assembly takes.
@@ -116,7 +116,12 @@ fn progress_at(memory: &[u8]) -> Progress
 fn message_at(memory: &[u8]) -> MessageHeader
     ensures { λ r. ⌜ r ≡ messageIn (now (memory .entry)) ⌝ }
 {
-    let service = id_at(memory, SERVICE);
+    let service = ServiceId {
+        word0: u32_at(memory, SERVICE),
+        word1: u32_at(memory, SERVICE + 4),
+        word2: u32_at(memory, SERVICE + 8),
+        word3: u32_at(memory, SERVICE + 12),
+    };
     MessageHeader {
         message_type: u32_at(memory, MESSAGE_TYPE),
         transaction: u32_at(memory, TRANSACTION),
@@ -140,9 +145,18 @@ fn put_message(memory: &mut [u8], message: MessageHeader)
     let service = message.service;
     put_u32(memory, MESSAGE_TYPE, message.message_type);
     put_u32(memory, TRANSACTION, message.transaction);
-    put_id(memory, SERVICE, service);
+    put_service(memory, service);
     put_u32(memory, CID, message.cid);
     put_u32(memory, WORD, message.word);
+}
+
+fn put_service(memory: &mut [u8], service: ServiceId)
+    ensures { λ _. ⌜ now (memory .exit) ≡ sets (now (memory .entry)) 8 (idBytes service) ⌝ }
+{
+    put_u32(memory, SERVICE, service.word0);
+    put_u32(memory, SERVICE + 4, service.word1);
+    put_u32(memory, SERVICE + 8, service.word2);
+    put_u32(memory, SERVICE + 12, service.word3);
 }
 
 fn put_counts(memory: &mut [u8], progress: Progress)

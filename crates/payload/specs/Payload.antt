@@ -2,7 +2,8 @@
 -- from it", and "a DONE with status other than 0, and a COMMAND other than VERSION, show no payload".
 use mathlib.Core.Bool.{Bool, true, false, not, cond}
 use lib.Dec.{eqb}
-use Rattle.protocol.specs.MessageType.{COMMAND, COMMAND-DONE}
+use Rattle.protocol.specs.Refusal.{refusal, unknown}
+use Rattle.protocol.specs.MessageType.{COMMAND, COMMAND-DONE, isFragmented}
 use Rattle.protocol.specs.Service.{kindOf}
 use Rattle.protocol.specs.declared.service.Kind.{Kind}
 use Rattle.protocol.specs.declared.service.Kind.the-variants.{RegisterState, PacketService, SignalState, DeviceServices, VersionInfo}
@@ -28,5 +29,7 @@ unfoldable pub shownBy : MessageHeader → Carried → Shown
 shownBy m (carried.Refused r) = Refused r
 shownBy m (carried.Payload k) = cond (hides m k) NoPayload (Payload k)
 
+-- a type that has no service is "unknown message type", 3 at 0
 unfoldable pub shownOf : MessageHeader → Shown
-shownOf m = shownBy m (kindOf (m .service) (m .cid))
+shownOf m =
+    cond (isFragmented (m .«message_type»)) (shownBy m (kindOf (m .service) (m .cid))) (Refused (refusal unknown 0))

@@ -2,15 +2,18 @@
 // its reader chooses.
 use message::MessageHeader;
 use protocol::Refusal;
+use protocol::UNKNOWN;
 use protocol::message_type::COMMAND;
 use protocol::message_type::COMMAND_DONE;
+use protocol::message_type::is_fragmented;
 use protocol::service::Carried;
 use protocol::service::Kind;
 use protocol::service::kind_of;
 ghost use mathlib.Core.Path.{_≡_};
-ghost use Rattle.payload.specs.Payload.{isVersion, hides, shownOf};
+ghost use Rattle.protocol.specs.Service.{kindOf};
+ghost use Rattle.payload.specs.Payload.{isVersion, hides, shownBy, shownOf};
 
-// What a message shows: a payload of some kind, none, or the refusal of its service or CID.
+// What a message shows: a payload of some kind, none, or the refusal of its type, service or CID.
 pub enum Shown {
     Payload(Kind),
     NoPayload,
@@ -19,6 +22,19 @@ pub enum Shown {
 
 pub fn payload_of(message: MessageHeader) -> Shown
     ensures { λ r. ⌜ r ≡ shownOf message ⌝ }
+{
+    if !is_fragmented(message.message_type) {
+        return Shown::Refused(Refusal {
+            number: UNKNOWN,
+            place: 0,
+        });
+    }
+    shown_by_kind(message)
+}
+
+// A message that has a service and a CID.
+fn shown_by_kind(message: MessageHeader) -> Shown
+    ensures { λ r. ⌜ r ≡ shownBy message (kindOf (message .service) (message .cid)) ⌝ }
 {
     let service = message.service;
     match kind_of(service, message.cid) {

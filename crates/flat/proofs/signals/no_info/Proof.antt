@@ -1,5 +1,4 @@
 -- All members 0.
-use borrow.Author.Needs.{needs}
 use mathlib.Core.Path.{refl}
 use Rattle.flat.specs.Signals.{noInfo}
 use Rattle.flat.proofs.signals.no_info.Statement.{statement}

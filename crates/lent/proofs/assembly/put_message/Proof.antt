@@ -20,7 +20,7 @@ returns c =
     let d = idBytes (h .service) in
     let e = digits 4 (h .cid) in
     let two : _ ≡ sets s 0 (a ++ b) = sets-then a b 0 4 s refl (c .before .before .before .before .before .before .before .before .before .before .before .before .before .before .before .before .before .before .put-u32 .ensures) (c .before .before .before .before .before .before .before .before .before .before .before .before .before .before .put-u322 .ensures) in
-    let three : _ ≡ sets s 0 (a ++ b ++ d) = sets-then (a ++ b) d 0 8 s refl two (c .before .before .before .before .before .before .before .before .before .before .put-id .ensures) in
+    let three : _ ≡ sets s 0 (a ++ b ++ d) = sets-then (a ++ b) d 0 8 s refl two (c .before .before .before .before .before .before .before .before .before .before .put-service .ensures) in
     let four : _ ≡ sets s 0 (a ++ b ++ d ++ e) = sets-then (a ++ b ++ d) e 0 24 s refl three (c .before .before .before .before .before .before .put-u323 .ensures) in
     sets-then (a ++ b ++ d ++ e) (digits 4 (h .word)) 0 28 s refl four (c .before .before .put-u324 .ensures)
 
