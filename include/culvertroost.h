@@ -469,8 +469,8 @@ cvr_whole_answer cvr_message_judge(const uint8_t *message, size_t length);
 cvr_cut_answer cvr_message_cut(cvr_message_header message, size_t size,
                                const uint8_t *information, size_t length, uint8_t *out, size_t room);
 
-/* Judges service and CID and says which payload the message's information is. A failed reply, and a
- * command other than VERSION, show none. */
+/* Judges the message type, the service and the CID, and says which payload the message's information
+ * is. A failed reply, and a command other than VERSION, show none. */
 cvr_kind_answer cvr_payload_kind(cvr_message_header message);
 
 /* The transaction number after this one: 0 is left out. */

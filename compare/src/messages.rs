@@ -25,9 +25,11 @@ pub fn whole(sides: &mut Sides, random: &mut Random) {
     sides.ask(q::WHOLE_MESSAGE, &[], &message);
 }
 
-/// Only the types that an assembled message can have: of others 01 says nothing.
 pub fn kind(sides: &mut Sides, random: &mut Random) {
-    let message_type = random.pick(&FRAGMENTED).into();
+    let message_type = match random.below(6) {
+        0 => random.mostly(&TYPES),
+        _ => random.pick(&FRAGMENTED).into(),
+    };
     let arguments = [message_type, random.mostly(&CIDS), random.mostly(&[0, 0, 1, 9])];
     sides.ask(q::PAYLOAD_KIND, &arguments, &service(random));
     sides.ask(q::NEXT_TRANSACTION, &[random.hostile().into()], &[]);

@@ -28,29 +28,54 @@ fn cid_count(random: &mut Random) -> u64 {
     }
 }
 
-/// Arguments and services of a list to be written, and the room that it wants.
-fn list(random: &mut Random) -> (Vec<u64>, Vec<u8>, usize) {
+const MOST_INFORMATION: u64 = 4096;
+
+/// The bytes of an element and its pair.
+fn size(cid_count: u64) -> u64 {
+    36 + 4 * cid_count.min(128)
+}
+
+/// The CID counts of a list: few, up to the most elements, or as many as a payload can hold.
+fn cid_counts(random: &mut Random) -> Vec<u64> {
     let count = match random.below(16) {
-        0 => random.mostly(&[31, 32, 32, 33]),
-        1 => random.below(33) as u64,
-        _ => random.below(5) as u64,
+        0 => return full(random),
+        1 => random.pick(&[31, 32, 32]),
+        2 => random.below(33),
+        _ => random.below(5),
     };
-    let mut arguments = vec![count, random.hostile().into()];
-    let mut services = Vec::new();
-    let mut room = 8;
-    for _ in 0..count.min(32) {
-        let cid_count = cid_count(random);
-        arguments.extend([random.hostile().into(), random.hostile().into(), cid_count]);
-        arguments.extend((0..cid_count.min(128)).map(|_| u64::from(cid(random))));
-        services.extend(service(random));
-        room += 36 + 4 * cid_count.min(128) as usize;
+    (0..count).map(|_| cid_count(random)).collect()
+}
+
+/// CID counts whose list is a little shorter or longer than a payload may be, or just as long.
+fn full(random: &mut Random) -> Vec<u64> {
+    let mut counts = Vec::new();
+    let mut left = MOST_INFORMATION - 8;
+    while left > size(128) {
+        let count = 64 + random.below(65) as u64;
+        counts.push(count);
+        left -= size(count);
     }
-    (arguments, services, room)
+    counts.push((left.saturating_sub(size(0)) / 4 + random.below(3) as u64).saturating_sub(1));
+    counts
+}
+
+/// Arguments and services of a list to be written, and the bytes that it takes.
+fn list(random: &mut Random) -> (Vec<u64>, Vec<u8>, u64) {
+    let counts = cid_counts(random);
+    let count = if random.once_in(40) { random.hostile().max(33) } else { counts.len() as u32 };
+    let mut arguments = vec![count.into(), random.hostile().into()];
+    let mut services = Vec::new();
+    for cid_count in &counts {
+        arguments.extend([random.hostile().into(), random.hostile().into(), *cid_count]);
+        arguments.extend((0..*cid_count.min(&128)).map(|_| u64::from(cid(random))));
+        services.extend(service(random));
+    }
+    (arguments, services, 8 + counts.iter().map(|count| size(*count)).sum::<u64>())
 }
 
 pub fn services(sides: &mut Sides, random: &mut Random) {
     let (arguments, services, length) = list(random);
-    let room = random.room(length.min(5000));
+    let room = random.room(length.min(5000) as usize);
     let payload = written(sides, q::SERVICES_WRITE, room, &arguments, &services);
     let payload = if random.once_in(2) { scattered(random) } else { payload };
     for _ in 0..3 {
