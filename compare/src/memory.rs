@@ -54,6 +54,15 @@ fn refusal_in<T: Refusable>(answer: T) -> Outcome {
     }
 }
 
+/// Bad memory gives its refusal; good memory gives none by 9 or 10, which nothing else here brings.
+fn need_refusal(refused: Option<Refusal>, expected: Option<Refusal>) -> Result<(), &'static str> {
+    if expected.is_some() {
+        return need(refused == expected, "another refusal");
+    }
+    let of_memory = |refusal: Refusal| matches!(refusal.number, 9 | 10);
+    need(!refused.is_some_and(of_memory), "good memory refused")
+}
+
 fn need(holds: bool, what: &'static str) -> Result<(), &'static str> {
     holds.then_some(()).ok_or(what)
 }
@@ -96,11 +105,13 @@ fn assembly_refusal(memory: &[u8]) -> Option<Refusal> {
 fn assembly_memory(random: &mut Random) -> Vec<u8> {
     let size = size(random, ASSEMBLY_SIZE);
     let mut memory = if random.once_in(3) { vec![0; size] } else { random.bytes(size) };
-    if random.once_in(6) {
-        return memory;
+    match random.below(12) {
+        0 => return memory,
+        1 => return nearly_empty(random, size),
+        _ => {}
     }
     let types = [COMMAND, COMMAND_DONE, INDICATE_STATUS];
-    let declared = random.mostly(&[0, 10, 100, 4095, 4096]) as u32;
+    let declared = random.mostly(&[0, 10, 100, 4096, 4096]) as u32;
     let fields = [
         (0, random.mostly(&types) as u32),
         (4, 7),
@@ -110,6 +121,15 @@ fn assembly_memory(random: &mut Random) -> Vec<u8> {
         (44, random.mostly(&[0, declared / 2, declared]) as u32),
     ];
     fields.iter().for_each(|(at, word)| put(&mut memory, *at, *word));
+    memory
+}
+
+/// All zero, but for one byte of how far a message has come.
+fn nearly_empty(random: &mut Random, size: usize) -> Vec<u8> {
+    let mut memory = vec![0; size];
+    if let Some(byte) = memory.get_mut(random.below(48)) {
+        *byte = 1 << random.below(8);
+    }
     memory
 }
 
@@ -147,8 +167,7 @@ fn assembly(random: &mut Random) -> Outcome {
     need(memory.guards_hold(), "bytes beside the memory touched")?;
     need(out.holds_past(answer.length), "output touched")?;
     let refused = refusal_in(answer)?;
-    let expected = assembly_refusal(&before);
-    need(expected.is_none() || refused == expected, "another refusal")?;
+    need_refusal(refused, assembly_refusal(&before))?;
     if refused.is_some() || answer.complete == 1 {
         left_by_refusal(&before, memory.bytes())?;
     } else {
@@ -293,7 +312,7 @@ fn left_by_end(
     (size, judge): End,
 ) -> Outcome {
     need(after.guards_hold(), "bytes beside the memory touched")?;
-    need(expected.is_none() || refused == expected, "another refusal")?;
+    need_refusal(refused, expected)?;
     if refused.is_some() {
         need(after.bytes() == before, "memory touched by a refused call")?;
         return Ok(refused);
