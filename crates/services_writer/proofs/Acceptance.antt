@@ -31,7 +31,7 @@ said-writable : (p : ServiceList) → Writable p → writtenVerdict p ≡ Fits
 unfolding writtenVerdict faultIf firstOf
 said-writable p w =
     let sizes : firstFault (sizeVerdict p) (p .«device_services_count») ≡ Fits =
-        each-fits (sizeVerdict p) (p .«device_services_count») (λ i l. fits i (w .each i l)) in
+    each-fits (sizeVerdict p) (p .«device_services_count») (λ i l. fits i (w .each i l)) in
     rw (le-ltb 32 (p .«device_services_count») (w .few), sizes, le-ltb 4096 (lengthOf p) (w .short))
   where
     fits : (i : ℕ) → elementOf p i .fields .«cid_count» ≤ 128 → sizeVerdict p i ≡ Fits
