@@ -1,3 +1,4 @@
 pub mod Laws
 pub mod View
+pub mod Left
 pub mod Clean

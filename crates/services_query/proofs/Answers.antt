@@ -17,6 +17,7 @@ use Rattle.below.proofs.Laws.{some-of, each-none, any-at, index-at, index-none}
 use Rattle.device_services.specs.DeviceServices.{countOf, offsetOf, cidCountAt, elementAt, verdictOf}
 use Rattle.services_query.specs.declared.ElementAnswer.the-variants.{NotListed}
 use Rattle.services_query.specs.declared.ListedAnswer.the-variants.{Listed}
+use Rattle.services_query.specs.declared.ListedAnswer.the-variants as list
 use Rattle.services_query.specs.ServicesQuery.{isOf, isCid, hasCid, holds, plain, elementShown, chosenShown, elementOf, cidsOf, told, listedOf}
 use Rattle.services_query.specs.Claims.{Serves, Held, First}
 
@@ -57,6 +58,27 @@ listed-exactly s service cid = (
   λ e. let d = told-listed (verdictOf s) (anyOf (holds s service cid) (countOf s)) e in (d .0, held-said s service cid (d .1)),
   λ k. rw (k .0, said-held s service cid (k .1)),
 )
+
+told-not : (d : Verdict) (b : Bool) → told d b ≡ list.NotListed → (d ≡ Fits) × (b ≡ false)
+told-not Fits true e = let z : _≡_ {A = ℕ} 0 1 = cc in absurd (omega arith)
+told-not Fits false e = (refl, refl)
+told-not (Fault r) b e = let z : _≡_ {A = ℕ} 0 1 = cc in absurd (omega arith)
+
+-- not listed exactly when the list is accepted and none of its elements holds both
+pub not-listed-exactly : (s : List ℕ) (service : ServiceId) (cid : ℕ) → (listedOf s service cid ≡ list.NotListed) ↔ ((verdictOf s ≡ Fits) × (Held s service cid → ⊥))
+unfolding listedOf
+not-listed-exactly s service cid = (
+  λ e. let d = told-not (verdictOf s) (anyOf (holds s service cid) (countOf s)) e in (d .0, λ h. let y = said-held s service cid h in let z : _≡_ {A = Bool} true false = cc in apart z),
+  λ k. none (anyOf (holds s service cid) (countOf s)) refl (k .0) (k .1),
+)
+  where
+    apart : _≡_ {A = Bool} true false → ⊥
+    apart e = let z : _≡_ {A = ℕ} 0 1 = cc in absurd (omega arith)
+
+    none : (b : Bool) → anyOf (holds s service cid) (countOf s) ≡ b → verdictOf s ≡ Fits → (Held s service cid → ⊥)
+        → told (verdictOf s) (anyOf (holds s service cid) (countOf s)) ≡ list.NotListed
+    none true e f h = absurd (h (held-said s service cid e))
+    none false e f h = rw (f, e)
 
 -- ---- an element
 

@@ -1,1 +1,2 @@
 pub mod ServicesWriter
+pub mod Claims

@@ -1,0 +1,65 @@
+-- When lent memory holds an assembly (document 01: "each feed gets the assembly .. as the one before left it, changed by nothing else").
+-- In this order: numbers of 32 bits; the memory that holds an assembly; a run in memory, and what is claimed of it.
+use Prim.Native.Nat.{ℕ, _≤_, _<_, _^_}
+use mathlib.Core.Path.{_≡_}
+use mathlib.Core.List.{List, [], _∷_}
+use lib.ListN.{length, getD}
+use Rattle.protocol.specs.declared.Verdict.the-variants.{Fits}
+use Rattle.assembler.specs.Assembly.{empty}
+use Rattle.assembler.specs.Run.{Piece, Seen, runOf}
+use Rattle.assembler.specs.declared.Progress.{Progress}
+use Rattle.assembler.specs.declared.Assembly.{Assembly}
+use Rattle.lent.specs.LentAssembly.{assemblySize, progressIn, bufferIn, progressVerdict, emptied, Feeding, feedIn}
+
+-- ---- numbers of 32 bits
+
+abbrev pub wordsOf : Progress → List ℕ
+wordsOf p =
+    p .message .«message_type» ∷ p .message .transaction
+    ∷ p .message .service .word0 ∷ p .message .service .word1 ∷ p .message .service .word2 ∷ p .message .service .word3
+    ∷ p .message .cid ∷ p .message .word ∷ p .total ∷ p .next ∷ p .«information_length» ∷ p .gathered ∷ []
+
+abbrev pub Each32 : List ℕ → Type 0
+Each32 [] = Unit
+Each32 (x ∷ xs) = (x < 2 ^ 32) × Each32 xs
+
+-- a list of bytes
+abbrev pub Bytes : List ℕ → Type 0
+Bytes s = (i : ℕ) → getD s i 0 < 256
+
+-- ---- the memory m holds the assembly a, one that the next call takes
+
+pub record Holds (m : List ℕ) (a : Assembly) : Type 0 where
+  pub room : assemblySize ≤ length m
+  pub numbers : progressIn m ≡ a .progress
+  pub buffer : bufferIn m ≡ a .bytes
+  pub fits : progressVerdict (a .progress) ≡ Fits
+  pub small : Each32 (wordsOf (a .progress))
+
+-- ---- a run in memory
+
+abbrev pub seenIn : Feeding → Seen
+seenIn f = record { answer = f .answer; information = f .information }
+
+pub record MemoryRun : Type 0 where
+  pub seen : List Seen
+  pub memory : List ℕ
+
+abbrev pub andThenIn : Feeding → MemoryRun → MemoryRun
+andThenIn f r = record { seen = seenIn f ∷ r .seen; memory = r .memory }
+
+unfoldable pub runIn : List ℕ → List Piece → MemoryRun
+runIn m [] = record { seen = []; memory = m }
+runIn m (p ∷ ps) = andThenIn (feedIn m (p .bytes) (p .room)) (runIn (feedIn m (p .bytes) (p .room) .memory) ps)
+
+abbrev pub AllBytes : List Piece → Type 0
+AllBytes [] = Unit
+AllBytes (p ∷ ps) = Bytes (p .bytes) × AllBytes ps
+
+-- whatever is fed to emptied memory is answered as by value from the empty assembly, and the memory holds what that run leaves
+pub record AsByValue (m : List ℕ) (ps : List Piece) : Type 0 where
+  pub seen : runIn (emptied m .memory) ps .seen ≡ runOf empty ps .seen
+  pub held : Holds (runIn (emptied m .memory) ps .memory) (runOf empty ps .end)
+
+abbrev pub MemoryServes : Type 0
+MemoryServes = (m : List ℕ) → assemblySize ≤ length m → (ps : List Piece) → AllBytes ps → AsByValue m ps
