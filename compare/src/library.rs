@@ -1,4 +1,4 @@
-//! The questions of second/INTERFACE.md, answered by the static library. Outputs are filled first,
+//! The questions of docs/samples.md, answered by the static library. Outputs are filled first,
 //! and what must stay untouched is looked at; so is every member beside a refusal.
 
 use crate::lent::{Lent, FILL};

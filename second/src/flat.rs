@@ -1,4 +1,4 @@
-//! Questions and answers as numbers and bytes, as INTERFACE.md has them.
+//! Questions and answers as numbers and bytes, as docs/samples.md has them.
 //! Lent outputs are filled with one byte first, and what must stay untouched is checked.
 
 use crate::assembler::{Answer as Fed, Assembler};
