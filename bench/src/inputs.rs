@@ -1,0 +1,123 @@
+//! What is read, written, fed and cut: one good payload of each kind, and messages of the second
+//! program's making.
+
+use crate::plain;
+use culvertroost::c;
+use second::registration::Registration;
+use second::signal_state::RsrpSnr;
+
+/// Transfer sizes.
+pub const TRANSFERS: [usize; 3] = [64, 512, 4096];
+
+pub struct Inputs {
+    pub version: Vec<u8>,
+    pub packet: Vec<u8>,
+    pub registration: Vec<u8>,
+    pub signal: Vec<u8>,
+    pub services: Vec<u8>,
+    pub last_service: [u8; 16],
+}
+
+fn words(numbers: &[u32]) -> Vec<u8> {
+    numbers.iter().flat_map(|number| number.to_le_bytes()).collect()
+}
+
+/// 16 entries with known readings.
+pub fn entries() -> [RsrpSnr; 16] {
+    [RsrpSnr { rsrp: 60, snr: 50, rsrp_threshold: 0, snr_threshold: 0, system_type: 0x20 }; 16]
+}
+
+/// The CIDs of each element.
+pub fn cids() -> [u32; 8] {
+    [1, 2, 3, 4, 5, 6, 7, 8]
+}
+
+pub fn header() -> c::MessageHeader {
+    c::MessageHeader {
+        message_type: 3,
+        transaction: 1,
+        service: c::service_id(&[7; 16]),
+        cid: 16,
+        word: 0,
+    }
+}
+
+/// What a writer of the second program gives.
+fn written(write: impl Fn(&mut [u8]) -> Result<usize, second::refusal::Refusal>) -> Vec<u8> {
+    let mut out = vec![0u8; 4096];
+    let length = write(&mut out).expect("a record within the tables");
+    out.truncate(length);
+    out
+}
+
+impl Inputs {
+    pub fn new() -> Inputs {
+        let inputs = Inputs {
+            version: vec![0, 1, 0, 2],
+            packet: words(&[0, 2, 0x40, 50_000_000, 0, 150_000_000, 0, 1]),
+            registration: written(|out| plain::registration_write(&registration_record(), out)),
+            signal: written(|out| plain::signal_write(&entries(), out)),
+            services: written(|out| plain::services_write(&cids(), out)),
+            last_service: [8; 16],
+        };
+        inputs.check();
+        inputs
+    }
+
+    /// Nothing that is measured is a refusal.
+    fn check(&self) {
+        assert_eq!(c::version_info_read(&self.version).refusal.number, 0);
+        assert_eq!(c::packet_service_read(0x0200, &self.packet).refusal.number, 0);
+        assert_eq!(c::registration_read(0x0200, &self.registration).refusal.number, 0);
+        assert_eq!(c::signal_state_read(0x0200, &self.signal).refusal.number, 0);
+        let id = c::service_id(&self.last_service);
+        assert_eq!(c::device_services_listed(&self.services, id, 8).listed, 1);
+    }
+
+    /// The information of a message: at most 128 fragments carry it.
+    pub fn information(&self, size: usize) -> Vec<u8> {
+        vec![5; if size == TRANSFERS[2] { 4048 } else { 4000 }]
+    }
+
+    /// The fragments of a message, as the second program cuts it.
+    pub fn pieces(&self, size: usize) -> Vec<Vec<u8>> {
+        let mut stream = vec![0u8; 8192];
+        let (_, length) = plain::cut(size, &self.information(size), &mut stream)
+            .expect("a message within the limits");
+        stream[..length].chunks(size).map(<[u8]>::to_vec).collect()
+    }
+}
+
+/// The record of `registration`.
+pub fn registration_record() -> Registration<&'static [u8]> {
+    Registration {
+        nw_error: 0,
+        register_state: 3,
+        register_mode: 1,
+        available_data_class: 0x20,
+        cellular_class: 1,
+        provider_id: &[1; 10],
+        provider_name: &[2; 40],
+        roaming_text: &[3; 126],
+        registration_flag: 0,
+        preferred_data_class: Some(0x20),
+    }
+}
+
+/// The list of `services`, as the library's writer takes it.
+pub fn service_list() -> c::ServiceList {
+    let fields = |number: u8| c::DeviceService {
+        device_service_id: c::service_id(&[number; 16]),
+        dss_payload: 0,
+        max_dss_instances: 0,
+        cid_count: 8,
+    };
+    let mut all = [0; c::MOST_CIDS];
+    all[..8].copy_from_slice(&cids());
+    let mut number = 0;
+    let elements = [(); c::MOST_SERVICES].map(|()| {
+        number += 1;
+        c::ServiceElement { fields: fields(number), cids: all }
+    });
+    c::ServiceList { device_services_count: 8, max_dss_sessions: 0, elements }
+}

@@ -1,0 +1,125 @@
+//! The second program's side: each call gives what the library's gives, as a value of its own, and
+//! none is inlined into the loop that measures it.
+
+use second::assembler::{Answer, Assembler};
+use second::device_services::{self, Element};
+use second::message::Header;
+use second::packet_service::{self, PacketService};
+use second::refusal::Refusal;
+use second::registration::{self, Range, Registration};
+use second::signal_state::{self, RsrpSnr, SignalState};
+use second::version::Version;
+use second::{cutter, version_info};
+
+/// A loop that only copies.
+#[inline(never)]
+pub fn copy(source: &[u8], target: &mut [u8]) {
+    for (to, from) in target.iter_mut().zip(source) {
+        *to = *from;
+    }
+}
+
+#[inline(never)]
+pub fn version_read(payload: &[u8]) -> Result<Version, Refusal> {
+    version_info::read(payload)
+}
+
+#[inline(never)]
+pub fn version_write(mbim: u16, extension: u16, out: &mut [u8]) -> Result<usize, Refusal> {
+    version_info::write(mbim, extension, out)
+}
+
+#[inline(never)]
+pub fn packet_read(version: u16, payload: &[u8]) -> Result<PacketService, Refusal> {
+    packet_service::read(Version::from_bcd(version)?, payload)
+}
+
+#[inline(never)]
+pub fn packet_write(record: &PacketService, out: &mut [u8]) -> Result<usize, Refusal> {
+    packet_service::write(record, out)
+}
+
+#[inline(never)]
+pub fn registration_read(version: u16, payload: &[u8]) -> Result<Registration<Range>, Refusal> {
+    registration::read(Version::from_bcd(version)?, payload)
+}
+
+#[inline(never)]
+pub fn registration_write(record: &Registration<&[u8]>, out: &mut [u8]) -> Result<usize, Refusal> {
+    registration::write(record, out)
+}
+
+/// A signal record with its entries copied out of the payload.
+#[allow(dead_code)]
+pub struct Signal {
+    pub numbers: [u32; 5],
+    pub count: usize,
+    pub entries: [RsrpSnr; 16],
+}
+
+#[inline(never)]
+pub fn signal_read(version: u16, payload: &[u8]) -> Result<Signal, Refusal> {
+    let shown = signal_state::read(Version::from_bcd(version)?, payload)?;
+    let numbers = [
+        shown.rssi,
+        shown.error_rate,
+        shown.signal_strength_interval,
+        shown.rssi_threshold,
+        shown.error_rate_threshold,
+    ];
+    let mut signal = Signal { numbers, count: 0, entries: [RsrpSnr::default(); 16] };
+    if let Some(list) = &shown.rsrp_snr {
+        signal.count = list.count();
+        for (place, entry) in signal.entries.iter_mut().zip(list.iter()) {
+            *place = entry;
+        }
+    }
+    Ok(signal)
+}
+
+#[inline(never)]
+pub fn signal_write(entries: &[RsrpSnr], out: &mut [u8]) -> Result<usize, Refusal> {
+    let record = SignalState {
+        rssi: 99,
+        error_rate: 99,
+        signal_strength_interval: 5,
+        rssi_threshold: 0,
+        error_rate_threshold: 0,
+        rsrp_snr: Some(entries),
+    };
+    signal_state::write(&record, out)
+}
+
+#[inline(never)]
+pub fn services_read(payload: &[u8]) -> Result<[u32; 2], Refusal> {
+    let list = device_services::read(payload)?;
+    Ok([list.count() as u32, list.max_dss_sessions()])
+}
+
+#[inline(never)]
+pub fn listed(payload: &[u8], service: &[u8; 16], cid: u32) -> Result<bool, Refusal> {
+    device_services::listed(payload, service, cid)
+}
+
+/// A list of 8 elements with the same CIDs.
+#[inline(never)]
+pub fn services_write(cids: &[u32], out: &mut [u8]) -> Result<usize, Refusal> {
+    let element = |number| Element {
+        device_service_id: [number; 16],
+        dss_payload: 0,
+        max_dss_instances: 0,
+        cids,
+    };
+    device_services::write(0, &[1, 2, 3, 4, 5, 6, 7, 8].map(element), out)
+}
+
+#[inline(never)]
+pub fn feed(assembler: &mut Assembler, piece: &[u8], out: &mut [u8]) -> Answer {
+    assembler.feed(piece, out)
+}
+
+#[inline(never)]
+pub fn cut(size: usize, information: &[u8], out: &mut [u8]) -> Result<(u32, usize), Refusal> {
+    let header = Header { message_type: 3, transaction: 1, service: [7; 16], cid: 16, word: 0 };
+    cutter::cut(&header, size, information, out)
+}

@@ -1,0 +1,158 @@
+/* How much stack the library's functions need: each is run on a painted stack of its own, and the
+ * deepest byte that changed tells. The frame of its caller here, with what passes by value, counts;
+ * that of an idle function, shown first, does not. */
+#include "culvertroost.h"
+
+#include <stdio.h>
+#include <string.h>
+#include <ucontext.h>
+
+enum { STACK = 262144, PAINT = 0xA5 };
+
+static uint8_t stack[STACK];
+static ucontext_t here, there;
+
+static uint8_t payload[4096], out[8192], memory[CVR_ASSEMBLY_SIZE];
+static uint8_t host[CVR_HOST_SIZE], modem[CVR_MODEM_SIZE];
+static uint32_t cids[CVR_MOST_CIDS];
+static size_t length;
+static cvr_service_list list;
+static cvr_message_header message;
+static cvr_signal_state signal_state;
+static cvr_registration registration;
+static cvr_packet_service packet_service;
+static volatile uint32_t seen;
+
+static void idle(void) { seen = 0; }
+
+static void packet_service_read(void) {
+    seen = cvr_packet_service_read(CVR_VERSION_2_00, payload, length).refusal.number;
+}
+
+static void packet_service_write(void) {
+    seen = cvr_packet_service_write(packet_service, out, sizeof out).refusal.number;
+}
+
+static void registration_read(void) {
+    seen = cvr_registration_read(CVR_VERSION_2_00, payload, length).refusal.number;
+}
+
+static void registration_write(void) {
+    seen = cvr_registration_write(registration, payload, 10, payload, 40, payload, 126, out, sizeof out).refusal.number;
+}
+
+static void signal_state_read(void) {
+    seen = cvr_signal_state_read(CVR_VERSION_2_00, payload, length).refusal.number;
+}
+
+static void signal_state_write(void) {
+    seen = cvr_signal_state_write(signal_state, out, sizeof out).refusal.number;
+}
+
+static void device_services_cids(void) {
+    cvr_service service = CVR_EXTENSIONS;
+    seen = cvr_device_services_cids(payload, length, service, cids, CVR_MOST_CIDS).refusal.number;
+}
+
+static void device_services_listed(void) {
+    cvr_service service = CVR_EXTENSIONS;
+    seen = cvr_device_services_listed(payload, length, service, 15).refusal.number;
+}
+
+static void device_services_write(void) {
+    seen = cvr_device_services_write(list, out, sizeof out).refusal.number;
+}
+
+static void message_cut(void) {
+    seen = cvr_message_cut(message, 64, payload, 4000, out, sizeof out).refusal.number;
+}
+
+static void assembly_feed(void) {
+    seen = cvr_assembly_feed(memory, sizeof memory, out, 64, payload, sizeof payload).refusal.number;
+}
+
+static void host_services_reply(void) {
+    seen = cvr_host_services_reply(host, sizeof host, 0, payload, length).refusal.number;
+}
+
+static void modem_command(void) {
+    cvr_service service = CVR_EXTENSIONS;
+    seen = cvr_modem_command(modem, sizeof modem, service, 15, 0, payload, 4, out, sizeof out).refusal.number;
+}
+
+/* Bytes of stack under the function, or all of it where the paint is gone. */
+static size_t depth(void (*function)(void)) {
+    size_t untouched = 0;
+    memset(stack, PAINT, sizeof stack);
+    getcontext(&there);
+    there.uc_stack.ss_sp = stack;
+    there.uc_stack.ss_size = sizeof stack;
+    there.uc_link = &here;
+    makecontext(&there, function, 0);
+    swapcontext(&here, &there);
+    while (untouched < STACK && stack[untouched] == PAINT) {
+        untouched++;
+    }
+    return STACK - untouched;
+}
+
+static size_t base, deepest;
+
+static void row(const char *name, void (*function)(void)) {
+    size_t bytes = depth(function) - base;
+    if (deepest < bytes) {
+        deepest = bytes;
+    }
+    printf("%-28s %6zu%s\n", name, bytes, seen == 0 ? "" : "  (refused)");
+}
+
+/* A list of one service with one CID, as payload and as record. */
+static void make_list(void) {
+    cvr_service service = CVR_EXTENSIONS;
+    list.device_services_count = 1;
+    list.elements[0].fields.device_service_id = service;
+    list.elements[0].fields.cid_count = 1;
+    list.elements[0].cids[0] = 15;
+    length = cvr_device_services_write(list, payload, sizeof payload).length;
+}
+
+int main(void) {
+    cvr_rsrp_snr entry = {60, 50, 0, 0, 0x20};
+    cvr_service service = CVR_BASIC_CONNECT;
+    size_t i;
+    base = depth(idle);
+    packet_service.version = registration.version = signal_state.version = CVR_VERSION_2_00;
+    row("cvr_packet_service_write", packet_service_write);
+    length = CVR_PACKET_SERVICE_LENGTH;
+    memcpy(payload, out, length);
+    row("cvr_packet_service_read", packet_service_read);
+    row("cvr_registration_write", registration_write);
+    length = CVR_REGISTRATION_LENGTH;
+    memcpy(payload, out, length);
+    row("cvr_registration_read", registration_read);
+    signal_state.rssi = signal_state.error_rate = 99;
+    signal_state.count = CVR_MOST_ENTRIES;
+    for (i = 0; i < CVR_MOST_ENTRIES; i++) {
+        signal_state.entries[i] = entry;
+    }
+    row("cvr_signal_state_write", signal_state_write);
+    length = CVR_SIGNAL_STATE_LENGTH;
+    memcpy(payload, out, length);
+    row("cvr_signal_state_read", signal_state_read);
+    message.message_type = CVR_MESSAGE_COMMAND;
+    message.transaction = 1;
+    message.service = service;
+    row("cvr_message_cut", message_cut);
+    row("cvr_assembly_feed", assembly_feed);
+    make_list();
+    row("cvr_device_services_cids", device_services_cids);
+    row("cvr_device_services_listed", device_services_listed);
+    row("cvr_device_services_write", device_services_write);
+    cvr_host_make(host, sizeof host, CVR_VERSION_2_00);
+    cvr_host_open(host, sizeof host, CVR_VERSION_1_00);
+    row("cvr_host_services_reply", host_services_reply);
+    cvr_modem_make(modem, sizeof modem, CVR_VERSION_2_00, CVR_VERSION_1_00, 1);
+    row("cvr_modem_command", modem_command);
+    printf("deepest                      %6zu\n", deepest);
+    return 0;
+}

@@ -1,0 +1,162 @@
+// Questions 14 to 20: messages and the assembly.
+use crate::answers::Asked;
+use crate::answers::copy;
+use crate::answers::done;
+use crate::answers::no_question;
+use crate::answers::plain;
+use crate::answers::put_service;
+use crate::answers::put_size;
+use crate::answers::put_word;
+use crate::answers::refused;
+use crate::answers::shows;
+use crate::answers::size_at;
+use crate::answers::sum;
+use crate::answers::word_at;
+use culvertroost::assembly::cvr_assembly_empty;
+use culvertroost::assembly::cvr_assembly_feed;
+use culvertroost::messages::cvr_message_cut;
+use culvertroost::messages::cvr_message_judge;
+use culvertroost::messages::cvr_payload_kind;
+use culvertroost::messages::cvr_transaction_next;
+use flat::messages::FeedInfo;
+use message::MessageHeader;
+use protocol::service::ServiceId;
+use wire::u32_at;
+
+pub fn with_assembly(
+    question: usize,
+    input: &[u8],
+    assembly: &mut [u8; 4144],
+    out: &mut [u8],
+    got: &mut [u64; 4608],
+    shown: &mut [u8; 16640],
+) -> Asked {
+    match question {
+        15 => feed(input, assembly, out, got, shown),
+        16 => empty(assembly, got),
+        17 => show(assembly, got, shown),
+        _ => no_question(),
+    }
+}
+
+pub fn whole(input: &[u8], got: &mut [u64; 4608]) -> Asked {
+    let answer = cvr_message_judge(input);
+    let refusal = answer.refusal;
+    if refusal.number != 0 {
+        return refused(got, refusal);
+    }
+    put_word(got, 1, answer.message_type);
+    put_word(got, 2, answer.transaction);
+    plain(3)
+}
+
+fn feed(
+    input: &[u8],
+    assembly: &mut [u8; 4144],
+    out: &mut [u8],
+    got: &mut [u64; 4608],
+    shown: &mut [u8; 16640],
+) -> Asked {
+    let answer = cvr_assembly_feed(&mut assembly[..], input, out);
+    let refusal = answer.refusal;
+    if refusal.number != 0 {
+        return refused(got, refusal);
+    }
+    put_word(got, 1, answer.complete);
+    put_word(got, 2, answer.dropped);
+    if answer.complete == 0 {
+        return plain(3);
+    }
+    complete(answer, out, got, shown)
+}
+
+fn complete(answer: FeedInfo, out: &[u8], got: &mut [u64; 4608], shown: &mut [u8; 16640]) -> Asked {
+    let message = answer.message;
+    let length = answer.length;
+    put_word(got, 3, message.message_type);
+    put_word(got, 4, message.transaction);
+    put_word(got, 5, message.cid);
+    put_word(got, 6, message.word);
+    put_size(got, 7, length);
+    put_service(shown, message.service);
+    copy(shown, 16, out, 0, length);
+    Asked {
+        numbers: 8,
+        bytes: sum(16, length),
+        written: length,
+        listed: 0,
+    }
+}
+
+fn empty(assembly: &mut [u8; 4144], got: &mut [u64; 4608]) -> Asked {
+    let refusal = cvr_assembly_empty(&mut assembly[..]);
+    done(got, refusal)
+}
+
+// The assembly's memory: type, transaction, service, CID, word, four counts, and the 4,096 bytes.
+fn show(assembly: &[u8; 4144], got: &mut [u64; 4608], shown: &mut [u8; 16640]) -> Asked {
+    let memory = &assembly[..];
+    put_word(got, 1, u32_at(memory, 0));
+    put_word(got, 2, u32_at(memory, 4));
+    put_word(got, 3, u32_at(memory, 24));
+    put_word(got, 4, u32_at(memory, 28));
+    put_word(got, 5, u32_at(memory, 32));
+    put_word(got, 6, u32_at(memory, 36));
+    put_word(got, 7, u32_at(memory, 40));
+    put_word(got, 8, u32_at(memory, 44));
+    copy(shown, 0, memory, 8, 16);
+    copy(shown, 16, memory, 48, 4096);
+    Asked {
+        numbers: 9,
+        bytes: 4112,
+        written: 0,
+        listed: 0,
+    }
+}
+
+pub fn cut(
+    service: ServiceId,
+    arguments: &[u64; 4608],
+    information: &[u8],
+    out: &mut [u8],
+    got: &mut [u64; 4608],
+    shown: &mut [u8; 16640],
+) -> Asked {
+    let message = MessageHeader {
+        message_type: word_at(arguments, 2),
+        transaction: word_at(arguments, 3),
+        service,
+        cid: word_at(arguments, 4),
+        word: word_at(arguments, 5),
+    };
+    let answer = cvr_message_cut(message, size_at(arguments, 1), information, out);
+    let refusal = answer.refusal;
+    if refusal.number != 0 {
+        return refused(got, refusal);
+    }
+    put_word(got, 1, answer.count);
+    put_size(got, 2, answer.length);
+    shows(shown, out, answer.length, 3)
+}
+
+pub fn next_transaction(arguments: &[u64; 4608], got: &mut [u64; 4608]) -> Asked {
+    put_word(got, 1, cvr_transaction_next(word_at(arguments, 0)));
+    plain(2)
+}
+
+pub fn kind(service: ServiceId, arguments: &[u64; 4608], got: &mut [u64; 4608]) -> Asked {
+    let message = MessageHeader {
+        message_type: word_at(arguments, 0),
+        transaction: 0,
+        service,
+        cid: word_at(arguments, 1),
+        word: word_at(arguments, 2),
+    };
+    let answer = cvr_payload_kind(message);
+    let refusal = answer.refusal;
+    if refusal.number != 0 {
+        return refused(got, refusal);
+    }
+    put_word(got, 1, answer.kind);
+    plain(2)
+}
