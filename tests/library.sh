@@ -25,9 +25,16 @@ step() {
     fi
 }
 
+# The folders of the library's sources, as crates.txt has them.
+sources() {
+    for crate in culvertroost $(sed -n 's/^culvertroost: //p' crates.txt); do
+        echo "crates/$crate/src"
+    done
+}
+
 # The archive, built where it is missing or older than a source.
 build_archive() {
-    if [ -f "$archive" ] && [ -z "$(find crates -name '*.rt' -newer "$archive")" ]; then
+    if [ -f "$archive" ] && [ -z "$(find $(sources) -name '*.rt' -newer "$archive")" ]; then
         return
     fi
     rt staticlib culvertroost

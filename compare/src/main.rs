@@ -1,4 +1,5 @@
-//! The static library against the second program: the same questions to both, made up from a seed.
+//! The static library against the second program: the same questions to both, first those of a sweep
+//! over all limits, then as many as wanted, made up from a seed.
 //!
 //!     compare [CASES [SEED]]
 //!
@@ -14,6 +15,7 @@ mod payloads;
 mod random;
 mod services;
 mod sides;
+mod sweep;
 
 use random::Random;
 use sides::Sides;
@@ -50,7 +52,9 @@ fn main() -> ExitCode {
     };
     let mut random = Random::new(seed);
     let mut sides = Sides::new();
-    while sides.cases < cases {
+    sweep::all(&mut sides);
+    let swept = sides.cases;
+    while sides.cases - swept < cases {
         MAKERS.iter().for_each(|make| make(&mut sides, &mut random));
     }
     sides.report();
