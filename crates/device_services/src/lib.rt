@@ -117,7 +117,10 @@ pub fn judge_element(payload: &[u8], fixed: u32, number: u32) -> Verdict
         payload.len(),
         pair,
     );
-    first(placed, judge_content(payload, place, pair))
+    if let Verdict::Fault(refusal) = placed {
+        return Verdict::Fault(refusal);
+    }
+    judge_content(payload, place, pair)
 }
 
 // The verdict on what stands in the element of a pair at `place`, where the pair itself fits.
@@ -125,10 +128,15 @@ pub fn judge_content(payload: &[u8], place: usize, pair: Range) -> Verdict
     ensures { λ r. ⌜ r ≡ judge (contentRules (now (payload .entry)) place pair) ⌝ }
 {
     let size = pair.length;
+    if size < ELEMENT_FIXED_PART {
+        return Verdict::Fault(Refusal {
+            number: WRONG_SIZE,
+            place,
+        });
+    }
     let count_place = pair.start as usize + CID_COUNT;
     let count = cid_count_at(payload, pair.start);
-    let whole = also(Verdict::Fits, size < ELEMENT_FIXED_PART, WRONG_SIZE, place);
-    let counted = also(whole, MOST_CIDS < count, WRONG_COUNT, count_place);
+    let counted = also(Verdict::Fits, MOST_CIDS < count, WRONG_COUNT, count_place);
     also(
         counted,
         size as usize != ELEMENT_FIXED_PART as usize + 4 * count as usize,

@@ -8,7 +8,6 @@ use protocol::Version;
 use protocol::Written;
 use protocol::also;
 use protocol::data_class::is_one_class_or_none;
-use protocol::first;
 use protocol::judge_exact_length;
 use wire::put_u32;
 use wire::put_u64;
@@ -16,7 +15,7 @@ use wire::u32_at;
 use wire::u64_at;
 ghost use mathlib.Core.Path.{_≡_};
 ghost use lib.Seq.{sets};
-ghost use Rattle.protocol.specs.Verdict.{judgeFrom};
+ghost use Rattle.protocol.specs.Verdict.{exactLength, judge};
 ghost use Rattle.packet_service.specs.PacketService.{lengthOf, versionOf, formAt, recordAt, unattached, strayRange, laterRules, verdictOf, readOf, sharedBytes, bytesOf, writeOf};
 
 // What only one form has.
@@ -55,6 +54,10 @@ const DOWNLINK_SPEED: usize = 20;
 
 const FREQUENCY_RANGE: usize = 28;
 
+const LENGTH_V1: usize = 28;
+
+const LENGTH_V2: usize = 32;
+
 const ATTACHED: u32 = 2;
 
 const LAST_STATE: u32 = 4;
@@ -65,12 +68,15 @@ const CLASS_5G_NSA: u32 = 0x40;
 
 const CLASS_5G_SA: u32 = 0x80;
 
+// The length is judged first, so that the reads after it need no test of their own.
 pub fn read(version: Version, payload: &[u8]) -> PacketServiceRead
     ensures { λ r. ⌜ r ≡ readOf version (now (payload .entry)) ⌝ }
 {
+    if let Verdict::Fault(refusal) = judge_length(version, payload.len()) {
+        return PacketServiceRead::Refused(refusal);
+    }
     let info = record_at(version, payload);
-    let length = judge_exact_length(length_of(version), payload.len());
-    match first(length, judge(info)) {
+    match judge(info) {
         Verdict::Fits => PacketServiceRead::Info(info),
         Verdict::Fault(refusal) => PacketServiceRead::Refused(refusal),
     }
@@ -110,8 +116,17 @@ fn length_of(version: Version) -> usize
     ensures { λ r. ⌜ r ≡ lengthOf version ⌝ }
 {
     match version {
-        Version::V1 => 28,
-        Version::V2 => 32,
+        Version::V1 => LENGTH_V1,
+        Version::V2 => LENGTH_V2,
+    }
+}
+
+fn judge_length(version: Version, n: usize) -> Verdict
+    ensures { λ r. ⌜ r ≡ exactLength (lengthOf version) n ⌝ }
+{
+    match version {
+        Version::V1 => judge_exact_length(LENGTH_V1, n),
+        Version::V2 => judge_exact_length(LENGTH_V2, n),
     }
 }
 
@@ -148,17 +163,17 @@ fn judge(info: PacketService) -> Verdict
 {
     let form = info.form;
     let state = info.packet_service_state;
-    let known = also(
-        Verdict::Fits,
-        LAST_STATE < state,
-        OUTSIDE_TABLE,
-        PACKET_SERVICE_STATE,
-    );
+    if LAST_STATE < state {
+        return Verdict::Fault(Refusal {
+            number: OUTSIDE_TABLE,
+            place: PACKET_SERVICE_STATE,
+        });
+    }
     match form {
         PacketForm::V1 {
             highest_available_data_class,
         } => also(
-            known,
+            Verdict::Fits,
             !is_one_class_or_none(Version::V1, highest_available_data_class),
             OUTSIDE_TABLE,
             DATA_CLASS,
@@ -166,30 +181,34 @@ fn judge(info: PacketService) -> Verdict
         PacketForm::V2 {
             current_data_class,
             frequency_range,
-        } => judge_later(known, state, current_data_class, frequency_range),
+        } => judge_later(state, current_data_class, frequency_range),
     }
 }
 
 // The rules that follow the state's at 2.00.
-fn judge_later(known: Verdict, state: u32, class: u32, range: u32) -> Verdict
-    ensures { λ r. ⌜ r ≡ judgeFrom known (laterRules state class range) ⌝ }
+fn judge_later(state: u32, class: u32, range: u32) -> Verdict
+    ensures { λ r. ⌜ r ≡ judge (laterRules state class range) ⌝ }
 {
-    let is_class = is_one_class_or_none(Version::V2, class);
-    let class_known = also(known, !is_class, OUTSIDE_TABLE, DATA_CLASS);
-    let range_known = also(
-        class_known,
-        LAST_FREQUENCY_RANGE < range,
-        OUTSIDE_TABLE,
-        FREQUENCY_RANGE,
-    );
-    let attached = also(
-        range_known,
-        is_unattached(state, class),
-        CONTRADICTION,
-        DATA_CLASS,
-    );
+    if !is_one_class_or_none(Version::V2, class) {
+        return Verdict::Fault(Refusal {
+            number: OUTSIDE_TABLE,
+            place: DATA_CLASS,
+        });
+    }
+    if LAST_FREQUENCY_RANGE < range {
+        return Verdict::Fault(Refusal {
+            number: OUTSIDE_TABLE,
+            place: FREQUENCY_RANGE,
+        });
+    }
+    if is_unattached(state, class) {
+        return Verdict::Fault(Refusal {
+            number: CONTRADICTION,
+            place: DATA_CLASS,
+        });
+    }
     also(
-        attached,
+        Verdict::Fits,
         is_stray_range(class, range),
         CONTRADICTION,
         FREQUENCY_RANGE,

@@ -1,6 +1,7 @@
 // One offset/size pair of a payload: judged as a reader meets it, and placed as a writer puts it.
 // What stands in a pair's list is judged where the list is known.
 use protocol::PAST_END;
+use protocol::Refusal;
 use protocol::Verdict;
 use protocol::WRONG_OFFSET;
 use protocol::WRONG_SIZE;
@@ -9,7 +10,7 @@ use wire::put_u32;
 use wire::u32_at;
 ghost use mathlib.Core.Path.{_≡_};
 ghost use lib.Seq.{sets};
-ghost use Rattle.pairs.specs.Pair.{rangeAt, ifSized, unfit, offsetWithoutSize, verdictOf, padded, placed, rangeBytes};
+ghost use Rattle.pairs.specs.Pair.{rangeAt, ifSized, unfit, verdictOf, padded, placed, rangeBytes};
 
 // 01's pair. An accepted one shows `length` bytes of the payload from `start`; absent is (0, 0).
 #[repr(C)]
@@ -37,26 +38,18 @@ pub fn judge(
 {
     let size = pair.length;
     let end = pair.start as usize + size as usize;
-    let sized = also(
-        Verdict::Fits,
-        is_unfit(kind, limit, size as usize),
-        WRONG_SIZE,
-        place,
-    );
-    let zero = also(sized, is_offset_without_size(pair), WRONG_OFFSET, place);
-    let outside = also(
-        zero,
-        if_sized(size, pair.start < fixed),
-        WRONG_OFFSET,
-        place,
-    );
-    let aligned = also(
-        outside,
-        if_sized(size, pair.start % 4 != 0),
-        WRONG_OFFSET,
-        place,
-    );
-    also(aligned, if_sized(size, length < end), PAST_END, place)
+    if is_unfit(kind, limit, size as usize) {
+        return Verdict::Fault(Refusal {
+            number: WRONG_SIZE,
+            place,
+        });
+    }
+    if size == 0 {
+        return also(Verdict::Fits, pair.start != 0, WRONG_OFFSET, place);
+    }
+    let outside = also(Verdict::Fits, pair.start < fixed, WRONG_OFFSET, place);
+    let aligned = also(outside, pair.start % 4 != 0, WRONG_OFFSET, place);
+    also(aligned, length < end, PAST_END, place)
 }
 
 // A rule on a pair's bytes is broken only where there are bytes.
@@ -129,13 +122,4 @@ pub fn put_range(out: &mut [u8], place: usize, pair: Range)
     }
     put_u32(out, place, pair.start);
     put_u32(out, place + 4, pair.length);
-}
-
-fn is_offset_without_size(pair: Range) -> bool
-    ensures { λ r. ⌜ r ≡ offsetWithoutSize pair ⌝ }
-{
-    if pair.length == 0 {
-        return pair.start != 0;
-    }
-    false
 }

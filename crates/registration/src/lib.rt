@@ -26,7 +26,7 @@ ghost use mathlib.Core.Path.{_≡_};
 ghost use Prim.Native.Nat.{_≤_};
 ghost use lib.ListN.{length};
 ghost use lib.Seq.{sets};
-ghost use Rattle.protocol.specs.Verdict.{judge};
+ghost use Rattle.protocol.specs.Verdict.{firstOf, judge};
 ghost use Rattle.protocol.specs.declared.Verdict.the-variants.{Fits};
 ghost use Rattle.registration.specs.Registration.{fixedPart, formAt, recordAt, textsAt, frontRules, textsVerdict, unregistered, backRules, readOf, versionOf, sizeRules, writtenVerdict, lengthOf, frontBytes, textsBytes, backBytes, fixedBytes, bytesOf, writeOf};
 
@@ -96,16 +96,17 @@ const CELLULAR_CLASS_MASK: u32 = 3;
 
 const REGISTRATION_FLAG_MASK: u32 = 3;
 
+// The length is judged first, so that the reads after it need no test of their own.
 pub fn read(version: Version, payload: &[u8]) -> RegistrationRead
     ensures { λ r. ⌜ r ≡ readOf version (now (payload .entry)) ⌝ }
 {
+    let n = payload.len();
+    if let Verdict::Fault(refusal) = judge_open_length(fixed_part(version) as usize, n) {
+        return RegistrationRead::Refused(refusal);
+    }
     let info = record_at(version, payload);
     let texts = texts_at(payload);
-    let fixed = fixed_part(version);
-    let length = judge_open_length(fixed as usize, payload.len());
-    let last = first(judge_texts(fixed, payload.len(), texts), judge_back(info));
-    let fields = first(judge_front(version, info), last);
-    match first(length, fields) {
+    match judge_fields(version, n, info, texts) {
         Verdict::Fits => RegistrationRead::Info(info, texts),
         Verdict::Fault(refusal) => RegistrationRead::Refused(refusal),
     }
@@ -194,6 +195,19 @@ fn texts_at(s: &[u8]) -> RegistrationTexts
     }
 }
 
+// The fields of a payload of n bytes.
+fn judge_fields(version: Version, n: usize, info: Registration, texts: RegistrationTexts) -> Verdict
+    ensures { λ r. ⌜ r ≡ firstOf (judge (frontRules version info)) (firstOf (textsVerdict (fixedPart version) n texts) (judge (backRules info))) ⌝ }
+{
+    if let Verdict::Fault(refusal) = judge_front(version, info) {
+        return Verdict::Fault(refusal);
+    }
+    if let Verdict::Fault(refusal) = judge_texts(fixed_part(version), n, texts) {
+        return Verdict::Fault(refusal);
+    }
+    judge_back(info)
+}
+
 // The numbers before the pairs, the same for the reader and the writer.
 fn judge_front(version: Version, info: Registration) -> Verdict
     ensures { λ r. ⌜ r ≡ judge (frontRules version info) ⌝ }
@@ -231,24 +245,34 @@ fn judge_texts(fixed: u32, n: usize, texts: RegistrationTexts) -> Verdict
     let id = texts.provider_id;
     let name = texts.provider_name;
     let roaming = texts.roaming_text;
-    let id_fits = pairs::judge(PairKind::Text, fixed, PROVIDER_ID_LIMIT, PROVIDER_ID, n, id);
-    let name_fits = pairs::judge(
+    if let Verdict::Fault(refusal) = pairs::judge(
+        PairKind::Text,
+        fixed,
+        PROVIDER_ID_LIMIT,
+        PROVIDER_ID,
+        n,
+        id,
+    ) {
+        return Verdict::Fault(refusal);
+    }
+    if let Verdict::Fault(refusal) = pairs::judge(
         PairKind::Text,
         fixed,
         PROVIDER_NAME_LIMIT,
         PROVIDER_NAME,
         n,
         name,
-    );
-    let roaming_fits = pairs::judge(
+    ) {
+        return Verdict::Fault(refusal);
+    }
+    pairs::judge(
         PairKind::Text,
         fixed,
         ROAMING_TEXT_LIMIT,
         ROAMING_TEXT,
         n,
         roaming,
-    );
-    first(id_fits, first(name_fits, roaming_fits))
+    )
 }
 
 // The numbers after the pairs, and last what contradicts.

@@ -1,16 +1,18 @@
 -- Entries one by one, counts that fit, and lengths.
 -- Assumes nothing.
 use mathlib.Core.Path.{_≡_, refl, sym, ap, _∙_}
+use mathlib.Core.Logic.{_⊎_, inl, inr}
 use mathlib.Core.Bool.{Bool, true, false, cond}
 use mathlib.Core.List.{List, [], _∷_, _++_, append-assoc, append-nil}
 use Prim.Native.Nat.{ℕ, zero, suc, _+_, _*_, _-_, _≤_, _<_}
+use native.Mathlib.Nat.{add-zero, add-suc}
 use native.Mathlib.Numerals.{add-one}
 use native.Mathlib.Omega.{arith}
 use borrow.Author.Tests.{ltb-false, eq-eqb, ne-eqb}
 use lib.Dec.{ltb, eqb}
-use lib.ListN.{length, set, length-append}
-use lib.Seq.{sets, set-at}
-use Rattle.wire.specs.Numbers.{digits}
+use lib.ListN.{length, set, take, drop, length-append}
+use lib.Seq.{sets, set-at, getD-take, getD-drop}
+use Rattle.wire.specs.Numbers.{num, u32At, digits}
 use Rattle.wire.proofs.Laws.{sets-then}
 use Rattle.protocol.specs.Refusal.{wrongSize, contradiction}
 use Rattle.protocol.specs.Verdict.{Kept, judge, firstOf, faultIf, openLength, Writing, writing}
@@ -18,14 +20,15 @@ use Rattle.protocol.specs.declared.Refusal.{Refusal}
 use Rattle.protocol.specs.declared.Verdict.the-variants.{Fits, Fault}
 use Rattle.protocol.specs.declared.Version.the-variants.{V2}
 use Rattle.protocol.specs.declared.Written.{Written}
-use Rattle.protocol.proofs.Tests.{or-none}
-use Rattle.protocol.proofs.Verdicts.{left-fits, right-fits, not-broken, fits-kept}
+use Rattle.protocol.proofs.Tests.{or-none, equal-kept}
+use Rattle.protocol.proofs.Verdicts.{left-fits, right-fits, not-broken, fits-kept, open-length}
 use Rattle.below.specs.Below.{listOf}
 use Rattle.below.proofs.Laws.{fault-same, any-same, length-list, list-at, length-joined}
 use Rattle.pairs.specs.Pair.{rangeAt, verdictOf, placed, rangeBytes}
+use Rattle.pairs.specs.Claims.{Absent, Inside}
 use Rattle.pairs.specs.declared.Range.{Range}
 use Rattle.pairs.specs.declared.PairKind.the-variants.{List as ListKind}
-use Rattle.pairs.proofs.Laws.{size-said}
+use Rattle.pairs.proofs.Laws.{size-said, fits-said}
 use Rattle.signal_state.specs.declared.RsrpSnr.{RsrpSnr}
 use Rattle.signal_state.specs.declared.SignalForm.{SignalForm}
 use Rattle.signal_state.specs.declared.SignalState.{SignalState}
@@ -93,6 +96,39 @@ count-small s e =
     let fields = right-fits (openLength 28 (length s)) _ e in
     let pair = right-fits (judge (numberRules _ _)) _ fields in
     counted s (rangeAt s 20) (fits-kept _ (right-fits (verdictOf ListKind 28 324 20 (length s) (rangeAt s 20)) _ pair))
+
+-- and it stands within the payload
+within : (s : List ℕ) (p : Range) → 28 ≤ length s → Absent p ⊎ Inside 28 (length s) p → Kept (listRules p (countIn s p)) → p .start + 4 + 20 * countIn s p ≤ length s
+unfolding listRules
+within s p l (inl a) k = rw (eq-eqb (p .length) 0 (a .empty)) (omega (arith, a .nowhere))
+within s p l (inr i) k =
+    let e : eqb (p .length) 0 ≡ false = ne-eqb (p .length) 0 (λ z. omega (arith, i .some)) in
+    let q : p .length ≡ 4 + 20 * u32At s (p .start) = equal-kept (p .length) (4 + 20 * u32At s (p .start)) (rw e at (k .1 .1 .0)) in
+    rw e (omega (arith, i .within, q))
+
+pub list-within : (s : List ℕ) → headVerdict s ≡ Fits → listPlace s + 4 + 20 * countAt s ≤ length s
+unfolding headOf
+list-within s e =
+    let p = rangeAt s 20 in
+    let long = open-length 28 (length s) (left-fits (openLength 28 (length s)) _ e) .0 in
+    let pair = right-fits (judge (numberRules _ _)) _ (right-fits (openLength 28 (length s)) _ e) in
+    let safe = fits-said ListKind 28 324 20 (length s) p (left-fits (verdictOf ListKind 28 324 20 (length s) p) _ pair) .safe in
+    within s p long safe (fits-kept _ (right-fits (verdictOf ListKind 28 324 20 (length s) p) _ pair))
+
+-- a number of a part is the number at its place
+pub num-in : (m n : ℕ) (s : List ℕ) (at k : ℕ) → k + m ≤ n → num m (take n (drop at s)) k ≡ num m s (at + k)
+num-in zero n s at k h = refl
+num-in (suc m) n s at k h =
+    let byte = getD-take n (drop at s) k 0 (omega arith) ∙ getD-drop at s k 0 in
+    let rest = num-in m n s at (suc k) (omega arith) ∙ ap (num m s) (add-suc at k) in
+    omega (arith, byte, rest)
+
+pub word-in : (s : List ℕ) (at k : ℕ) {v : ℕ} → k + 4 ≤ 20 → v ≡ u32At (take (at + 20 - at) (drop at s)) k → v ≡ u32At s (at + k)
+unfolding u32At
+word-in s at k h e = e ∙ num-in 4 (at + 20 - at) s at k (omega arith)
+
+pub first-in : (s : List ℕ) (at : ℕ) {v : ℕ} → v ≡ u32At (take (at + 20 - at) (drop at s)) 0 → v ≡ u32At s at
+first-in s at e = word-in s at 0 (omega arith) e ∙ ap (u32At s) (add-zero at)
 
 -- ---- lengths
 

@@ -25,6 +25,7 @@ use wire::put_u32;
 use wire::u32_at;
 ghost use mathlib.Core.Path.{_≡_};
 ghost use Prim.Native.Nat.{_+_, _*_, _≤_};
+ghost use lib.ListN.{length};
 ghost use lib.Seq.{sets};
 ghost use Rattle.protocol.specs.Verdict.{judge, writing};
 ghost use Rattle.protocol.specs.declared.Verdict.the-variants.{Fits};
@@ -136,9 +137,10 @@ pub fn version_of(info: SignalState) -> Version
 fn read_numbers(s: &[u8]) -> SignalStateShown
     ensures { λ r. ⌜ r ≡ readOf V1 (now (s .entry)) ⌝ }
 {
-    let length = judge_exact_length(LENGTH_V1, s.len());
-    let numbers = judge_numbers(u32_at(s, RSSI), u32_at(s, ERROR_RATE));
-    match first(length, numbers) {
+    if let Verdict::Fault(refusal) = judge_exact_length(LENGTH_V1, s.len()) {
+        return refuse(refusal);
+    }
+    match judge_numbers(u32_at(s, RSSI), u32_at(s, ERROR_RATE)) {
         Verdict::Fits => {
             let entries = no_entries();
             SignalStateShown {
@@ -165,7 +167,9 @@ fn read_listed(s: &[u8]) -> SignalStateShown
 fn judge_head(s: &[u8], pair: Range, count: u32) -> Verdict
     ensures { λ r. ⌜ r ≡ headOf (now (s .entry)) pair count ⌝ }
 {
-    let length = judge_open_length(FIXED_PART_V2 as usize, s.len());
+    if let Verdict::Fault(refusal) = judge_open_length(FIXED_PART_V2 as usize, s.len()) {
+        return Verdict::Fault(refusal);
+    }
     let numbers = judge_numbers(u32_at(s, RSSI), u32_at(s, ERROR_RATE));
     let pair_fits = pairs::judge(
         PairKind::List,
@@ -176,11 +180,11 @@ fn judge_head(s: &[u8], pair: Range, count: u32) -> Verdict
         pair,
     );
     let list = first(pair_fits, judge_list(pair, count));
-    first(length, first(numbers, list))
+    first(numbers, list)
 }
 
 fn read_entries(s: &[u8], offset: u32, count: u32) -> SignalStateShown
-    requires { ⌜ count ≤ 16 ⌝ }
+    requires { ⌜ (count ≤ 16) × (offset + 4 + 20 * count ≤ length (now s)) ⌝ }
     ensures { λ r. ⌜ r ≡ readEntries (now (s .entry)) offset count ⌝ }
 {
     let entries = entries_at(s, offset, count);
@@ -227,17 +231,19 @@ fn count_in(s: &[u8], pair: Range) -> u32
     u32_at(s, pair.start as usize)
 }
 
-// Entry i of the list at `offset`.
+// Entry i of the list at `offset`, where all of it is there.
 fn entry_at(s: &[u8], offset: u32, i: u32) -> RsrpSnr
+    requires { ⌜ entryPlace offset i + 20 ≤ length (now s) ⌝ }
     ensures { λ r. ⌜ r ≡ entryAt (now (s .entry)) offset i ⌝ }
 {
     let at = entry_place(offset, i);
+    let part = &s[at..at + ENTRY_SIZE];
     RsrpSnr {
-        rsrp: u32_at(s, at),
-        snr: u32_at(s, at + 4),
-        rsrp_threshold: u32_at(s, at + 8),
-        snr_threshold: u32_at(s, at + 12),
-        system_type: u32_at(s, at + 16),
+        rsrp: u32_at(part, 0),
+        snr: u32_at(part, 4),
+        rsrp_threshold: u32_at(part, 8),
+        snr_threshold: u32_at(part, 12),
+        system_type: u32_at(part, 16),
     }
 }
 
@@ -261,7 +267,7 @@ fn no_entries() -> [RsrpSnr; 16]
 }
 
 fn entries_at(s: &[u8], offset: u32, n: u32) -> [RsrpSnr; 16]
-    requires { ⌜ n ≤ 16 ⌝ }
+    requires { ⌜ (n ≤ 16) × (offset + 4 + 20 * n ≤ length (now s)) ⌝ }
     ensures { λ r. ⌜ r ≡ entriesAt (now (s .entry)) offset n ⌝ }
 {
     let mut entries = no_entries();
@@ -340,9 +346,12 @@ fn judge_body(rssi: u32, offset: u32, entries: [RsrpSnr; 16], n: u32) -> Verdict
     requires { ⌜ n ≤ 16 ⌝ }
     ensures { λ r. ⌜ r ≡ bodyVerdict rssi offset (entryIn entries) n ⌝ }
 {
+    if let Verdict::Fault(refusal) = judge_entries(offset, entries, n) {
+        return Verdict::Fault(refusal);
+    }
     let known = is_any_known(entries, n);
     also(
-        judge_entries(offset, entries, n),
+        Verdict::Fits,
         is_contradiction(rssi, known),
         CONTRADICTION,
         RSSI,
@@ -353,15 +362,17 @@ fn judge_entries(offset: u32, entries: [RsrpSnr; 16], n: u32) -> Verdict
     requires { ⌜ n ≤ 16 ⌝ }
     ensures { λ r. ⌜ r ≡ entriesVerdict offset (entryIn entries) n ⌝ }
 {
-    let mut verdict = Verdict::Fits;
     let mut i: u32 = 0;
     while i < n {
         let at = i as usize;
         let entry = entries[at];
-        verdict = first(verdict, judge_entry(offset, i, entry));
+        let verdict = judge_entry(offset, i, entry);
+        if let Verdict::Fault(refusal) = verdict {
+            return Verdict::Fault(refusal);
+        }
         i += 1;
     }
-    verdict
+    Verdict::Fits
 }
 
 fn judge_entry(offset: u32, i: u32, entry: RsrpSnr) -> Verdict

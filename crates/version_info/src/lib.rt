@@ -5,7 +5,6 @@ use protocol::Verdict;
 use protocol::WRONG_VERSION;
 use protocol::Written;
 use protocol::also;
-use protocol::first;
 use protocol::judge_exact_length;
 use wire::put_u16;
 use wire::u16_at;
@@ -37,12 +36,15 @@ const BCD_MBIM_EXTENDED_VERSION: usize = 2;
 
 const LENGTH: usize = 4;
 
+// The length is judged first, so that the reads after it need no test of their own.
 pub fn read(payload: &[u8]) -> VersionInfoRead
     ensures { λ r. ⌜ r ≡ readOf (now (payload .entry)) ⌝ }
 {
+    if let Verdict::Fault(refusal) = judge_exact_length(LENGTH, payload.len()) {
+        return VersionInfoRead::Refused(refusal);
+    }
     let info = record_at(payload);
-    let length = judge_exact_length(LENGTH, payload.len());
-    match first(length, judge(info)) {
+    match judge(info) {
         Verdict::Fits => VersionInfoRead::Info(info),
         Verdict::Fault(refusal) => VersionInfoRead::Refused(refusal),
     }

@@ -1,18 +1,21 @@
 -- The length is judged, then the fields.
 use borrow.Author.Needs.{needs}
+use Rattle.protocol.specs.Verdict.{firstOf}
 use Rattle.packet_service.specs.PacketService.{readOf}
 use Rattle.packet_service.proofs.read.Statement.{statement}
 use Rattle.packet_service.proofs.read.Tie as tie
 
 returns : tie.Need-returns
-unfolding readOf
-returns c =
-    rw (← c .before .before .before .before .before .before .record-at .ensures, ← c .before .before .before .before .before .length-of .ensures, ← c .before .before .before .before .judge-exact-length .ensures, ← c .before .before .before .judge .ensures, ← c .before .before .first .ensures, c .enum-told .given .1)
+unfolding readOf firstOf
+returns c = rw (← c .before .before .before .judge-length .ensures, c .before .refusal .given .1)
 
 returns-2 : tie.Need-returns-2
-unfolding readOf
-returns-2 c =
-    rw (← c .before .before .before .before .before .before .before .record-at .ensures, ← c .before .before .before .before .before .before .length-of .ensures, ← c .before .before .before .before .before .judge-exact-length .ensures, ← c .before .before .before .before .judge .ensures, ← c .before .before .before .first .ensures, c .before .refusal .given .1)
+unfolding readOf firstOf
+returns-2 c = rw (← c .before .before .before .before .before .before .judge-length .ensures, c .before .before .before .before .enum-told .given .1, ← c .before .before .before .record-at .ensures, ← c .before .before .judge .ensures, c .enum-told2 .given .1)
+
+returns-3 : tie.Need-returns-3
+unfolding readOf firstOf
+returns-3 c = rw (← c .before .before .before .before .before .before .before .judge-length .ensures, c .before .before .before .before .before .enum-told .given .1, ← c .before .before .before .before .record-at .ensures, ← c .before .before .before .judge .ensures, c .before .refusal2 .given .1)
 
 pub read-spec : {M : Type 1} → statement M
-read-spec = tie.close (tie.spec (λ c. search needs) (λ c. search needs) (λ c. search needs) (λ c. search needs) (λ c. search needs) (λ c. search needs) (λ c. search needs) returns returns-2)
+read-spec = tie.close (tie.spec (λ c. search needs) (λ c. search needs) returns (λ c. search needs) (λ c. search needs) (λ c. search needs) (λ c. search needs) (λ c. search needs) returns-2 returns-3)

@@ -1,18 +1,21 @@
--- The length is judged, then the fields in their order.
+-- The length is judged, then the fields.
 use borrow.Author.Needs.{needs}
+use Rattle.protocol.specs.Verdict.{firstOf}
 use Rattle.registration.specs.Registration.{readOf}
 use Rattle.registration.proofs.read.Statement.{statement}
 use Rattle.registration.proofs.read.Tie as tie
 
 returns : tie.Need-returns
-unfolding readOf
-returns c =
-    rw (← c .before .before .before .before .before .before .before .before .before .before .before .record-at .ensures, ← c .before .before .before .before .before .before .before .before .before .before .texts-at .ensures, ← c .before .before .before .before .before .before .before .before .before .fixed-part .ensures, ← c .before .before .before .before .before .before .before .before .judge-open-length .ensures, ← c .before .before .before .before .before .before .before .judge-texts .ensures, ← c .before .before .before .before .before .before .judge-back .ensures, ← c .before .before .before .before .before .first .ensures, ← c .before .before .before .before .judge-front .ensures, ← c .before .before .before .first2 .ensures, ← c .before .before .first3 .ensures, c .enum-told .given .1)
+unfolding readOf firstOf
+returns c = rw (← c .before .before .before .before .fixed-part .ensures, ← c .before .before .before .judge-open-length .ensures, c .before .refusal .given .1)
 
 returns-2 : tie.Need-returns-2
-unfolding readOf
-returns-2 c =
-    rw (← c .before .before .before .before .before .before .before .before .before .before .before .before .record-at .ensures, ← c .before .before .before .before .before .before .before .before .before .before .before .texts-at .ensures, ← c .before .before .before .before .before .before .before .before .before .before .fixed-part .ensures, ← c .before .before .before .before .before .before .before .before .before .judge-open-length .ensures, ← c .before .before .before .before .before .before .before .before .judge-texts .ensures, ← c .before .before .before .before .before .before .before .judge-back .ensures, ← c .before .before .before .before .before .before .first .ensures, ← c .before .before .before .before .before .judge-front .ensures, ← c .before .before .before .before .first2 .ensures, ← c .before .before .before .first3 .ensures, c .before .refusal .given .1)
+unfolding readOf firstOf
+returns-2 c = rw (← c .before .before .before .before .record-at .ensures, ← c .before .before .before .texts-at .ensures, ← c .before .before .judge-fields .ensures, ← c .before .before .before .before .before .before .before .before .fixed-part .ensures, ← c .before .before .before .before .before .before .before .judge-open-length .ensures, c .before .before .before .before .before .enum-told .given .1, c .enum-told2 .given .1)
+
+returns-3 : tie.Need-returns-3
+unfolding readOf firstOf
+returns-3 c = rw (← c .before .before .before .before .before .record-at .ensures, ← c .before .before .before .before .texts-at .ensures, ← c .before .before .before .judge-fields .ensures, ← c .before .before .before .before .before .before .before .before .before .fixed-part .ensures, ← c .before .before .before .before .before .before .before .before .judge-open-length .ensures, c .before .before .before .before .before .before .enum-told .given .1, c .before .refusal2 .given .1)
 
 pub read-spec : {M : Type 1} → statement M
-read-spec = tie.close (tie.spec (λ c. search needs) (λ c. search needs) (λ c. search needs) (λ c. search needs) (λ c. search needs) (λ c. search needs) (λ c. search needs) (λ c. search needs) (λ c. search needs) (λ c. search needs) (λ c. search needs) (λ c. search needs) (λ c. search needs) returns returns-2)
+read-spec = tie.close (tie.spec (λ c. search needs) (λ c. search needs) (λ c. search needs) (λ c. search needs) returns (λ c. search needs) (λ c. search needs) (λ c. search needs) (λ c. search needs) (λ c. search needs) (λ c. search needs) returns-2 returns-3)

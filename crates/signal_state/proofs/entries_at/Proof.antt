@@ -21,10 +21,10 @@ unfolding listOf
 loop-holds c = (omega arith, c .no-entries .ensures)
 
 array-set-from-entries : tie.Need-array-set-from-entries Inv-loop μ-loop
-array-set-from-entries c = omega arith
+array-set-from-entries c = omega (arith, c .before .before .before .before .before .pre .0)
 
 loop-again : tie.Need-loop-again Inv-loop μ-loop
-loop-again c = (omega arith, one-more (entryAt (c .before .before .before .before .before .args .s .now) (c .before .before .before .before .before .args .offset)) (c .before .before .loop .i) (omega arith) (c .before .before .loop .inv .1) (c .entry-at .ensures))
+loop-again c = (omega arith, one-more (entryAt (c .before .before .before .before .before .args .s .now) (c .before .before .before .before .before .args .offset)) (c .before .before .loop .i) (omega (arith, c .before .before .before .before .before .pre .0)) (c .before .before .loop .inv .1) (c .entry-at .ensures))
 
 returns : tie.Need-returns Inv-loop μ-loop
 returns c = c .before .loop .inv .1 ∙ ap (entriesAt (c .before .before .before .before .args .s .now) (c .before .before .before .before .args .offset)) (le-antisymm (c .before .loop .inv .0) (c .loop-test .left))

@@ -1,14 +1,14 @@
--- The head is judged; what it lets through has at most 16 entries.
+-- The head is judged; what it lets through has at most 16 entries, all within the payload.
 use borrow.Author.Needs.{needs}
 use mathlib.Core.Path.{_∙_}
-use Rattle.signal_state.proofs.Laws.{count-small, read-through, read-refused}
+use Rattle.signal_state.proofs.Laws.{count-small, list-within, read-through, read-refused}
 use Rattle.signal_state.proofs.read_listed.Statement.{statement}
 use Rattle.signal_state.proofs.read_listed.Tie as tie
 
 read-entries-requires : tie.Need-read-entries-requires
 read-entries-requires c κs =
     let head = rw (c .before .before .judge-head .ensures, c .before .before .before .count-in .ensures, c .before .before .before .before .range-at .ensures) at (c .enum-told .given .1) in
-    rw (c .before .before .before .count-in .ensures, c .before .before .before .before .range-at .ensures) (count-small (c .before .before .before .before .before .before .args .s .now) head)
+    (rw (c .before .before .before .count-in .ensures, c .before .before .before .before .range-at .ensures) (count-small (c .before .before .before .before .before .before .args .s .now) head), rw (c .before .before .before .count-in .ensures, c .before .before .before .before .range-at .ensures) (list-within (c .before .before .before .before .before .before .args .s .now) head))
 
 returns : tie.Need-returns
 returns c =
