@@ -8,11 +8,11 @@ use wire::byte_at;
 use wire::put_byte;
 ghost use Prim.Native.Nat.{_≤_};
 
-// How many numbers and bytes an answer has, how many bytes of the lent output were written, and how
-// many numbers of the lent list.
+// How many numbers an answer has, how many bytes it has before those of the lent output, how many of
+// those were written, and how many numbers of the lent list.
 pub struct Asked {
     pub numbers: usize,
-    pub bytes: usize,
+    pub before: usize,
     pub written: usize,
     pub listed: usize,
 }
@@ -58,7 +58,7 @@ pub fn put_size(got: &mut [u64; 4608], at: usize, value: usize) {
 pub fn plain(numbers: usize) -> Asked {
     Asked {
         numbers,
-        bytes: 0,
+        before: 0,
         written: 0,
         listed: 0,
     }
@@ -84,26 +84,20 @@ pub fn done(got: &mut [u64; 4608], refusal: Refusal) -> Asked {
 }
 
 // The answer of a writer.
-pub fn written(
-    got: &mut [u64; 4608],
-    shown: &mut [u8; 16640],
-    out: &[u8],
-    answer: WrittenAnswer,
-) -> Asked {
+pub fn written(got: &mut [u64; 4608], answer: WrittenAnswer) -> Asked {
     let refusal = answer.refusal;
     if refusal.number != 0 {
         return refused(got, refusal);
     }
     put_size(got, 1, answer.length);
-    shows(shown, out, answer.length, 2)
+    shows(answer.length, 2)
 }
 
 // An answer whose output is what was written at the front of the lent output.
-pub fn shows(shown: &mut [u8; 16640], out: &[u8], length: usize, numbers: usize) -> Asked {
-    copy(shown, 0, out, 0, length);
+pub fn shows(length: usize, numbers: usize) -> Asked {
     Asked {
         numbers,
-        bytes: length,
+        before: 0,
         written: length,
         listed: 0,
     }

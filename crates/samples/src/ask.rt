@@ -1,5 +1,6 @@
 // A question put to the library with what is lent to it, and whether that stayed as it should.
 use crate::answers::Asked;
+use crate::answers::copy;
 use crate::answers::least;
 use crate::answers::no_question;
 use crate::answers::plain;
@@ -19,7 +20,6 @@ use crate::readings::reading;
 use crate::services::element;
 use crate::services::listed;
 use crate::services::service_cids;
-use crate::services::services_write;
 use culvertroost::services::cvr_service_id;
 ghost use mathlib.Core.Path.{_≡_};
 ghost use lib.ListN.{length};
@@ -127,6 +127,7 @@ fn ask_lent(
     if !is_list_untouched(list, asked.listed) {
         return plain(TOUCHED);
     }
+    copy(shown, asked.before, out, 0, asked.written);
     asked
 }
 
@@ -143,18 +144,38 @@ fn ask_any(
     shown: &mut [u8; 16640],
 ) -> Asked {
     match question {
-        1 | 3 | 5 | 7 | 9 => read(question, arguments, input, got),
-        2 | 4 | 6 | 8 => write(question, arguments, input, out, got, shown),
+        2 | 4 | 6 | 8 | 13 => write(question, arguments, input, out, got),
         10 => element(arguments, input, list, got, shown),
-        13 => services_write(arguments, input, out, got, shown),
-        14 => whole(input, got),
         15 | 16 | 17 => with_assembly(question, input, assembly, out, got, shown),
-        19 => next_transaction(arguments, got),
         21 | 22 | 23 | 25 | 26 | 31 => with_host(question, arguments, input, host, got),
-        24 => next_command(host, out, got, shown),
+        24 => next_command(host, out, got),
         27 | 28 | 29 | 32 => with_modem(question, arguments, modem, got),
+        11 | 12 | 18 | 20 | 30 => with_service(
+            question,
+            arguments,
+            input,
+            modem,
+            out,
+            list,
+            got,
+            shown,
+        ),
+        _ => ask_plain(question, arguments, input, got),
+    }
+}
+
+// Questions that need nothing lent.
+fn ask_plain(
+    question: usize,
+    arguments: &[u64; 4608],
+    input: &[u8],
+    got: &mut [u64; 4608],
+) -> Asked {
+    match question {
+        14 => whole(input, got),
+        19 => next_transaction(arguments, got),
         33 | 34 | 35 => reading(question, arguments, got),
-        _ => with_service(question, arguments, input, modem, out, list, got, shown),
+        _ => read(question, arguments, input, got),
     }
 }
 
@@ -177,9 +198,9 @@ fn with_service(
     match question {
         11 => service_cids(service, rest, list, got, shown),
         12 => listed(service, arguments, rest, got),
-        18 => cut(service, arguments, rest, out, got, shown),
+        18 => cut(service, arguments, rest, out, got),
         20 => kind(service, arguments, got),
-        30 => command(service, arguments, rest, modem, out, got, shown),
+        30 => command(service, arguments, rest, modem, out, got),
         _ => no_question(),
     }
 }

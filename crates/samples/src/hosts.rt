@@ -88,12 +88,7 @@ fn event(got: &mut [u64; 4608], answer: HostInfo) -> Asked {
 }
 
 // VERSION has a length, and what is free a version.
-pub fn next_command(
-    host: &[u8; 6],
-    out: &mut [u8],
-    got: &mut [u64; 4608],
-    shown: &mut [u8; 16640],
-) -> Asked {
+pub fn next_command(host: &[u8; 6], out: &mut [u8], got: &mut [u64; 4608]) -> Asked {
     let answer = cvr_host_next_command(&host[..], out);
     let refusal = answer.refusal;
     if refusal.number != 0 {
@@ -102,7 +97,7 @@ pub fn next_command(
     put_word(got, 1, answer.command);
     if answer.command == 2 {
         put_size(got, 2, answer.length);
-        return shows(shown, out, answer.length, 3);
+        return shows(answer.length, 3);
     }
     put_half(got, 2, answer.version);
     plain(3)

@@ -10,7 +10,6 @@ use crate::answers::put_word;
 use crate::answers::refused;
 use crate::answers::shows;
 use crate::answers::size_at;
-use crate::answers::sum;
 use crate::answers::word_at;
 use culvertroost::assembly::cvr_assembly_empty;
 use culvertroost::assembly::cvr_assembly_feed;
@@ -67,10 +66,10 @@ fn feed(
     if answer.complete == 0 {
         return plain(3);
     }
-    complete(answer, out, got, shown)
+    complete(answer, got, shown)
 }
 
-fn complete(answer: FeedInfo, out: &[u8], got: &mut [u64; 4608], shown: &mut [u8; 16640]) -> Asked {
+fn complete(answer: FeedInfo, got: &mut [u64; 4608], shown: &mut [u8; 16640]) -> Asked {
     let message = answer.message;
     let length = answer.length;
     put_word(got, 3, message.message_type);
@@ -79,10 +78,9 @@ fn complete(answer: FeedInfo, out: &[u8], got: &mut [u64; 4608], shown: &mut [u8
     put_word(got, 6, message.word);
     put_size(got, 7, length);
     put_service(shown, message.service);
-    copy(shown, 16, out, 0, length);
     Asked {
         numbers: 8,
-        bytes: sum(16, length),
+        before: 16,
         written: length,
         listed: 0,
     }
@@ -108,7 +106,7 @@ fn show(assembly: &[u8; 4144], got: &mut [u64; 4608], shown: &mut [u8; 16640]) -
     copy(shown, 16, memory, 48, 4096);
     Asked {
         numbers: 9,
-        bytes: 4112,
+        before: 4112,
         written: 0,
         listed: 0,
     }
@@ -120,7 +118,6 @@ pub fn cut(
     information: &[u8],
     out: &mut [u8],
     got: &mut [u64; 4608],
-    shown: &mut [u8; 16640],
 ) -> Asked {
     let message = MessageHeader {
         message_type: word_at(arguments, 2),
@@ -136,7 +133,7 @@ pub fn cut(
     }
     put_word(got, 1, answer.count);
     put_size(got, 2, answer.length);
-    shows(shown, out, answer.length, 3)
+    shows(answer.length, 3)
 }
 
 pub fn next_transaction(arguments: &[u64; 4608], got: &mut [u64; 4608]) -> Asked {

@@ -59,7 +59,6 @@ pub fn command(
     modem: &mut [u8; 10],
     out: &mut [u8],
     got: &mut [u64; 4608],
-    shown: &mut [u8; 16640],
 ) -> Asked {
     let answer = cvr_modem_command(
         &mut modem[..],
@@ -78,7 +77,7 @@ pub fn command(
     put_word(got, 3, answer.kind);
     put_size(got, 4, answer.place);
     put_size(got, 5, answer.length);
-    shows(shown, out, answer.length, 6)
+    shows(answer.length, 6)
 }
 
 // The modem's memory: native and advertised version, whether VERSION is listed, stage and version.

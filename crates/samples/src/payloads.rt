@@ -1,4 +1,5 @@
-// Questions 1 to 9: VERSION, packet service, registration, signal state, and the list of services.
+// Questions 1 to 9: VERSION, packet service, registration, signal state, and the list of services
+// read.
 use crate::answers::Asked;
 use crate::answers::half_at;
 use crate::answers::least;
@@ -13,6 +14,7 @@ use crate::answers::size_at;
 use crate::answers::sum;
 use crate::answers::word_at;
 use crate::answers::written;
+use crate::services::services_write;
 use culvertroost::packets::cvr_packet_service_read;
 use culvertroost::packets::cvr_packet_service_write;
 use culvertroost::registrations::cvr_registration_read;
@@ -52,13 +54,13 @@ pub fn write(
     input: &[u8],
     out: &mut [u8],
     got: &mut [u64; 4608],
-    shown: &mut [u8; 16640],
 ) -> Asked {
     match question {
-        2 => version_write(arguments, out, got, shown),
-        4 => packet_write(arguments, out, got, shown),
-        6 => registration_write(arguments, input, out, got, shown),
-        8 => signal_write(arguments, out, got, shown),
+        2 => version_write(arguments, out, got),
+        4 => packet_write(arguments, out, got),
+        6 => registration_write(arguments, input, out, got),
+        8 => signal_write(arguments, out, got),
+        13 => services_write(arguments, input, out, got),
         _ => no_question(),
     }
 }
@@ -75,18 +77,13 @@ fn version_read(input: &[u8], got: &mut [u64; 4608]) -> Asked {
     plain(3)
 }
 
-fn version_write(
-    arguments: &[u64; 4608],
-    out: &mut [u8],
-    got: &mut [u64; 4608],
-    shown: &mut [u8; 16640],
-) -> Asked {
+fn version_write(arguments: &[u64; 4608], out: &mut [u8], got: &mut [u64; 4608]) -> Asked {
     let info = VersionInfo {
         bcd_mbim_version: half_at(arguments, 1),
         bcd_mbim_extended_version: half_at(arguments, 2),
     };
     let answer = cvr_version_info_write(info, out);
-    written(got, shown, out, answer)
+    written(got, answer)
 }
 
 fn packet_read(arguments: &[u64; 4608], input: &[u8], got: &mut [u64; 4608]) -> Asked {
@@ -96,6 +93,10 @@ fn packet_read(arguments: &[u64; 4608], input: &[u8], got: &mut [u64; 4608]) -> 
         return refused(got, refusal);
     }
     let info = answer.info;
+    put_packet(got, info)
+}
+
+fn put_packet(got: &mut [u64; 4608], info: PacketServiceInfo) -> Asked {
     put_half(got, 1, info.version);
     put_word(got, 2, info.nw_error);
     put_word(got, 3, info.packet_service_state);
@@ -107,12 +108,7 @@ fn packet_read(arguments: &[u64; 4608], input: &[u8], got: &mut [u64; 4608]) -> 
     plain(9)
 }
 
-fn packet_write(
-    arguments: &[u64; 4608],
-    out: &mut [u8],
-    got: &mut [u64; 4608],
-    shown: &mut [u8; 16640],
-) -> Asked {
+fn packet_write(arguments: &[u64; 4608], out: &mut [u8], got: &mut [u64; 4608]) -> Asked {
     let info = PacketServiceInfo {
         version: half_at(arguments, 1),
         nw_error: word_at(arguments, 2),
@@ -124,7 +120,7 @@ fn packet_write(
         downlink_speed: number_at(arguments, 8),
     };
     let answer = cvr_packet_service_write(info, out);
-    written(got, shown, out, answer)
+    written(got, answer)
 }
 
 fn registration_read(arguments: &[u64; 4608], input: &[u8], got: &mut [u64; 4608]) -> Asked {
@@ -164,7 +160,6 @@ fn registration_write(
     input: &[u8],
     out: &mut [u8],
     got: &mut [u64; 4608],
-    shown: &mut [u8; 16640],
 ) -> Asked {
     let n = input.len();
     let name = least(size_at(arguments, 9), n);
@@ -178,7 +173,7 @@ fn registration_write(
         &input[roaming..end],
         out,
     );
-    written(got, shown, out, answer)
+    written(got, answer)
 }
 
 fn registration_info(arguments: &[u64; 4608]) -> RegistrationInfo {
@@ -212,6 +207,10 @@ fn signal_read(arguments: &[u64; 4608], input: &[u8], got: &mut [u64; 4608]) -> 
         return refused(got, refusal);
     }
     let info = answer.info;
+    put_signal(got, info)
+}
+
+fn put_signal(got: &mut [u64; 4608], info: SignalStateInfo) -> Asked {
     let entries = info.entries;
     put_half(got, 1, info.version);
     put_word(got, 2, info.rssi);
@@ -242,12 +241,7 @@ fn put_entry(got: &mut [u64; 4608], at: usize, entry: RsrpSnr) {
     put_word(got, sum(at, 4), entry.system_type);
 }
 
-fn signal_write(
-    arguments: &[u64; 4608],
-    out: &mut [u8],
-    got: &mut [u64; 4608],
-    shown: &mut [u8; 16640],
-) -> Asked {
+fn signal_write(arguments: &[u64; 4608], out: &mut [u8], got: &mut [u64; 4608]) -> Asked {
     let entries = entries_of(arguments);
     let info = SignalStateInfo {
         version: half_at(arguments, 1),
@@ -260,7 +254,7 @@ fn signal_write(
         entries,
     };
     let answer = cvr_signal_state_write(info, out);
-    written(got, shown, out, answer)
+    written(got, answer)
 }
 
 fn entries_of(arguments: &[u64; 4608]) -> [RsrpSnr; 16] {

@@ -58,15 +58,19 @@ fn put_element(
         return plain(2);
     }
     let element = answer.element;
+    put_cids(got, list);
+    put_listed(got, shown, element)
+}
+
+fn put_listed(got: &mut [u64; 4608], shown: &mut [u8; 16640], element: DeviceService) -> Asked {
     put_word(got, 2, element.dss_payload);
     put_word(got, 3, element.max_dss_instances);
     put_word(got, 4, element.cid_count);
-    put_cids(got, list);
     put_service(shown, element.device_service_id);
     let count = element.cid_count as usize;
     Asked {
         numbers: sum(5, count),
-        bytes: 16,
+        before: 16,
         written: 0,
         listed: count,
     }
@@ -101,7 +105,6 @@ pub fn services_write(
     input: &[u8],
     out: &mut [u8],
     got: &mut [u64; 4608],
-    shown: &mut [u8; 16640],
 ) -> Asked {
     let elements = elements_of(arguments, input);
     let list = ServiceList {
@@ -110,7 +113,7 @@ pub fn services_write(
         elements,
     };
     let answer = cvr_device_services_write(list, out);
-    written(got, shown, out, answer)
+    written(got, answer)
 }
 
 fn elements_of(arguments: &[u64; 4608], input: &[u8]) -> [ServiceElement; 32] {
