@@ -19,9 +19,10 @@ pub fn copy(source: &[u8], target: &mut [u8]) {
     }
 }
 
+/// Both numbers of the payload.
 #[inline(never)]
-pub fn version_read(payload: &[u8]) -> Result<Version, Refusal> {
-    version_info::read(payload)
+pub fn version_read(payload: &[u8]) -> Result<[u16; 2], Refusal> {
+    version_info::read(payload).map(|version| [0x0100, version.bcd()])
 }
 
 #[inline(never)]
