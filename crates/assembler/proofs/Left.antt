@@ -1,7 +1,6 @@
 -- What feeding leaves: no message, or one that is pending, whatever assembly was there before.
 -- Assumes nothing.
 use mathlib.Core.Path.{_≡_, refl, ap, _∙_}
-use mathlib.Core.Logic.{_⊎_, inl, inr}
 use mathlib.Core.Bool.{Bool, true, false, cond}
 use mathlib.Core.List.{List}
 use Prim.Native.Nat.{ℕ, _+_, _≤_, _<_}
@@ -41,16 +40,20 @@ pub record Waits (p : Progress) : Type 0 where
   pub declared : p .«information_length» ≤ mostInformation
   pub within : p .gathered ≤ p .«information_length»
 
--- after the piece s was fed to the assembly a: its message is the piece's or the one that was there
+-- where a message comes from that waits after the piece s was fed to the assembly a: it began with the piece, or was there before
+pub data From (a : Assembly) (s : List ℕ) (next : ℕ) (m : MessageHeader) : Type 0 where
+  begun : m ≡ messageAt s → next ≡ 1 → From a s next m
+  joined : m ≡ a .progress .message → 1 < next → From a s next m
+
 pub data Left (a : Assembly) (s : List ℕ) (p : Progress) : Type 0 where
   nothing : p ≡ empty .progress → Left a s p
-  pending : Waits p → (p .message ≡ messageAt s) ⊎ (p .message ≡ a .progress .message) → Left a s p
+  pending : Waits p → From a s (p .next) (p .message) → Left a s p
 
 -- the progress q may gather the piece s, and is of a message that may wait
 record Ready (a : Assembly) (s : List ℕ) (q : Progress) : Type 0 where
   known : isFragmented (q .message .«message_type») ≡ true
   few : q .total ≤ 128
-  from : (q .message ≡ messageAt s) ⊎ (q .message ≡ a .progress .message)
+  from : From a s (q .next + 1) (q .message)
 
 gathers-left : (a : Assembly) (s bytes xs : List ℕ) (d : Bool) (room : ℕ) (q : Progress) → Ready a s q → Gathers q xs → Left a s (gatherOf (assemblyOf q bytes) xs d room .assembly .progress)
 unfolding gatherOf refused waiting completed grown
@@ -76,14 +79,14 @@ unfolding messageAt
 begun-ready a s h f A O = record {
   known = rw (ap (λ (m : MessageHeader). m .«message_type») (O .message)) (A .known);
   few = A .few;
-  from = inl (O .message);
+  from = begun (O .message) refl;
 }
 
-joined-ready : (a : Assembly) (s : List ℕ) (h : FragmentHeader) → Accepted s h → Continues (a .progress) h → Ready a s (a .progress)
-joined-ready a s h A C = record {
+joined-ready : (a : Assembly) (s : List ℕ) (h : FragmentHeader) → Accepted s h → (h .number ≡ 0 → ⊥) → Continues (a .progress) h → Ready a s (a .progress)
+joined-ready a s h A later C = record {
   known = rw (C .type, ← A .is) (A .known);
   few = omega (arith, A .few, C .total);
-  from = inr refl;
+  from = joined refl (omega (arith, later, C .number));
 }
 
 ready : (a : Assembly) (s : List ℕ) (q : Progress) (n : ℕ) (d : Bool) → judgedOf (a .progress) s ≡ judged.Gathers q n d → Ready a s q
@@ -97,20 +100,20 @@ ready a s q n d = go (fragmentOf s) refl
     opened h A (first.Refused r) eo k = let z : _≡_ {A = ℕ} 0 1 = cc in absurd (omega arith)
     opened h A (first.Header f) eo k = let e : begunProgress h f ≡ q = cc in rw (← e) (begun-ready a s h f A (first-accepted s f eo))
 
-    joined : (h : FragmentHeader) → Accepted s h → (v : Verdict) → judge (joinRules p h (length s)) ≡ v → joinOf v p ≡ judged.Gathers q n d → Ready a s q
-    joined h A Fits ev k =
+    joins : (h : FragmentHeader) → Accepted s h → (h .number ≡ 0 → ⊥) → (v : Verdict) → judge (joinRules p h (length s)) ≡ v → joinOf v p ≡ judged.Gathers q n d → Ready a s q
+    joins h A later Fits ev k =
         let e : a .progress ≡ q = cc in
-        rw (← e) (joined-ready a s h A (continues-says p h (not-false (continues p h) (fits-kept (joinRules p h (length s)) ev .0))))
-    joined h A (Fault r) ev k = let z : _≡_ {A = ℕ} 0 1 = cc in absurd (omega arith)
+        rw (← e) (joined-ready a s h A later (continues-says p h (not-false (continues p h) (fits-kept (joinRules p h (length s)) ev .0))))
+    joins h A later (Fault r) ev k = let z : _≡_ {A = ℕ} 0 1 = cc in absurd (omega arith)
 
-    numbered : (h : FragmentHeader) → Accepted s h → (zero : Bool)
+    numbered : (h : FragmentHeader) → Accepted s h → (zero : Bool) → eqb (h .number) 0 ≡ zero
         → cond zero (startOf (isPending p) h (firstHeaderOf s)) (joinOf (judge (joinRules p h (length s))) p) ≡ judged.Gathers q n d → Ready a s q
-    numbered h A true k = opened h A (firstHeaderOf s) refl k
-    numbered h A false k = joined h A (judge (joinRules p h (length s))) refl k
+    numbered h A true z k = opened h A (firstHeaderOf s) refl k
+    numbered h A false z k = joins h A (eqb-false _ _ z) (judge (joinRules p h (length s))) refl k
 
     go : (f : Fragment) → fragmentOf s ≡ f → judgedBy p s f ≡ judged.Gathers q n d → Ready a s q
     go (fragment.Refused r) e k = let z : _≡_ {A = ℕ} 0 1 = cc in absurd (omega arith)
-    go (fragment.Header h) e k = numbered h (fragment-accepted s h e) (eqb (h .number) 0) k
+    go (fragment.Header h) e k = numbered h (fragment-accepted s h e) (eqb (h .number) 0) refl k
 
 pub left : (a : Assembly) (s : List ℕ) (room : ℕ) → Left a s (stepOf a s room .assembly .progress)
 unfolding stepOf stepBy refused

@@ -1,7 +1,6 @@
 -- Memory that feeding left holds the assembly that it gave: a run in lent memory is the run by value.
 -- Assumes nothing.
 use mathlib.Core.Path.{_≡_, refl, sym, ap, _∙_}
-use mathlib.Core.Logic.{inl, inr}
 use mathlib.Core.Bool.{Bool, true, false, cond, not}
 use mathlib.Core.List.{List, [], _∷_, _++_, append-assoc}
 use Prim.Native.Nat.{ℕ, zero, suc, _+_, _*_, _≤_, _<_, _^_}
@@ -24,7 +23,7 @@ use Rattle.assembler.specs.Assembly.{zeros, assemblyOf, empty, stepOf}
 use Rattle.assembler.specs.Run.{Piece, runOf}
 use Rattle.assembler.specs.declared.Progress.{Progress}
 use Rattle.assembler.specs.declared.Assembly.{Assembly}
-use Rattle.assembler.proofs.Left.{Waits, Left, nothing, pending, left, left-whole}
+use Rattle.assembler.proofs.Left.{Waits, begun, joined, Left, nothing, pending, left, left-whole}
 use Rattle.lent.specs.LentAssembly.{assemblySize, messageIn, progressIn, bufferIn, messageBytes, countBytes, progressBytes, held, isNone, pendingRules, progressVerdict, cleared, emptied, Feeding, kept, keptOf, feedIn}
 use Rattle.lent.specs.Holding.{wordsOf, Each32, Bytes, Holds, runIn, AllBytes, MemoryServes}
 use Rattle.lent.proofs.Memory.{length-progress, length-buffer}
@@ -172,8 +171,8 @@ none-small =
 
 left-small : (a : Assembly) (s : List ℕ) (p : Progress) → Bytes s → Each32 (wordsOf (a .progress)) → Left a s p → Each32 (wordsOf p)
 left-small a s p b e (nothing q) = rw q none-small
-left-small a s p b e (pending w (inl q)) = waits-small p w (rw q (message-small s b))
-left-small a s p b e (pending w (inr q)) = waits-small p w (rw q (first-words (a .progress) e))
+left-small a s p b e (pending w (begun q n)) = waits-small p w (rw q (message-small s b))
+left-small a s p b e (pending w (joined q n)) = waits-small p w (rw q (first-words (a .progress) e))
 
 -- ---- one feed, then a run
 

@@ -1,17 +1,25 @@
 -- Lent memory: the length of what an assembly's numbers take, and stores at its front.
 -- Assumes nothing.
 use mathlib.Core.Path.{_≡_, refl, sym, ap, _∙_}
-use mathlib.Core.List.{List, _++_, append-assoc}
-use Prim.Native.Nat.{ℕ, _+_, _≤_}
+use mathlib.Core.Logic.{_⊎_, inl, inr}
+use mathlib.Core.Bool.{Bool, true, false, cond}
+use mathlib.Core.List.{List, [], _∷_, _++_, append-assoc}
+use Prim.Native.Nat.{ℕ, suc, _+_, _*_, _/_, _%_, _≤_, _<_}
 use native.Mathlib.Omega.{arith}
-use lib.ListN.{length, take, drop, replicate, length-append, length-take, length-drop}
-use lib.Seq.{sets, drop-at, drop-drop}
+use borrow.Author.Tests.{lt-ltb}
+use lib.Dec.{ltb}
+use lib.ListN.{length, getD, set, take, drop, replicate, take-append-drop, length-append, length-take, length-drop}
+use lib.Seq.{sets, set-getD, take-at, take-append-le, drop-at, drop-drop}
+use Rattle.wire.specs.Numbers.{digits}
 use Rattle.wire.specs.Runs.{over}
-use Rattle.wire.proofs.Laws.{sets-over}
+use Rattle.wire.proofs.Laws.{sets-over, sets-then, four-to}
 use Rattle.protocol.specs.Service.{idBytes}
 use Rattle.message.specs.declared.MessageHeader.{MessageHeader}
+use Rattle.assembler.specs.Assembly.{empty}
 use Rattle.assembler.specs.declared.Progress.{Progress}
-use Rattle.lent.specs.LentAssembly.{assemblySize, bufferIn, messageBytes, countBytes, progressBytes, cleared}
+use Rattle.assembler.specs.declared.Assembly.{Assembly}
+use Rattle.assembler.proofs.Left.{begun, joined, Left, nothing, pending}
+use Rattle.lent.specs.LentAssembly.{assemblySize, bufferIn, messageBytes, countBytes, progressBytes, changedIn, cleared}
 
 pub length-message : (h : MessageHeader) → length (messageBytes h) ≡ 32
 unfolding messageBytes idBytes
@@ -49,3 +57,72 @@ put-back m b xs room eb ex e =
 
 pub length-buffer : (m : List ℕ) → assemblySize ≤ length m → length (bufferIn m) ≡ 4096
 length-buffer m room = length-take 4096 (drop 48 m) ∙ simp length-drop (omega (arith, room))
+
+-- ---- a number put back where it was read
+
+-- the lowest byte, then the others
+lowest : (n x y : ℕ) → x < 256 → digits (suc n) (x + 256 * y) ≡ x ∷ digits n y
+lowest n x y l =
+    let e : (x + 256 * y) % 256 ≡ x = omega (arith, l) in
+    let f : (x + 256 * y) / 256 ≡ y = omega (arith, l) in
+    λ i. e i ∷ digits n (f i)
+
+four-digits : (a b c d : ℕ) → a < 256 → b < 256 → c < 256 → d < 256 → digits 4 (a + 256 * (b + 256 * (c + 256 * d))) ≡ a ∷ b ∷ c ∷ d ∷ []
+four-digits a b c d la lb lc ld =
+    let e : d % 256 ≡ d = omega (arith, ld) in
+    lowest 3 a _ la
+    ∙ ap (λ (t : List ℕ). a ∷ t) (lowest 2 b _ lb)
+    ∙ ap (λ (t : List ℕ). a ∷ b ∷ t) (lowest 1 c d lc)
+    ∙ ap (λ (x : ℕ). a ∷ b ∷ c ∷ x ∷ []) e
+
+pub word-kept : (m : List ℕ) (at : ℕ) {a b c d : ℕ} → a ≡ getD m at 0 → b ≡ getD m (at + 1) 0 → c ≡ getD m (at + 2) 0 → d ≡ getD m (at + 3) 0
+    → a < 256 → b < 256 → c < 256 → d < 256 → sets m at (digits 4 (a + 256 * (b + 256 * (c + 256 * d)))) ≡ m
+word-kept m at {a} {b} {c} {d} ea eb ec ed la lb lc ld =
+    let same : (i x : ℕ) → x ≡ getD m i 0 → m ≡ set m i x = λ i x e. sym (ap (set m i) e ∙ set-getD m i 0) in
+    ap (sets m at) (four-digits a b c d la lb lc ld)
+    ∙ sym (four-to m at a b c d (same at a ea) (same (at + 1) b eb) (same (at + 2) c ec) (same (at + 3) d ed))
+
+-- what the memory holds already is put back behind what it holds already
+pub kept-then : (xs ys : List ℕ) (at k : ℕ) (m : List ℕ) → length xs ≡ k → sets m at xs ≡ m → sets m (at + k) ys ≡ m → sets m at (xs ++ ys) ≡ m
+kept-then xs ys at k m e p q = sym (sets-then xs ys at k m e (sym p) (sym q))
+
+-- ---- the numbers after a feed
+
+-- what the front of the memory holds already, put back after the buffer came back
+front-kept : (m r xs : List ℕ) → assemblySize ≤ length m → length xs ≡ 32 → sets m 0 xs ≡ m → sets (take 48 m ++ r) 0 xs ≡ take 48 m ++ r
+unfolding over
+front-kept m r xs room n kept =
+    let f = take 48 m in
+    let l : 32 ≤ length f = simp length-take (omega (arith, room)) in
+    let fits : length xs ≤ length m = omega (arith, n, room) in
+    let fits₁ : length xs ≤ length (f ++ r) = simp length-append (omega (arith, n, l)) in
+    let front : (t : List ℕ) → take 32 (f ++ t) ≡ take 32 f = λ t. take-append-le 32 f t l in
+    let own : xs ≡ take 32 m = sym (take-at xs (drop 32 m) 32 n) ∙ ap (take 32) (sym (ap (λ (k : ℕ). xs ++ drop k m) n) ∙ sym (sets-over xs m fits) ∙ kept) in
+    let same : xs ≡ take 32 (f ++ r) = own ∙ ap (take 32) (sym (take-append-drop 48 m)) ∙ front (drop 48 m) ∙ sym (front r) in
+    sets-over xs (f ++ r) fits₁ ∙ ap (λ (k : ℕ). xs ++ drop k (f ++ r)) n ∙ ap (λ (t : List ℕ). t ++ drop 32 (f ++ r)) same ∙ take-append-drop 32 (f ++ r)
+
+-- where only the counts were put, the message was there before
+pub changed-all : (m r : List ℕ) (p q : Progress) → assemblySize ≤ length m → sets m 0 (messageBytes (p .message)) ≡ m → (q .next < 2) ⊎ (q .message ≡ p .message)
+    → changedIn q (take 48 m ++ r) ≡ sets (take 48 m ++ r) 0 (progressBytes q)
+unfolding changedIn progressBytes
+changed-all m r p q room kept (inl l) = rw (lt-ltb (q .next) 2 l)
+changed-all m r p q room kept (inr e) = by-test (ltb (q .next) 2)
+  where
+    s : List ℕ
+    s = take 48 m ++ r
+
+    put : sets s 32 (countBytes q) ≡ sets s 0 (messageBytes (q .message) ++ countBytes q)
+    put =
+        let k : sets s 0 (messageBytes (q .message)) ≡ s = ap (λ (h : MessageHeader). sets s 0 (messageBytes h)) e ∙ front-kept m r (messageBytes (p .message)) room (length-message (p .message)) kept in
+        sets-then (messageBytes (q .message)) (countBytes q) 0 32 s (length-message (q .message)) (sym k) refl
+
+    by-test : (b : Bool) → cond b (sets s 0 (messageBytes (q .message) ++ countBytes q)) (sets s 32 (countBytes q)) ≡ sets s 0 (messageBytes (q .message) ++ countBytes q)
+    by-test true = refl
+    by-test false = put
+
+-- what feeding leaves is of one or the other kind
+pub left-kind : (a : Assembly) (s : List ℕ) (q : Progress) → Left a s q → (q .next < 2) ⊎ (q .message ≡ a .progress .message)
+unfolding empty
+left-kind a s q (nothing e) = inl (let z : q .next ≡ 0 = ap (λ (p : Progress). p .next) e in omega (arith, z))
+left-kind a s q (pending w (begun e n)) = inl (omega (arith, n))
+left-kind a s q (pending w (joined e n)) = inr e

@@ -5,6 +5,7 @@ use mathlib.Core.Bool.{Bool, not, cond, _&&_}
 use mathlib.Core.List.{List, [], _∷_, _++_}
 use lib.Dec.{ltb, leb, eqb}
 use lib.ListN.{length, take, drop, replicate}
+use lib.Seq.{sets}
 use Rattle.wire.specs.Numbers.{u32At, digits}
 use Rattle.wire.specs.Runs.{over}
 use Rattle.protocol.specs.Refusal.{refusal, outsideTable, contradiction, outputTooSmall}
@@ -64,6 +65,10 @@ countBytes p =
 
 unfoldable pub progressBytes : Progress → List ℕ
 progressBytes p = messageBytes (p .message) ++ countBytes p
+
+-- the numbers after a feed: where two fragments or more were taken, the message was there before
+unfoldable pub changedIn : Progress → List ℕ → List ℕ
+changedIn p m = cond (ltb (p .next) 2) (sets m 0 (progressBytes p)) (sets m 32 (countBytes p))
 
 -- the memory that holds an assembly; what is lent past its end stays as it was
 unfoldable pub held : Assembly → List ℕ → List ℕ

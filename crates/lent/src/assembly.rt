@@ -19,13 +19,14 @@ use wire::put_u32;
 use wire::u32_at;
 ghost use mathlib.Core.Path.{_≡_};
 ghost use mathlib.Core.Bool.{not};
-ghost use Prim.Native.Nat.{_≤_};
+ghost use Prim.Native.Nat.{_+_, _≤_, _<_};
 ghost use lib.ListN.{length};
 ghost use lib.Seq.{sets};
+ghost use Rattle.wire.specs.Numbers.{u32At, digits};
 ghost use Rattle.wire.specs.Runs.{over};
 ghost use Rattle.protocol.specs.Verdict.{judge};
-ghost use Rattle.protocol.specs.Service.{idBytes};
-ghost use Rattle.lent.specs.LentAssembly.{assemblySize, messageIn, progressIn, messageBytes, countBytes, progressBytes, isNone, pendingRules, progressVerdict, emptied, keptOf, feedIn};
+ghost use Rattle.protocol.specs.Service.{idAt, idBytes};
+ghost use Rattle.lent.specs.LentAssembly.{assemblySize, messageIn, progressIn, messageBytes, countBytes, progressBytes, changedIn, isNone, pendingRules, progressVerdict, emptied, keptOf, feedIn};
 
 // How many bytes an assembly takes.
 pub const ASSEMBLY_SIZE: usize = 4144;
@@ -89,19 +90,32 @@ pub fn feed(memory: &mut [u8], piece: &[u8], out: &mut [u8]) -> Answer
 
 // Memory that has the room and holds an assembly.
 fn feed_whole(progress: Progress, memory: &mut [u8], piece: &[u8], out: &mut [u8]) -> Answer
-    requires { ⌜ 4144 ≤ length (now memory) ⌝ }
+    requires { ⌜ (4144 ≤ length (now memory)) × (sets (now memory) 0 (messageBytes (progress .message)) ≡ now memory) ⌝ }
     ensures { λ r. ⌜ r ≡ keptOf progress (now (memory .entry)) (now (piece .entry)) (length (now (out .entry))) .answer ⌝ }
     ensures { λ _. ⌜ now (memory .exit) ≡ keptOf progress (now (memory .entry)) (now (piece .entry)) (length (now (out .entry))) .memory ⌝ }
     ensures { λ _. ⌜ now (out .exit) ≡ over (keptOf progress (now (memory .entry)) (now (piece .entry)) (length (now (out .entry))) .information) (now (out .entry)) ⌝ }
 {
     let fed = feed_lent(progress, &mut memory[BUFFER..ASSEMBLY_SIZE], piece, out);
     let next = fed.progress;
-    put_progress(memory, next);
+    put_changed(memory, next);
     fed.answer
 }
 
+// The numbers after a feed: a later fragment that leaves its message pending changes the counts alone.
+fn put_changed(memory: &mut [u8], progress: Progress)
+    ensures { λ _. ⌜ now (memory .exit) ≡ changedIn progress (now (memory .entry)) ⌝ }
+{
+    if progress.next < 2 {
+        put_progress(memory, progress);
+        return;
+    }
+    put_counts(memory, progress);
+}
+
 fn progress_at(memory: &[u8]) -> Progress
+    requires { ⌜ 4144 ≤ length (now memory) ⌝ }
     ensures { λ r. ⌜ r ≡ progressIn (now (memory .entry)) ⌝ }
+    ensures { λ r. ⌜ sets (now (memory .entry)) 0 (messageBytes (r .message)) ≡ now (memory .entry) ⌝ }
 {
     let message = message_at(memory);
     Progress {
@@ -114,21 +128,50 @@ fn progress_at(memory: &[u8]) -> Progress
 }
 
 fn message_at(memory: &[u8]) -> MessageHeader
+    requires { ⌜ 4144 ≤ length (now memory) ⌝ }
     ensures { λ r. ⌜ r ≡ messageIn (now (memory .entry)) ⌝ }
+    ensures { λ r. ⌜ sets (now (memory .entry)) 0 (messageBytes r) ≡ now (memory .entry) ⌝ }
 {
-    let service = ServiceId {
-        word0: u32_at(memory, SERVICE),
-        word1: u32_at(memory, SERVICE + 4),
-        word2: u32_at(memory, SERVICE + 8),
-        word3: u32_at(memory, SERVICE + 12),
-    };
+    let service = service_at(memory);
     MessageHeader {
-        message_type: u32_at(memory, MESSAGE_TYPE),
-        transaction: u32_at(memory, TRANSACTION),
+        message_type: word_at(memory, MESSAGE_TYPE),
+        transaction: word_at(memory, TRANSACTION),
         service,
-        cid: u32_at(memory, CID),
-        word: u32_at(memory, WORD),
+        cid: word_at(memory, CID),
+        word: word_at(memory, WORD),
     }
+}
+
+fn service_at(memory: &[u8]) -> ServiceId
+    requires { ⌜ 4144 ≤ length (now memory) ⌝ }
+    ensures { λ r. ⌜ r ≡ idAt (now (memory .entry)) 8 ⌝ }
+    ensures { λ r. ⌜ sets (now (memory .entry)) 8 (idBytes r) ≡ now (memory .entry) ⌝ }
+{
+    ServiceId {
+        word0: word_at(memory, SERVICE),
+        word1: word_at(memory, SERVICE + 4),
+        word2: word_at(memory, SERVICE + 8),
+        word3: word_at(memory, SERVICE + 12),
+    }
+}
+
+// The number at a place within the memory; put back there, it changes nothing.
+fn word_at(memory: &[u8], at: usize) -> u32
+    requires { ⌜ at + 4 ≤ length (now memory) ⌝ }
+    ensures { λ r. ⌜ r ≡ u32At (now (memory .entry)) at ⌝ }
+    ensures { λ r. ⌜ sets (now (memory .entry)) at (digits 4 r) ≡ now (memory .entry) ⌝ }
+{
+    let a = wide(memory[at]);
+    let b = wide(memory[at + 1]);
+    let c = wide(memory[at + 2]);
+    let d = wide(memory[at + 3]);
+    a + 256 * (b + 256 * (c + 256 * d))
+}
+
+fn wide(x: u8) -> u32
+    ensures { λ r. ⌜ (r ≡ x) × (r < 256) ⌝ }
+{
+    x as u32
 }
 
 fn put_progress(memory: &mut [u8], progress: Progress)

@@ -1,13 +1,15 @@
 -- The core's step on the buffer in the memory, and its numbers put back.
 use borrow.Author.Needs.{needs}
-use mathlib.Core.Path.{_∙_, ap}
+use mathlib.Core.Path.{_∙_, sym, ap}
 use mathlib.Core.List.{_++_}
 use borrow.Author.Tests.{eq-eqb}
+use lib.ListN.{drop}
 use Rattle.wire.specs.Runs.{over}
-use Rattle.assembler.specs.Assembly.{lentStepOf}
+use Rattle.assembler.specs.Assembly.{assemblyOf, lentStepOf}
 use Rattle.assembler.specs.declared.FedInPlace.{FedInPlace}
-use Rattle.lent.specs.LentAssembly.{held, keptOf, progressBytes}
-use Rattle.lent.proofs.Memory.{put-back, length-progress, length-buffer}
+use Rattle.assembler.proofs.Left.{left}
+use Rattle.lent.specs.LentAssembly.{bufferIn, held, keptOf, progressBytes}
+use Rattle.lent.proofs.Memory.{put-back, length-progress, length-buffer, changed-all, left-kind}
 use Rattle.lent.proofs.assembly.feed_whole.Statement.{statement}
 use Rattle.lent.proofs.assembly.feed_whole.Tie as tie
 
@@ -15,11 +17,15 @@ returns : tie.Need-returns
 unfolding keptOf held lentStepOf
 returns c =
     let m = c .before .before .before .before .before .before .before .before .before .before .before .before .before .before .before .args .memory .now in
-    let f = rw (eq-eqb _ _ (length-buffer m (c .before .before .before .before .before .before .before .before .before .before .before .before .before .before .before .pre))) at (c .before .before .before .before .before .before .before .before .before .feed-lent .ensures) in
-    let q = c .before .before .before .before .before .before .before .before .before .feed-lent .result .progress in (
+    let p = c .before .before .before .before .before .before .before .before .before .before .before .before .before .before .before .args .progress in
+    let a = assemblyOf p (bufferIn m) in
+    let f = rw (eq-eqb _ _ (length-buffer m (c .before .before .before .before .before .before .before .before .before .before .before .before .before .before .before .pre .0))) at (c .before .before .before .before .before .before .before .before .before .feed-lent .ensures) in
+    let q = c .before .before .before .before .before .before .before .before .before .feed-lent .result .progress in
+    let b = c .before .before .before .before .before .before .before .before .before .feed-lent .last .1 .0 in
+    let k = left-kind a (c .before .before .before .before .before .before .before .before .before .before .before .before .before .before .before .args .piece .now) q (rw (ap (λ (x : FedInPlace). x .progress) (f .0)) (left a (c .before .before .before .before .before .before .before .before .before .before .before .before .before .before .before .args .piece .now) _)) in (
       ap (λ (x : FedInPlace). x .answer) (f .0),
       (
-        put-back m (c .before .before .before .before .before .before .before .before .before .feed-lent .last .1 .0) (progressBytes q) (c .before .before .before .before .before .before .before .before .before .before .before .before .before .before .before .pre) (search needs) (length-progress q) (c .before .before .put-progress .ensures)
+        put-back m b (progressBytes q) (c .before .before .before .before .before .before .before .before .before .before .before .before .before .before .before .pre .0) (search needs) (length-progress q) (c .before .before .put-changed .ensures ∙ changed-all m (b ++ drop 4096 (drop 48 m)) p q (c .before .before .before .before .before .before .before .before .before .before .before .before .before .before .before .pre .0) (c .before .before .before .before .before .before .before .before .before .before .before .before .before .before .before .pre .1) k)
             ∙ (λ i. over (progressBytes (f .0 i .progress) ++ f .1 .0 i) m),
         f .1 .1,
       ),
