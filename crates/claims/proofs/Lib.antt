@@ -2,3 +2,4 @@ pub mod Accepts
 pub mod Back
 pub mod Transferred
 pub mod Settled
+pub mod Demand

@@ -7,7 +7,7 @@ use Rattle.protocol.specs.Service.{idAt, extensions}
 use Rattle.services_query.specs.declared.ListedAnswer.the-variants.{Listed, NotListed}
 use Rattle.services_writer.specs.ServicesWriter.{writeOf}
 use Rattle.services_trip.proofs.RoundTrip.{round-trip}
-use Rattle.handshake.specs.Host.{versionCid}
+use Rattle.handshake.specs.Commands.{versionCid}
 use Rattle.handshake.specs.Run.{listedAs}
 use Rattle.handshake.proofs.Run.{both-settle}
 use Rattle.claims.specs.Settle.{listsVersion, BothSettle}
@@ -17,12 +17,14 @@ said true = refl
 said false = refl
 
 pub both-ends : BothSettle
-both-ends host modem advertised below p out n l given o w₁ w₂ a b g f =
+both-ends host modem advertised below p out n l given o t₁ t₂ x y w₁ w₂ a b g f =
     let s = take n (writeOf p out .output) in
-    both-settle w₁ w₂ given s host modem advertised (listsVersion p) g f (record {
+    both-settle w₁ w₂ t₁ t₂ given s host modem advertised (listsVersion p) g f (record {
       below = below;
       list = round-trip p out n (l .real) (l .accepted) .listed (idAt extensions 0) versionCid ∙ said (listsVersion p);
       other = o;
+      first-numbered = x;
+      second-numbered = y;
       room-host = a;
       room-modem = b;
     })

@@ -5,6 +5,7 @@ use Prim.Native.Nat.{ℕ}
 use lib.ListN.{length, take}
 use Rattle.cutter.specs.Cut.{fragmentsOf, joined}
 use Rattle.exchange.proofs.Delivered.{delivered}
+use Rattle.exchange.proofs.Sent.{sent, sent-parts}
 use Rattle.claims.specs.Transfer.{writeOf, Transferred, EveryRecord}
 use Rattle.claims.proofs.Accepts.{accepts, shows, real}
 use Rattle.claims.proofs.Back.{reads-back, few}
@@ -19,6 +20,7 @@ every-record r z out n e m c size low high stream room earlier rooms =
       count = k;
       long = l;
       cut = a;
+      fragments = sent-parts m size s stream k l (sent m size s stream k l a);
       run = delivered m size s stream k l (record { real = real r m c; accepted = a }) rooms earlier;
       shown = shows r m c;
       back = reads-back r z out n e;

@@ -1,11 +1,11 @@
 -- Demand 3: host and modem settle on the one version of the rule, or the host refuses in exactly two cases.
 -- The run is `run` and the rule `expected` in handshake/specs/Run. Here the services list is any that the writer accepts. Proved in proofs/Settled.
-use Prim.Native.Nat.{ℕ, _≤_}
+use Prim.Native.Nat.{ℕ, _≤_, _<_}
 use mathlib.Core.Path.{_≡_}
 use mathlib.Core.Bool.{Bool, false}
 use mathlib.Core.List.{List}
 use lib.ListN.{length, take}
-use Rattle.protocol.specs.Service.{idAt, extensions, kindOf}
+use Rattle.protocol.specs.Service.{idAt, extensions}
 use Rattle.protocol.specs.declared.Version.{Version}
 use Rattle.protocol.specs.declared.Written.the-variants.{Length}
 use Rattle.below.specs.Below.{anyOf}
@@ -13,13 +13,12 @@ use Rattle.services_writer.specs.ServicesWriter.{writeOf}
 use Rattle.services_writer.specs.declared.ServiceList.{ServiceList}
 use Rattle.services_trip.specs.ServicesTrip.{holdsIn, Sized}
 use Rattle.handshake.specs.Versions.{numberOf, above}
-use Rattle.handshake.specs.Host.{end, openedOf, versionCid}
-use Rattle.handshake.specs.Modem.{startOf, roleOf}
-use Rattle.handshake.specs.Modem.{end as modemEnd}
-use Rattle.handshake.specs.Run.{Command, Rooms, run, expected, Outcome}
+use Rattle.handshake.specs.Commands.{versionCid}
+use Rattle.handshake.specs.Host.{end, openedOf}
+use Rattle.handshake.specs.Modem.{startOf, end as modemEnd}
+use Rattle.handshake.specs.Run.{Message, OtherCommand, Rooms, run, expected, Outcome}
 use Rattle.handshake.specs.declared.host.HostStage.{HostStage}
 use Rattle.handshake.specs.declared.modem.ModemStage.{ModemStage}
-use Rattle.handshake.specs.declared.modem.Role.the-variants as role
 
 -- the list holds CID 15 of the extensions
 abbrev pub listsVersion : ServiceList → Bool
@@ -30,10 +29,10 @@ pub record ListWritten (p : ServiceList) (out : List ℕ) (n : ℕ) : Type 0 whe
   pub real : Sized p
   pub accepted : writeOf p out .answer ≡ Length n
 
--- any native versions, any advertised one not above the modem's, any list that the writer accepts, any other command, ends just opened and room for VERSION
+-- any native versions, any advertised one not above the modem's, any list that the writer accepts, any other command, any transactions, ends just opened and room for VERSION
 abbrev pub BothSettle : Type 0
 BothSettle = (host modem advertised : Version) → above advertised modem ≡ false → (p : ServiceList) (out : List ℕ) (n : ℕ) → ListWritten p out n
-    → (given : Command) → roleOf (kindOf (given .service) (given .cid)) ≡ role.Other
+    → (given : Message) → OtherCommand given → (t₁ t₂ : ℕ) → 0 < t₁ → 0 < t₂
     → (w₁ w₂ : Rooms) → 4 ≤ length (w₂ .host) → 4 ≤ length (w₂ .modem) → (g : HostStage) (f : ModemStage)
-    → Outcome (expected host modem advertised (listsVersion p)) host modem advertised
-    (run w₁ w₂ given (take n (writeOf p out .output)) (openedOf (end host g) (numberOf advertised) .host) (startOf (modemEnd modem advertised (listsVersion p) f)))
+    → Outcome (expected host modem advertised (listsVersion p)) host modem advertised (listsVersion p) t₁ t₂ given
+    (run w₁ w₂ t₁ t₂ given (take n (writeOf p out .output)) (openedOf (end host g) (numberOf advertised) .host) (startOf (modemEnd modem advertised (listsVersion p) f)))

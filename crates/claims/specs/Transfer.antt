@@ -155,6 +155,8 @@ pub record Transferred (r : Record) (m : MessageHeader) (size : ℕ) (s stream :
   pub long : ℕ
   -- the cutter accepts
   pub cut : cutOf m size s stream .answer ≡ Fragments count long
+  -- and gives the fragments laid down, `size` bytes each but the last
+  pub fragments : parts count size (take long (cutOf m size s stream .output)) ≡ fragmentsOf m size s
   -- the last piece completes the message, where it has room, and leaves the empty assembly
   pub run : runOf empty (earlier ++ pieces room 0 (parts count size (take long (cutOf m size s stream .output))))
       ≡ thenRun (runOf empty earlier) (received m s (isPending (runOf empty earlier .end .progress)) (room (count - 1)) (count - 1))

@@ -1,6 +1,10 @@
 // Demand 3 to be watched. Prints what host and modem come to in each of the 12 runs of the handshake
 // (two native versions of the host, three pairs of a modem's native and advertised version, VERSION
-// listed or not), and a record that is written, cut, fed and read.
+// listed or not), every command and reply cut and put together again; and a record that is written,
+// cut, fed and read.
+use assembler::Assembly;
+use assembler::door::Received;
+use cutter::Cutting;
 use handshake::host::Ask;
 use handshake::host::Host;
 use handshake::host::HostAnswer;
@@ -10,6 +14,7 @@ use handshake::modem::Modem;
 use handshake::modem::ModemAnswer;
 use handshake::modem::ModemMade;
 use handshake::modem::ModemStage;
+use handshake::modem::NO_DEVICE_SUPPORT;
 use handshake::modem::QUERY;
 use libc::STDOUT_FILENO;
 use message::MessageHeader;
@@ -17,10 +22,13 @@ use packet_service::PacketForm;
 use packet_service::PacketService;
 use packet_service::PacketServiceRead;
 use protocol::Version;
+use protocol::message_type::COMMAND;
+use protocol::message_type::COMMAND_DONE;
 use protocol::message_type::INDICATE_STATUS;
 use protocol::service::DEVICE_SERVICES;
 use protocol::service::PACKET_SERVICE;
 use protocol::service::REGISTER_STATE;
+use protocol::service::ServiceId;
 use protocol::service::VERSION;
 use protocol::service::basic_connect_id;
 use protocol::service::extensions_id;
@@ -30,6 +38,15 @@ struct Ends {
     host: Host,
     modem: Modem,
     refused: u32,
+}
+
+// What came out of an assembly.
+enum Arrived {
+    Message {
+        message: MessageHeader,
+        length: usize,
+    },
+    Nothing,
 }
 
 fn main() {
@@ -123,15 +140,15 @@ fn print_run(native: u16, modem: u16, advertised: u16, is_listed: bool, services
     } else {
         print(b"\tnot listed\t");
     }
-    print_ends(run(native, modem, advertised, is_listed, services));
+    print_ends(run(native, modem, advertised, services));
 }
 
 // From ends just opened: DEVICE_SERVICES and its reply, then, unless the host refuses, its first
 // command and the reply. Each call is given its end as the one before left it.
-fn run(native: u16, modem: u16, advertised: u16, is_listed: bool, services: &[u8]) -> Ends {
+fn run(native: u16, modem: u16, advertised: u16, services: &[u8]) -> Ends {
     let ends = Ends {
         host: opened_host(native, advertised),
-        modem: opened_modem(modem, advertised, is_listed),
+        modem: opened_modem(modem, advertised, services),
         refused: 0,
     };
     let listed = turn(ends, services);
@@ -154,13 +171,13 @@ fn opened_host(native: u16, advertised: u16) -> Host {
     }
 }
 
-fn opened_modem(native: u16, advertised: u16, is_listed: bool) -> Modem {
-    match handshake::modem::make(native, advertised, is_listed) {
+fn opened_modem(native: u16, advertised: u16, services: &[u8]) -> Modem {
+    match handshake::modem::make(native, advertised, services) {
         ModemMade::Made(modem) => handshake::modem::open(modem),
         ModemMade::Refused(_) => Modem {
             native: Version::V1,
             advertised: Version::V1,
-            lists_version: is_listed,
+            lists_version: false,
             stage: ModemStage::Start,
         },
     }
@@ -171,88 +188,142 @@ fn turn(ends: Ends, services: &[u8]) -> Ends {
     let mut sent = [0u8; 4];
     let host = ends.host;
     match handshake::host::next_command(host, &mut sent) {
-        Ask::Services => services_turn(ends, services),
-        Ask::Version(_) => version_turn(ends, &sent),
-        Ask::Free(_) => other_turn(ends),
+        Ask::Services => {
+            let message = query(basic_connect_id(), DEVICE_SERVICES);
+            send(ends, message, b"", services)
+        }
+        Ask::Version(_) => {
+            let message = query(extensions_id(), VERSION);
+            send(ends, message, &sent, services)
+        }
+        Ask::Free(_) => {
+            let message = query(basic_connect_id(), REGISTER_STATE);
+            send(ends, message, b"", services)
+        }
         Ask::Nothing => ends,
         Ask::Refused(_) => ends,
     }
 }
 
-fn services_turn(ends: Ends, services: &[u8]) -> Ends {
-    let mut room = [0u8; 4];
-    let host = ends.host;
-    let modem = ends.modem;
-    let done = handshake::modem::command(
-        modem,
-        basic_connect_id(),
-        DEVICE_SERVICES,
-        QUERY,
-        b"",
-        &mut room,
-    );
-    let heard = handshake::host::services_reply(host, 0, services);
-    let answer = heard.answer;
-    let host = heard.host;
-    let modem = done.modem;
-    Ends {
-        host,
-        modem,
-        refused: number_of(answer),
+fn query(service: ServiceId, cid: u32) -> MessageHeader {
+    MessageHeader {
+        message_type: COMMAND,
+        transaction: 1,
+        service,
+        cid,
+        word: QUERY,
     }
 }
 
-fn version_turn(ends: Ends, payload: &[u8]) -> Ends {
-    let mut room = [0u8; 4];
-    let host = ends.host;
-    let modem = ends.modem;
-    let done = handshake::modem::command(
-        modem,
-        extensions_id(),
-        VERSION,
-        QUERY,
-        payload,
-        &mut room,
-    );
-    let answered = done.answer;
-    let status = status_of(answered);
-    let heard = handshake::host::version_reply(host, status, &room);
-    let answer = heard.answer;
-    let host = heard.host;
-    let modem = done.modem;
-    Ends {
-        host,
-        modem,
-        refused: number_of(answer),
+// A command on its way to the modem, and the modem's reply.
+fn send(ends: Ends, message: MessageHeader, payload: &[u8], services: &[u8]) -> Ends {
+    let mut information = [0u8; 256];
+    match carry(message, payload, &mut information) {
+        Arrived::Nothing => ends,
+        Arrived::Message { message, length } => {
+            if 256 < length {
+                return ends;
+            }
+            answer(ends, message, &information[..length], services)
+        }
     }
 }
 
-fn other_turn(ends: Ends) -> Ends {
+// The modem takes a command, and its reply goes back.
+fn answer(ends: Ends, message: MessageHeader, information: &[u8], services: &[u8]) -> Ends {
     let mut room = [0u8; 4];
-    let host = ends.host;
     let modem = ends.modem;
-    let done = handshake::modem::command(
-        modem,
-        basic_connect_id(),
-        REGISTER_STATE,
-        QUERY,
-        b"",
-        &mut room,
-    );
+    let done = handshake::modem::receive(modem, message, information, &mut room);
+    let answer = done.answer;
     let modem = done.modem;
-    Ends {
+    let host = ends.host;
+    let after = Ends {
         host,
         modem,
         refused: 0,
+    };
+    match answer {
+        ModemAnswer::Serve(_) => reply(after, done_of(message, 0), services),
+        ModemAnswer::Version(_) => reply(after, done_of(message, 0), &room),
+        ModemAnswer::Unknown(_) => reply(after, done_of(message, NO_DEVICE_SUPPORT), b""),
+        ModemAnswer::Failed(status) => reply(after, done_of(message, status), b""),
+        ModemAnswer::Refused(_) => after,
     }
 }
 
-fn status_of(answer: ModemAnswer) -> u32 {
-    match answer {
-        ModemAnswer::Failed(status) => status,
-        ModemAnswer::Serve(_) => 0,
-        ModemAnswer::Version(_) => 0,
-        ModemAnswer::Refused(_) => 9,
+fn done_of(command: MessageHeader, status: u32) -> MessageHeader {
+    let service = command.service;
+    MessageHeader {
+        message_type: COMMAND_DONE,
+        transaction: command.transaction,
+        service,
+        cid: command.cid,
+        word: status,
+    }
+}
+
+// A reply on its way to the host.
+fn reply(ends: Ends, message: MessageHeader, payload: &[u8]) -> Ends {
+    let mut information = [0u8; 256];
+    match carry(message, payload, &mut information) {
+        Arrived::Nothing => ends,
+        Arrived::Message { message, length } => {
+            if 256 < length {
+                return ends;
+            }
+            hear(ends, message, &information[..length])
+        }
+    }
+}
+
+fn hear(ends: Ends, message: MessageHeader, information: &[u8]) -> Ends {
+    let host = ends.host;
+    let modem = ends.modem;
+    let heard = handshake::host::receive(host, message, information);
+    let answer = heard.answer;
+    let host = heard.host;
+    Ends {
+        host,
+        modem,
+        refused: number_of(answer),
+    }
+}
+
+// A message cut into one fragment, and what an empty assembly makes of it.
+fn carry(message: MessageHeader, payload: &[u8], out: &mut [u8]) -> Arrived {
+    let mut stream = [0u8; 256];
+    match cutter::cut(message, 256, payload, &mut stream) {
+        Cutting::Refused(_) => Arrived::Nothing,
+        Cutting::Fragments { count: _, length } => {
+            if 256 < length {
+                return Arrived::Nothing;
+            }
+            arrive(&stream[..length], out)
+        }
+    }
+}
+
+// The assembly by value.
+fn arrive(piece: &[u8], out: &mut [u8]) -> Arrived {
+    let receipt = assembler::door::receive(Assembly::empty(), piece, out);
+    let received = receipt.received;
+    match received {
+        Received::Complete {
+            message,
+            length,
+            dropped: _,
+        } => Arrived::Message { message, length },
+        Received::Pending {
+            message_type: _,
+            transaction: _,
+            dropped: _,
+        } => Arrived::Nothing,
+        Received::Whole {
+            message_type: _,
+            transaction: _,
+            word: _,
+        } => Arrived::Nothing,
+        Received::Refused(_) => Arrived::Nothing,
     }
 }
 
