@@ -2,10 +2,11 @@
 -- Assumes nothing.
 use mathlib.Core.Path.{_≡_, refl, sym}
 use mathlib.Core.Logic.{_↔_, inr, ⊎-elim}
+use mathlib.Core.Bool.{Bool, true, false, cond}
 use mathlib.Core.List.{List, [], _∷_}
-use Prim.Native.Nat.{ℕ, _+_, _*_, _≤_}
+use Prim.Native.Nat.{ℕ, _+_, _*_, _≤_, _<_}
 use native.Mathlib.Omega.{arith}
-use borrow.Author.Tests.{ltb-false, le-ltb}
+use borrow.Author.Tests.{ltb-true, ltb-false, lt-ltb, le-ltb}
 use lib.Dec.{ltb}
 use lib.ListN.{length}
 use Rattle.protocol.specs.Refusal.{tooShort, wrongCount}
@@ -21,7 +22,8 @@ use Rattle.pairs.specs.declared.PairKind.the-variants.{List as ListKind}
 use Rattle.pairs.proofs.Laws.{fits-said, said-fits}
 use Rattle.device_services.specs.declared.DeviceServices.{DeviceServices}
 use Rattle.device_services.specs.declared.DeviceServicesRead.the-variants.{Info}
-use Rattle.device_services.specs.DeviceServices.{countOf, headAt, pairPlace, fixedPart, pairOf, cidCountAt, lengthVerdict, contentRules, elementVerdict, verdictOf, shown, readOf}
+use Rattle.device_services.specs.declared.ElementJudged.the-variants as element
+use Rattle.device_services.specs.DeviceServices.{countOf, headAt, pairPlace, fixedPart, pairOf, cidCountAt, lengthVerdict, contentRules, elementVerdict, judgedAs, elementJudged, verdictOf, shown, readOf}
 use Rattle.device_services.specs.Claims.{ElementFits, Acceptable}
 use Rattle.device_services.proofs.Laws.{few}
 
@@ -78,6 +80,24 @@ said-list s a =
     let enough : fixed ≤ n = a .fixed in
     let counted = kept-fits (rule (ltb n 8) tooShort n ∷ rule (ltb 32 (countOf s)) wrongCount 0 ∷ []) (le-ltb n 8 (omega arith), (le-ltb 32 (countOf s) (a .few), tt)) in
     rw (counted, length-open fixed n enough (a .most)) (each-fits (elementVerdict s fixed) (countOf s) (λ i h. said-element s fixed i (a .elements i h)))
+
+-- ---- an element by its number
+
+fits-by : (d e : Verdict) (t : Bool) → judgedAs d (cond t (judgedAs e element.Fits) element.NotListed) ≡ element.Fits → (d ≡ Fits) × (t ≡ true) × (e ≡ Fits)
+fits-by Fits Fits true h = (refl, refl, refl)
+fits-by Fits (Fault r) true h = let z : _≡_ {A = ℕ} 0 1 = cc in absurd (omega arith)
+fits-by Fits e false h = let z : _≡_ {A = ℕ} 0 1 = cc in absurd (omega arith)
+fits-by (Fault r) e t h = let z : _≡_ {A = ℕ} 0 1 = cc in absurd (omega arith)
+
+-- fits exactly when the length and the count do, the list has it, and it keeps its rules
+pub numbered-exactly : (s : List ℕ) (i : ℕ)
+    → (elementJudged s i ≡ element.Fits) ↔ ((lengthVerdict (length s) (countOf s) ≡ Fits) × (i < countOf s) × ElementFits s (fixedPart (countOf s)) i)
+unfolding elementJudged
+numbered-exactly s i = (
+  λ e. let k = fits-by (lengthVerdict (length s) (countOf s)) (elementVerdict s (fixedPart (countOf s)) i) (ltb i (countOf s)) e in
+      (k .0, ltb-true i (countOf s) (k .1), element-said s (fixedPart (countOf s)) i (k .2)),
+  λ k. rw (k .0, lt-ltb i (countOf s) (k .1), said-element s (fixedPart (countOf s)) i (k .2)),
+)
 
 -- ---- accepted exactly when the rules hold
 

@@ -1,7 +1,7 @@
 -- The DEVICE_SERVICES payload (document 01, "Device services"; MBIM 1.0, MBIM_DEVICE_SERVICES_INFO and MBIM_DEVICE_SERVICE_ELEMENT).
 -- In this order: the fields and their places; the rules, in the order in which they are judged; what a reader answers.
 use Prim.Native.Nat.{ℕ, _+_, _*_}
-use mathlib.Core.Bool.{not}
+use mathlib.Core.Bool.{not, cond}
 use mathlib.Core.List.{List, [], _∷_}
 use lib.Dec.{ltb, eqb}
 use lib.ListN.{length}
@@ -17,6 +17,8 @@ use Rattle.pairs.specs.declared.Range.{Range}
 use Rattle.pairs.specs.declared.PairKind.the-variants.{List as ListKind}
 use Rattle.device_services.specs.declared.DeviceServices.{DeviceServices}
 use Rattle.device_services.specs.declared.DeviceService.{DeviceService}
+use Rattle.device_services.specs.declared.ElementJudged.{ElementJudged}
+use Rattle.device_services.specs.declared.ElementJudged.the-variants as element
 use Rattle.device_services.specs.declared.DeviceServicesRead.{DeviceServicesRead}
 use Rattle.device_services.specs.declared.DeviceServicesRead.the-variants.{Info, Refused}
 
@@ -80,6 +82,16 @@ contentRules s place p =
 unfoldable pub elementVerdict : List ℕ → ℕ → ℕ → Verdict
 elementVerdict s fixed i =
     firstOf (pairVerdict ListKind fixed 540 (pairPlace i) (length s) (pairOf s i)) (judge (contentRules s (pairPlace i) (pairOf s i)))
+
+abbrev pub judgedAs : Verdict → ElementJudged → ElementJudged
+judgedAs Fits x = x
+judgedAs (Fault r) x = element.Refused r
+
+-- element i by itself: the length and the count, then whether the list has it, then its pair and the element
+unfoldable pub elementJudged : List ℕ → ℕ → ElementJudged
+elementJudged s i =
+    judgedAs (lengthVerdict (length s) (countOf s))
+    (cond (ltb i (countOf s)) (judgedAs (elementVerdict s (fixedPart (countOf s)) i) element.Fits) element.NotListed)
 
 -- the length, then pair by pair, each with its element
 unfoldable pub verdictOf : List ℕ → Verdict

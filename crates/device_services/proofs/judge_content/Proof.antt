@@ -12,7 +12,7 @@ returns c = rw (lt-ltb _ _ (c .if1 .taken))
 
 returns-2 : tie.Need-returns-2
 unfolding contentRules judgeFrom firstOf faultIf
-returns-2 c = rw (le-ltb _ _ (c .before .before .before .before .if1 .left), c .also2 .ensures, c .before .also .ensures, c .before .before .cid-count-at .ensures)
+returns-2 c = rw (le-ltb _ _ (c .before .before .before .before .if1 .left), c .also2 .ensures, c .before .also .ensures, c .before .before .u32-at .ensures)
 
 pub judge-content-spec : {M : Type 1} → statement M
 judge-content-spec = tie.close (tie.spec returns (λ c. search needs) (λ c. search needs) (λ c. search needs) (λ c. search needs) (λ c. search needs) (λ c. search needs) (λ c. search needs) (λ c. search needs) (λ c. search needs) (λ c. search needs) returns-2)
