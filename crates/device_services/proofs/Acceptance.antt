@@ -4,26 +4,23 @@ use mathlib.Core.Path.{_≡_, refl, sym}
 use mathlib.Core.Logic.{_↔_, inr, ⊎-elim}
 use mathlib.Core.Bool.{Bool, true, false, cond}
 use mathlib.Core.List.{List, [], _∷_}
-use Prim.Native.Nat.{ℕ, _+_, _*_, _≤_, _<_}
+use Prim.Native.Nat.{ℕ, _≤_, _<_}
 use native.Mathlib.Omega.{arith}
-use borrow.Author.Tests.{ltb-true, ltb-false, lt-ltb, le-ltb}
+use borrow.Author.Tests.{ltb-true, lt-ltb, le-ltb}
 use lib.Dec.{ltb}
 use lib.ListN.{length}
 use Rattle.protocol.specs.Refusal.{tooShort, wrongCount}
 use Rattle.protocol.specs.Verdict.{rule, firstOf, openLength}
 use Rattle.protocol.specs.declared.Verdict.{Verdict}
 use Rattle.protocol.specs.declared.Verdict.the-variants.{Fits, Fault}
-use Rattle.protocol.proofs.Tests.{equal-kept, kept-equal}
-use Rattle.protocol.proofs.Verdicts.{left-fits, right-fits, fits-kept, kept-fits, kept-then, open-length, length-open}
+use Rattle.protocol.proofs.Verdicts.{left-fits, right-fits, kept-fits, open-length, length-open}
 use Rattle.below.proofs.Laws.{fits-each, each-fits}
-use Rattle.pairs.specs.Pair.{verdictOf as pairVerdict}
-use Rattle.pairs.specs.Claims.{Inside, PairFits}
-use Rattle.pairs.specs.declared.PairKind.the-variants.{List as ListKind}
-use Rattle.pairs.proofs.Laws.{fits-said, said-fits}
+use Rattle.pairs.specs.Claims.{Inside, Whole}
+use Rattle.pairs.proofs.Behind.{behind-said, said-behind}
 use Rattle.device_services.specs.declared.DeviceServices.{DeviceServices}
 use Rattle.device_services.specs.declared.DeviceServicesRead.the-variants.{Info}
 use Rattle.device_services.specs.declared.ElementJudged.the-variants as element
-use Rattle.device_services.specs.DeviceServices.{countOf, headAt, pairPlace, fixedPart, pairOf, cidCountAt, lengthVerdict, contentRules, elementVerdict, judgedAs, elementJudged, verdictOf, shown, readOf}
+use Rattle.device_services.specs.DeviceServices.{countOf, headAt, pairPlace, fixedPart, pairOf, cidCountAt, lengthVerdict, elementForm, contentRules, elementVerdict, judgedAs, elementJudged, verdictOf, shown, readOf}
 use Rattle.device_services.specs.Claims.{ElementFits, Acceptable}
 use Rattle.device_services.proofs.Laws.{few}
 
@@ -33,24 +30,17 @@ module _ (s : List ℕ) (fixed i : ℕ) where
   pub element-said : elementVerdict s fixed i ≡ Fits → ElementFits s fixed i
   unfolding elementVerdict contentRules
   element-said e =
-      let p = pairOf s i in
-      let pair = fits-said ListKind fixed 540 (pairPlace i) (length s) p (left-fits _ _ e) in
-      let k = fits-kept (contentRules s (pairPlace i) p) (right-fits _ _ e) in
-      let size : p .length ≡ 28 + 4 * cidCountAt s (p .start) = equal-kept _ _ (k .1 .1 .0) in
-      let there : Inside fixed (length s) p = ⊎-elim (λ a. absurd (omega (arith, a .empty))) (λ h. h) (pair .safe) in
-      record { few = ltb-false 128 _ (k .1 .0); size = size; behind = there .behind; aligned = there .aligned; within = there .within }
+      let k = behind-said elementForm fixed (pairPlace i) s e in
+      let w : Whole elementForm (pairOf s i) (cidCountAt s (pairOf s i .start)) = ⊎-elim (λ a. let z : _≡_ {A = ℕ} 0 1 = cc in absurd (omega arith)) (λ w. w) (k .1) in
+      let there : Inside fixed (length s) (pairOf s i) = ⊎-elim (λ a. absurd (omega (arith, a .empty, w .size))) (λ h. h) (k .0 .safe) in
+      record { few = w .most; size = w .size; behind = there .behind; aligned = there .aligned; within = there .within }
 
   pub said-element : ElementFits s fixed i → elementVerdict s fixed i ≡ Fits
   unfolding elementVerdict contentRules
   said-element f =
-      let p = pairOf s i in
-      let some : cidCountAt s (p .start) ≤ 128 = f .few in
-      let size : p .length ≡ 28 + 4 * cidCountAt s (p .start) = f .size in
-      let there : Inside fixed (length s) p = record { some = omega arith; behind = f .behind; aligned = f .aligned; within = f .within } in
-      let pair : PairFits ListKind fixed 540 (length s) p = record { size = record { small = omega arith; even = tt }; safe = inr there } in
-      kept-then (pairVerdict ListKind fixed 540 (pairPlace i) (length s) p) (contentRules s (pairPlace i) p)
-      (said-fits ListKind fixed 540 (pairPlace i) (length s) p pair)
-      (le-ltb (p .length) 28 (omega arith), (le-ltb 128 _ some, (kept-equal _ _ size, tt)))
+      let there : Inside fixed (length s) (pairOf s i) = record { some = omega (arith, f .size); behind = f .behind; aligned = f .aligned; within = f .within } in
+      said-behind elementForm fixed (pairPlace i) s (record { size = record { small = omega (arith, f .few, f .size); even = tt }; safe = inr there })
+      (inr (record { some = omega arith; most = f .few; size = f .size }))
 
   -- an element fits exactly when its count, its size and its place do
   pub element-exactly : (elementVerdict s fixed i ≡ Fits) ↔ ElementFits s fixed i

@@ -1,13 +1,10 @@
 // The DEVICE_SERVICES payload: its reader, the judge of one element, and an element's fields.
 // Questions to the list and the writer stand in crates of their own.
-use pairs::PairKind;
-use pairs::Range;
-use pairs::range_at;
+use pairs::lists::ListForm;
 use protocol::Refusal;
 use protocol::TOO_SHORT;
 use protocol::Verdict;
 use protocol::WRONG_COUNT;
-use protocol::WRONG_SIZE;
 use protocol::also;
 use protocol::first;
 use protocol::judge_open_length;
@@ -17,8 +14,7 @@ use wire::u32_at;
 ghost use mathlib.Core.Path.{_≡_};
 ghost use lib.ListN.{length};
 ghost use Rattle.below.specs.Below.{firstFault};
-ghost use Rattle.protocol.specs.Verdict.{judge};
-ghost use Rattle.device_services.specs.DeviceServices.{countOf, headAt, pairPlace, offsetOf, cidCountAt, elementAt, cidAt, lengthVerdict, contentRules, elementVerdict, elementJudged, verdictOf, readOf};
+ghost use Rattle.device_services.specs.DeviceServices.{countOf, headAt, pairPlace, offsetOf, cidCountAt, elementAt, cidAt, lengthVerdict, elementVerdict, elementJudged, verdictOf, readOf};
 
 // What stands before the pairs.
 #[repr(C)]
@@ -74,6 +70,17 @@ pub const DSS_PAYLOAD: usize = 16;
 pub const MAX_DSS_INSTANCES: usize = 20;
 
 pub const CID_COUNT: usize = 24;
+
+// An element as the list behind its pair.
+const ELEMENT: ListForm = ListForm {
+    limit: ELEMENT_LIMIT,
+    least: ELEMENT_FIXED_PART,
+    count_place: CID_COUNT as u32,
+    fewest: 0,
+    most: MOST_CIDS,
+    each: 4,
+    optional: false,
+};
 
 pub fn read(payload: &[u8]) -> DeviceServicesRead
     ensures { λ r. ⌜ r ≡ readOf (now (payload .entry)) ⌝ }
@@ -210,40 +217,5 @@ fn judge_elements(payload: &[u8], fixed: u32, count: u32) -> Verdict
 fn judge_numbered(payload: &[u8], fixed: u32, number: u32) -> Verdict
     ensures { λ r. ⌜ r ≡ elementVerdict (now (payload .entry)) fixed number ⌝ }
 {
-    let place = pair_place(number);
-    let pair = range_at(payload, place);
-    let placed = pairs::judge(
-        PairKind::List,
-        fixed,
-        ELEMENT_LIMIT,
-        place,
-        payload.len(),
-        pair,
-    );
-    if let Verdict::Fault(refusal) = placed {
-        return Verdict::Fault(refusal);
-    }
-    judge_content(payload, place, pair)
-}
-
-// The verdict on what stands in the element of a pair at `place`, where the pair itself fits.
-fn judge_content(payload: &[u8], place: usize, pair: Range) -> Verdict
-    ensures { λ r. ⌜ r ≡ judge (contentRules (now (payload .entry)) place pair) ⌝ }
-{
-    let size = pair.length;
-    if size < ELEMENT_FIXED_PART {
-        return Verdict::Fault(Refusal {
-            number: WRONG_SIZE,
-            place,
-        });
-    }
-    let count_place = pair.start as usize + CID_COUNT;
-    let count = u32_at(payload, count_place);
-    let counted = also(Verdict::Fits, MOST_CIDS < count, WRONG_COUNT, count_place);
-    also(
-        counted,
-        size as usize != ELEMENT_FIXED_PART as usize + 4 * count as usize,
-        WRONG_SIZE,
-        place,
-    )
+    pairs::lists::judge_list(payload, fixed, pair_place(number), ELEMENT)
 }
