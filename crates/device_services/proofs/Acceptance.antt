@@ -2,26 +2,25 @@
 -- Assumes nothing.
 use mathlib.Core.Path.{_≡_, refl, sym}
 use mathlib.Core.Logic.{_↔_, inr, ⊎-elim}
+use mathlib.Core.Bool.{Bool, true, false, cond}
 use mathlib.Core.List.{List, [], _∷_}
-use Prim.Native.Nat.{ℕ, _+_, _*_, _≤_}
+use Prim.Native.Nat.{ℕ, _≤_, _<_}
 use native.Mathlib.Omega.{arith}
-use borrow.Author.Tests.{ltb-false, le-ltb}
+use borrow.Author.Tests.{ltb-true, lt-ltb, le-ltb}
 use lib.Dec.{ltb}
 use lib.ListN.{length}
 use Rattle.protocol.specs.Refusal.{tooShort, wrongCount}
 use Rattle.protocol.specs.Verdict.{rule, firstOf, openLength}
 use Rattle.protocol.specs.declared.Verdict.{Verdict}
 use Rattle.protocol.specs.declared.Verdict.the-variants.{Fits, Fault}
-use Rattle.protocol.proofs.Tests.{equal-kept, kept-equal}
-use Rattle.protocol.proofs.Verdicts.{left-fits, right-fits, fits-kept, kept-fits, kept-then, open-length, length-open}
+use Rattle.protocol.proofs.Verdicts.{left-fits, right-fits, kept-fits, open-length, length-open}
 use Rattle.below.proofs.Laws.{fits-each, each-fits}
-use Rattle.pairs.specs.Pair.{verdictOf as pairVerdict}
-use Rattle.pairs.specs.Claims.{Inside, PairFits}
-use Rattle.pairs.specs.declared.PairKind.the-variants.{List as ListKind}
-use Rattle.pairs.proofs.Laws.{fits-said, said-fits}
+use Rattle.pairs.specs.Claims.{Inside, Whole}
+use Rattle.pairs.proofs.Behind.{behind-said, said-behind}
 use Rattle.device_services.specs.declared.DeviceServices.{DeviceServices}
 use Rattle.device_services.specs.declared.DeviceServicesRead.the-variants.{Info}
-use Rattle.device_services.specs.DeviceServices.{countOf, headAt, pairPlace, fixedPart, pairOf, cidCountAt, lengthVerdict, contentRules, elementVerdict, verdictOf, shown, readOf}
+use Rattle.device_services.specs.declared.ElementJudged.the-variants as element
+use Rattle.device_services.specs.DeviceServices.{countOf, headAt, pairPlace, fixedPart, pairOf, cidCountAt, lengthVerdict, elementForm, contentRules, elementVerdict, judgedAs, elementJudged, verdictOf, shown, readOf}
 use Rattle.device_services.specs.Claims.{ElementFits, Acceptable}
 use Rattle.device_services.proofs.Laws.{few}
 
@@ -31,24 +30,17 @@ module _ (s : List ℕ) (fixed i : ℕ) where
   pub element-said : elementVerdict s fixed i ≡ Fits → ElementFits s fixed i
   unfolding elementVerdict contentRules
   element-said e =
-      let p = pairOf s i in
-      let pair = fits-said ListKind fixed 540 (pairPlace i) (length s) p (left-fits _ _ e) in
-      let k = fits-kept (contentRules s (pairPlace i) p) (right-fits _ _ e) in
-      let size : p .length ≡ 28 + 4 * cidCountAt s (p .start) = equal-kept _ _ (k .1 .1 .0) in
-      let there : Inside fixed (length s) p = ⊎-elim (λ a. absurd (omega (arith, a .empty))) (λ h. h) (pair .safe) in
-      record { few = ltb-false 128 _ (k .1 .0); size = size; behind = there .behind; aligned = there .aligned; within = there .within }
+      let k = behind-said elementForm fixed (pairPlace i) s e in
+      let w : Whole elementForm (pairOf s i) (cidCountAt s (pairOf s i .start)) = ⊎-elim (λ a. let z : _≡_ {A = ℕ} 0 1 = cc in absurd (omega arith)) (λ w. w) (k .1) in
+      let there : Inside fixed (length s) (pairOf s i) = ⊎-elim (λ a. absurd (omega (arith, a .empty, w .size))) (λ h. h) (k .0 .safe) in
+      record { few = w .most; size = w .size; behind = there .behind; aligned = there .aligned; within = there .within }
 
   pub said-element : ElementFits s fixed i → elementVerdict s fixed i ≡ Fits
   unfolding elementVerdict contentRules
   said-element f =
-      let p = pairOf s i in
-      let some : cidCountAt s (p .start) ≤ 128 = f .few in
-      let size : p .length ≡ 28 + 4 * cidCountAt s (p .start) = f .size in
-      let there : Inside fixed (length s) p = record { some = omega arith; behind = f .behind; aligned = f .aligned; within = f .within } in
-      let pair : PairFits ListKind fixed 540 (length s) p = record { size = record { small = omega arith; even = tt }; safe = inr there } in
-      kept-then (pairVerdict ListKind fixed 540 (pairPlace i) (length s) p) (contentRules s (pairPlace i) p)
-      (said-fits ListKind fixed 540 (pairPlace i) (length s) p pair)
-      (le-ltb (p .length) 28 (omega arith), (le-ltb 128 _ some, (kept-equal _ _ size, tt)))
+      let there : Inside fixed (length s) (pairOf s i) = record { some = omega (arith, f .size); behind = f .behind; aligned = f .aligned; within = f .within } in
+      said-behind elementForm fixed (pairPlace i) s (record { size = record { small = omega (arith, f .few, f .size); even = tt }; safe = inr there })
+      (inr (record { some = omega arith; most = f .few; size = f .size }))
 
   -- an element fits exactly when its count, its size and its place do
   pub element-exactly : (elementVerdict s fixed i ≡ Fits) ↔ ElementFits s fixed i
@@ -78,6 +70,24 @@ said-list s a =
     let enough : fixed ≤ n = a .fixed in
     let counted = kept-fits (rule (ltb n 8) tooShort n ∷ rule (ltb 32 (countOf s)) wrongCount 0 ∷ []) (le-ltb n 8 (omega arith), (le-ltb 32 (countOf s) (a .few), tt)) in
     rw (counted, length-open fixed n enough (a .most)) (each-fits (elementVerdict s fixed) (countOf s) (λ i h. said-element s fixed i (a .elements i h)))
+
+-- ---- an element by its number
+
+fits-by : (d e : Verdict) (t : Bool) → judgedAs d (cond t (judgedAs e element.Fits) element.NotListed) ≡ element.Fits → (d ≡ Fits) × (t ≡ true) × (e ≡ Fits)
+fits-by Fits Fits true h = (refl, refl, refl)
+fits-by Fits (Fault r) true h = let z : _≡_ {A = ℕ} 0 1 = cc in absurd (omega arith)
+fits-by Fits e false h = let z : _≡_ {A = ℕ} 0 1 = cc in absurd (omega arith)
+fits-by (Fault r) e t h = let z : _≡_ {A = ℕ} 0 1 = cc in absurd (omega arith)
+
+-- fits exactly when the length and the count do, the list has it, and it keeps its rules
+pub numbered-exactly : (s : List ℕ) (i : ℕ)
+    → (elementJudged s i ≡ element.Fits) ↔ ((lengthVerdict (length s) (countOf s) ≡ Fits) × (i < countOf s) × ElementFits s (fixedPart (countOf s)) i)
+unfolding elementJudged
+numbered-exactly s i = (
+  λ e. let k = fits-by (lengthVerdict (length s) (countOf s)) (elementVerdict s (fixedPart (countOf s)) i) (ltb i (countOf s)) e in
+      (k .0, ltb-true i (countOf s) (k .1), element-said s (fixedPart (countOf s)) i (k .2)),
+  λ k. rw (k .0, lt-ltb i (countOf s) (k .1), said-element s (fixedPart (countOf s)) i (k .2)),
+)
 
 -- ---- accepted exactly when the rules hold
 

@@ -1,22 +1,26 @@
 -- The DEVICE_SERVICES payload (document 01, "Device services"; MBIM 1.0, MBIM_DEVICE_SERVICES_INFO and MBIM_DEVICE_SERVICE_ELEMENT).
 -- In this order: the fields and their places; the rules, in the order in which they are judged; what a reader answers.
 use Prim.Native.Nat.{ℕ, _+_, _*_}
-use mathlib.Core.Bool.{not}
+use mathlib.Core.Bool.{false, cond}
 use mathlib.Core.List.{List, [], _∷_}
-use lib.Dec.{ltb, eqb}
+use lib.Dec.{ltb}
 use lib.ListN.{length}
 use Rattle.wire.specs.Numbers.{u32At}
-use Rattle.protocol.specs.Refusal.{tooShort, wrongSize, wrongCount}
+use Rattle.protocol.specs.Refusal.{tooShort, wrongCount}
 use Rattle.protocol.specs.Service.{idAt}
 use Rattle.protocol.specs.Verdict.{Rule, rule, judge, firstOf, openLength}
 use Rattle.protocol.specs.declared.Verdict.{Verdict}
 use Rattle.protocol.specs.declared.Verdict.the-variants.{Fits, Fault}
 use Rattle.below.specs.Below.{firstFault, listOf}
 use Rattle.pairs.specs.Pair.{rangeAt, verdictOf as pairVerdict}
+use Rattle.pairs.specs.Lists.{listRules}
 use Rattle.pairs.specs.declared.Range.{Range}
+use Rattle.pairs.specs.declared.lists.ListForm.{ListForm}
 use Rattle.pairs.specs.declared.PairKind.the-variants.{List as ListKind}
 use Rattle.device_services.specs.declared.DeviceServices.{DeviceServices}
 use Rattle.device_services.specs.declared.DeviceService.{DeviceService}
+use Rattle.device_services.specs.declared.ElementJudged.{ElementJudged}
+use Rattle.device_services.specs.declared.ElementJudged.the-variants as element
 use Rattle.device_services.specs.declared.DeviceServicesRead.{DeviceServicesRead}
 use Rattle.device_services.specs.declared.DeviceServicesRead.the-variants.{Info, Refused}
 
@@ -68,18 +72,28 @@ cidsAt s at = listOf (cidAt s at) (cidCountAt s at)
 unfoldable pub lengthVerdict : ℕ → ℕ → Verdict
 lengthVerdict n count = firstOf (judge (rule (ltb n 8) tooShort n ∷ rule (ltb 32 count) wrongCount 0 ∷ [])) (openLength (fixedPart count) n)
 
--- what a pair at `place` shows: size under 28, 8; more than 128 CIDs, 15; "its size is 28 + 4 × count", 8
+-- an element as the list behind its pair: "CID count 24 (at most 128)"; "its size is 28 + 4 × count and at most 540"; never absent
+abbrev pub elementForm : ListForm
+elementForm = record { limit = 540; least = 28; «count_place» = 24; fewest = 0; most = 128; each = 4; optional = false }
+
+-- what a pair at `place` shows: size under 28, 8; count, 15; size against count, 8
 unfoldable pub contentRules : List ℕ → ℕ → Range → List Rule
-contentRules s place p =
-    rule (ltb (p .length) 28) wrongSize place
-    ∷ rule (ltb 128 (cidCountAt s (p .start))) wrongCount (p .start + 24)
-    ∷ rule (not (eqb (p .length) (28 + 4 * cidCountAt s (p .start)))) wrongSize place
-    ∷ []
+contentRules s place p = listRules elementForm place p (cidCountAt s (p .start))
 
 -- pair i of a list with a fixed part, "judged 8 (limit, odd), 6, 7 and then its list"; the limit is 540
 unfoldable pub elementVerdict : List ℕ → ℕ → ℕ → Verdict
 elementVerdict s fixed i =
     firstOf (pairVerdict ListKind fixed 540 (pairPlace i) (length s) (pairOf s i)) (judge (contentRules s (pairPlace i) (pairOf s i)))
+
+abbrev pub judgedAs : Verdict → ElementJudged → ElementJudged
+judgedAs Fits x = x
+judgedAs (Fault r) x = element.Refused r
+
+-- element i by itself: the length and the count, then whether the list has it, then its pair and the element
+unfoldable pub elementJudged : List ℕ → ℕ → ElementJudged
+elementJudged s i =
+    judgedAs (lengthVerdict (length s) (countOf s))
+    (cond (ltb i (countOf s)) (judgedAs (elementVerdict s (fixedPart (countOf s)) i) element.Fits) element.NotListed)
 
 -- the length, then pair by pair, each with its element
 unfoldable pub verdictOf : List ℕ → Verdict

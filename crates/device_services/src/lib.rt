@@ -1,13 +1,10 @@
 // The DEVICE_SERVICES payload: its reader, the judge of one element, and an element's fields.
 // Questions to the list and the writer stand in crates of their own.
-use pairs::PairKind;
-use pairs::Range;
-use pairs::range_at;
+use pairs::lists::ListForm;
 use protocol::Refusal;
 use protocol::TOO_SHORT;
 use protocol::Verdict;
 use protocol::WRONG_COUNT;
-use protocol::WRONG_SIZE;
 use protocol::also;
 use protocol::first;
 use protocol::judge_open_length;
@@ -15,9 +12,9 @@ use protocol::service::ServiceId;
 use protocol::service::id_at;
 use wire::u32_at;
 ghost use mathlib.Core.Path.{_≡_};
+ghost use lib.ListN.{length};
 ghost use Rattle.below.specs.Below.{firstFault};
-ghost use Rattle.protocol.specs.Verdict.{judge};
-ghost use Rattle.device_services.specs.DeviceServices.{countOf, headAt, pairPlace, offsetOf, cidCountAt, elementAt, cidAt, lengthVerdict, contentRules, elementVerdict, verdictOf, readOf};
+ghost use Rattle.device_services.specs.DeviceServices.{countOf, headAt, pairPlace, offsetOf, cidCountAt, elementAt, cidAt, lengthVerdict, elementVerdict, elementJudged, verdictOf, readOf};
 
 // What stands before the pairs.
 #[repr(C)]
@@ -37,6 +34,13 @@ pub struct DeviceService {
 
 pub enum DeviceServicesRead {
     Info(DeviceServices),
+    Refused(Refusal),
+}
+
+// What is said of an element by its number: not listed, where the list has none of that number.
+pub enum ElementJudged {
+    Fits,
+    NotListed,
     Refused(Refusal),
 }
 
@@ -67,6 +71,17 @@ pub const MAX_DSS_INSTANCES: usize = 20;
 
 pub const CID_COUNT: usize = 24;
 
+// An element as the list behind its pair.
+const ELEMENT: ListForm = ListForm {
+    limit: ELEMENT_LIMIT,
+    least: ELEMENT_FIXED_PART,
+    count_place: CID_COUNT as u32,
+    fewest: 0,
+    most: MOST_CIDS,
+    each: 4,
+    optional: false,
+};
+
 pub fn read(payload: &[u8]) -> DeviceServicesRead
     ensures { λ r. ⌜ r ≡ readOf (now (payload .entry)) ⌝ }
 {
@@ -81,17 +96,21 @@ pub fn read(payload: &[u8]) -> DeviceServicesRead
 pub fn judge_list(payload: &[u8]) -> Verdict
     ensures { λ r. ⌜ r ≡ verdictOf (now (payload .entry)) ⌝ }
 {
-    let count = count_of(payload);
-    match judge_length(payload.len(), count) {
-        Verdict::Fits => judge_elements(payload, PAIRS + PAIR_SIZE * count, count),
+    match judge_length(payload) {
+        Verdict::Fits => {
+            let count = judged_count(payload);
+            judge_elements(payload, PAIRS + PAIR_SIZE * count, count)
+        }
         Verdict::Fault(refusal) => Verdict::Fault(refusal),
     }
 }
 
-// The verdict on a payload of n bytes with a count.
-pub fn judge_length(n: usize, count: u32) -> Verdict
-    ensures { λ r. ⌜ r ≡ lengthVerdict n count ⌝ }
+// The verdict on the payload's length and count, before any pair.
+pub fn judge_length(payload: &[u8]) -> Verdict
+    ensures { λ r. ⌜ r ≡ lengthVerdict (length (now (payload .entry))) (countOf (now (payload .entry))) ⌝ }
 {
+    let n = payload.len();
+    let count = u32_at(payload, DEVICE_SERVICES_COUNT);
     let begun = also(Verdict::Fits, n < PAIRS as usize, TOO_SHORT, n);
     let counted = also(
         begun,
@@ -103,72 +122,39 @@ pub fn judge_length(n: usize, count: u32) -> Verdict
     first(counted, whole)
 }
 
-// The verdict on one pair and its element, whatever the others are; `fixed` is the list's fixed part.
-pub fn judge_element(payload: &[u8], fixed: u32, number: u32) -> Verdict
-    ensures { λ r. ⌜ r ≡ elementVerdict (now (payload .entry)) fixed number ⌝ }
+// The length and the count, then one pair and its element, whatever the others are.
+pub fn judge_element(payload: &[u8], number: u32) -> ElementJudged
+    ensures { λ r. ⌜ r ≡ elementJudged (now (payload .entry)) number ⌝ }
 {
-    let place = pair_place(number);
-    let pair = range_at(payload, place);
-    let placed = pairs::judge(
-        PairKind::List,
-        fixed,
-        ELEMENT_LIMIT,
-        place,
-        payload.len(),
-        pair,
-    );
-    if let Verdict::Fault(refusal) = placed {
-        return Verdict::Fault(refusal);
+    if let Verdict::Fault(refusal) = judge_length(payload) {
+        return ElementJudged::Refused(refusal);
     }
-    judge_content(payload, place, pair)
-}
-
-// The verdict on what stands in the element of a pair at `place`, where the pair itself fits.
-pub fn judge_content(payload: &[u8], place: usize, pair: Range) -> Verdict
-    ensures { λ r. ⌜ r ≡ judge (contentRules (now (payload .entry)) place pair) ⌝ }
-{
-    let size = pair.length;
-    if size < ELEMENT_FIXED_PART {
-        return Verdict::Fault(Refusal {
-            number: WRONG_SIZE,
-            place,
-        });
+    let count = judged_count(payload);
+    if count <= number {
+        return ElementJudged::NotListed;
     }
-    let count_place = pair.start as usize + CID_COUNT;
-    let count = cid_count_at(payload, pair.start);
-    let counted = also(Verdict::Fits, MOST_CIDS < count, WRONG_COUNT, count_place);
-    also(
-        counted,
-        size as usize != ELEMENT_FIXED_PART as usize + 4 * count as usize,
-        WRONG_SIZE,
-        place,
-    )
-}
-
-pub fn head_at(payload: &[u8]) -> DeviceServices
-    ensures { λ r. ⌜ r ≡ headAt (now (payload .entry)) ⌝ }
-{
-    DeviceServices {
-        device_services_count: count_of(payload),
-        max_dss_sessions: u32_at(payload, MAX_DSS_SESSIONS),
+    match judge_numbered(payload, PAIRS + PAIR_SIZE * count, number) {
+        Verdict::Fits => ElementJudged::Fits,
+        Verdict::Fault(refusal) => ElementJudged::Refused(refusal),
     }
 }
 
-pub fn count_of(payload: &[u8]) -> u32
+// `judged_..`: what a list shows that was judged before. Nothing is judged here.
+pub fn judged_count(payload: &[u8]) -> u32
     ensures { λ r. ⌜ r ≡ countOf (now (payload .entry)) ⌝ }
 {
     u32_at(payload, DEVICE_SERVICES_COUNT)
 }
 
 // Where an element of the list starts.
-pub fn offset_of(payload: &[u8], number: u32) -> u32
+pub fn judged_offset(payload: &[u8], number: u32) -> u32
     ensures { λ r. ⌜ r ≡ offsetOf (now (payload .entry)) number ⌝ }
 {
     u32_at(payload, pair_place(number))
 }
 
 // The fields of the element that starts at an offset.
-pub fn element_at(payload: &[u8], offset: u32) -> DeviceService
+pub fn judged_element(payload: &[u8], offset: u32) -> DeviceService
     ensures { λ r. ⌜ r ≡ elementAt (now (payload .entry)) offset ⌝ }
 {
     let at = offset as usize;
@@ -177,18 +163,18 @@ pub fn element_at(payload: &[u8], offset: u32) -> DeviceService
         device_service_id,
         dss_payload: u32_at(payload, at + DSS_PAYLOAD),
         max_dss_instances: u32_at(payload, at + MAX_DSS_INSTANCES),
-        cid_count: cid_count_at(payload, offset),
+        cid_count: judged_cid_count(payload, offset),
     }
 }
 
-pub fn cid_count_at(payload: &[u8], offset: u32) -> u32
+pub fn judged_cid_count(payload: &[u8], offset: u32) -> u32
     ensures { λ r. ⌜ r ≡ cidCountAt (now (payload .entry)) offset ⌝ }
 {
     u32_at(payload, offset as usize + CID_COUNT)
 }
 
 // A CID of the element that starts at an offset, by its number.
-pub fn cid_at(payload: &[u8], offset: u32, number: u32) -> u32
+pub fn judged_cid(payload: &[u8], offset: u32, number: u32) -> u32
     ensures { λ r. ⌜ r ≡ cidAt (now (payload .entry)) offset number ⌝ }
 {
     let first = offset as usize + ELEMENT_FIXED_PART as usize;
@@ -202,17 +188,34 @@ pub fn pair_place(number: u32) -> usize
     PAIRS as usize + PAIR_SIZE as usize * number as usize
 }
 
-// Each pair with its element, up to the first fault.
+// What stands before the pairs.
+fn head_at(payload: &[u8]) -> DeviceServices
+    ensures { λ r. ⌜ r ≡ headAt (now (payload .entry)) ⌝ }
+{
+    DeviceServices {
+        device_services_count: u32_at(payload, DEVICE_SERVICES_COUNT),
+        max_dss_sessions: u32_at(payload, MAX_DSS_SESSIONS),
+    }
+}
+
+// Each pair with its element, up to the first fault; `fixed` is the list's fixed part.
 fn judge_elements(payload: &[u8], fixed: u32, count: u32) -> Verdict
     ensures { λ r. ⌜ r ≡ firstFault (elementVerdict (now (payload .entry)) fixed) count ⌝ }
 {
     let mut i: u32 = 0;
     while i < count {
-        let verdict = judge_element(payload, fixed, i);
+        let verdict = judge_numbered(payload, fixed, i);
         if let Verdict::Fault(refusal) = verdict {
             return Verdict::Fault(refusal);
         }
         i += 1;
     }
     Verdict::Fits
+}
+
+// The verdict on one pair and its element, in a list that has them.
+fn judge_numbered(payload: &[u8], fixed: u32, number: u32) -> Verdict
+    ensures { λ r. ⌜ r ≡ elementVerdict (now (payload .entry)) fixed number ⌝ }
+{
+    pairs::lists::judge_list(payload, fixed, pair_place(number), ELEMENT)
 }

@@ -7,9 +7,9 @@ use crate::put_refused;
 use crate::put_row;
 use crate::put_text;
 use device_services::DeviceServicesRead;
-use device_services::cid_at;
-use device_services::element_at;
-use device_services::offset_of;
+use device_services::judged_cid;
+use device_services::judged_element;
+use device_services::judged_offset;
 use protocol::service::ServiceId;
 use protocol::service::put_id;
 ghost use mathlib.Core.Path.{_≡_};
@@ -53,7 +53,7 @@ fn put_elements(payload: &[u8], count: u32, out: &mut [u8], at: usize) -> usize
     let mut next = at;
     let mut i: u32 = 0;
     while i < count {
-        next = put_element(payload, offset_of(payload, i), i, out, next);
+        next = put_element(payload, judged_offset(payload, i), i, out, next);
         i += 1;
     }
     next
@@ -65,7 +65,7 @@ fn put_element(payload: &[u8], offset: u32, i: u32, out: &mut [u8], at: usize) -
     ensures { λ r. ⌜ Put (now (out .entry)) at (elementRows (now (payload .entry)) offset i) (now (out .exit)) r ⌝ }
     ensures { λ r. ⌜ r ≤ at + 13500 ⌝ }
 {
-    let element = element_at(payload, offset);
+    let element = judged_element(payload, offset);
     let number = i as usize;
     let id = element.device_service_id;
     let payloads = put_id_row(out, at, number, id);
@@ -95,7 +95,7 @@ fn put_cids(payload: &[u8], offset: u32, count: u32, i: usize, out: &mut [u8], a
     let mut next = at;
     let mut j: u32 = 0;
     while j < count {
-        next = put_cid(out, next, i, j as usize, cid_at(payload, offset, j));
+        next = put_cid(out, next, i, j as usize, judged_cid(payload, offset, j));
         j += 1;
     }
     next

@@ -3,13 +3,13 @@
 -- Assumes nothing.
 use mathlib.Core.Path.{_≡_, refl}
 use mathlib.Core.Logic.{_↔_, _⊎_, inl, inr}
-use mathlib.Core.Bool.{Bool, true, false}
+use mathlib.Core.Bool.{Bool, true, false, cond}
 use mathlib.Core.List.{List, [], _∷_, _++_}
 use Prim.Native.Nat.{ℕ, zero, suc, _+_, _%_, _≤_, _<_}
 use native.Mathlib.Omega.{arith}
 use borrow.Author.Tests.{le-ltb, lt-ltb, ltb-false, eq-eqb, ne-eqb, eqb-true, eqb-false}
 use lib.Dec.{ltb, eqb}
-use lib.ListN.{length}
+use lib.ListN.{length, take, drop}
 use Rattle.wire.specs.Runs.{fitted}
 use Rattle.wire.proofs.Laws.{text-at}
 use Rattle.protocol.specs.Refusal.{refusal, wrongOffset}
@@ -20,7 +20,7 @@ use Rattle.protocol.proofs.Verdicts.{fits-kept, kept-fits}
 use Rattle.pairs.specs.declared.Range.{Range}
 use Rattle.pairs.specs.declared.PairKind.{PairKind}
 use Rattle.pairs.specs.declared.PairKind.the-variants.{Text, List as ListKind}
-use Rattle.pairs.specs.Pair.{range, oddFor, unfit, rules, verdictOf, padded, placed}
+use Rattle.pairs.specs.Pair.{range, partOf, oddFor, unfit, rules, verdictOf, padded, placed}
 use Rattle.pairs.specs.Claims.{Absent, Inside, Even, SizeFits, PairFits, RangeSized, shownIn}
 
 -- ---- sizes
@@ -123,3 +123,24 @@ pub placed-back : (before x rest : List ℕ) (base : ℕ) → length before ≡ 
 placed-back before [] rest base e = refl
 placed-back before (b ∷ x) rest base e =
     rw (ne-eqb (suc (length x)) 0 (omega arith)) (text-at before (b ∷ x) rest (padded (suc (length x))) base e (omega arith))
+
+-- ---- the bytes of a range
+
+module _ (s : List ℕ) (p : Range) where
+  pub part-shown : p .start + p .length ≤ length s → partOf s p ≡ shownIn s p
+  unfolding partOf
+  part-shown h = rw (le-ltb (length s) (p .start + p .length) h)
+
+  -- past the payload
+  pub part-past : length s < p .start + p .length → partOf s p ≡ []
+  unfolding partOf
+  part-past h = rw (lt-ltb (length s) (p .start + p .length) h)
+
+  -- absent
+  pub part-absent : p .length ≡ 0 → partOf s p ≡ []
+  unfolding partOf
+  part-absent e = by-end (ltb (length s) (p .start + p .length))
+    where
+      by-end : (b : Bool) → cond b [] (take (p .length) (drop (p .start) s)) ≡ []
+      by-end true = refl
+      by-end false = rw e

@@ -1,12 +1,15 @@
--- What is claimed of an accepted pair, in words: absent, or behind the fixed part, at a multiple of 4, and inside the payload.
-use Prim.Native.Nat.{ℕ, _+_, _%_, _≤_, _<_, _^_}
+-- What is claimed of an accepted pair, in words: absent, or behind the fixed part, at a multiple of 4, and inside the payload; and of the
+-- texts of a record, row by row.
+use Prim.Native.Nat.{ℕ, _+_, _*_, _%_, _≤_, _<_, _^_}
 use mathlib.Core.Path.{_≡_}
 use mathlib.Core.Logic.{_⊎_}
-use mathlib.Core.List.{List}
+use mathlib.Core.List.{List, [], _∷_}
 use lib.ListN.{take, drop}
 use Rattle.pairs.specs.declared.Range.{Range}
 use Rattle.pairs.specs.declared.PairKind.{PairKind}
 use Rattle.pairs.specs.declared.PairKind.the-variants.{Text, List as ListKind}
+use Rattle.pairs.specs.declared.lists.ListForm.{ListForm}
+use Rattle.pairs.specs.Texts.{placeOf, limitOf}
 
 pub record Absent (p : Range) : Type 0 where
   pub nowhere : p .start ≡ 0
@@ -41,3 +44,39 @@ pub record RangeSized (p : Range) : Type 0 where
 -- the bytes of the payload s that a range shows
 abbrev pub shownIn : List ℕ → Range → List ℕ
 shownIn s p = take (p .length) (drop (p .start) s)
+
+-- ---- a list behind a pair: a count within its bounds, and the size of so many elements
+
+pub record Whole (f : ListForm) (p : Range) (count : ℕ) : Type 0 where
+  pub some : f .fewest ≤ count
+  pub most : count ≤ f .most
+  pub size : p .length ≡ f .least + f .each * count
+
+-- ---- the texts of a record, by their rows
+
+-- each pair is accepted
+abbrev pub TextsFit : ℕ → ℕ → List (List ℕ) → List Range → Type 0
+TextsFit fixed n [] ps = Unit
+TextsFit fixed n (x ∷ xs) [] = Unit
+TextsFit fixed n (x ∷ xs) (p ∷ ps) = PairFits Text fixed (limitOf x) n p × TextsFit fixed n xs ps
+
+-- each size is one that a writer takes
+abbrev pub SizesFit : List (List ℕ) → List ℕ → Type 0
+SizesFit [] ks = Unit
+SizesFit (x ∷ xs) [] = Unit
+SizesFit (x ∷ xs) (k ∷ ks) = SizeFits Text (limitOf x) k × SizesFit xs ks
+
+-- each range shows its text
+abbrev pub TextsShown : List ℕ → List Range → List (List ℕ) → Type 0
+TextsShown s [] ts = Unit
+TextsShown s (p ∷ ps) [] = Unit
+TextsShown s (p ∷ ps) (t ∷ ts) = (shownIn s p ≡ t) × TextsShown s ps ts
+
+-- the pairs stand one behind another from `at` on
+abbrev pub Adjoining : ℕ → List (List ℕ) → Type 0
+Adjoining at [] = Unit
+Adjoining at (x ∷ xs) = (placeOf x ≡ at) × Adjoining (at + 8) xs
+
+abbrev pub RangesSized : List Range → Type 0
+RangesSized [] = Unit
+RangesSized (p ∷ ps) = RangeSized p × RangesSized ps

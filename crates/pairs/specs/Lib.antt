@@ -1,2 +1,4 @@
 pub mod Pair
+pub mod Texts
+pub mod Lists
 pub mod Claims

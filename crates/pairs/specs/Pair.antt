@@ -4,6 +4,7 @@ use Prim.Native.Nat.{ℕ, _+_, _*_, _/_, _%_}
 use mathlib.Core.Bool.{Bool, false, not, cond, _&&_, _||_}
 use mathlib.Core.List.{List, [], _∷_, _++_}
 use lib.Dec.{ltb, eqb}
+use lib.ListN.{length, take, drop}
 use Rattle.wire.specs.Numbers.{u32At, digits}
 use Rattle.protocol.specs.Refusal.{wrongOffset, pastEnd, wrongSize}
 use Rattle.protocol.specs.Verdict.{Rule, rule, judge}
@@ -19,6 +20,10 @@ range start size = record { start = start; length = size }
 
 unfoldable pub rangeAt : List ℕ → ℕ → Range
 rangeAt s place = range (u32At s place) (u32At s (place + 4))
+
+-- the bytes of the payload s that a range shows; none where it ends past the payload
+unfoldable pub partOf : List ℕ → Range → List ℕ
+partOf s p = cond (ltb (length s) (p .start + p .length)) [] (take (p .length) (drop (p .start) s))
 
 -- ---- rules: broken, number, place; the first broken one decides
 

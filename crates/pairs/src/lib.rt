@@ -1,5 +1,8 @@
 // One offset/size pair of a payload: judged as a reader meets it, and placed as a writer puts it.
-// What stands in a pair's list is judged where the list is known.
+// The texts of a record stand in `texts`, a list behind a pair in `lists`.
+pub mod lists;
+pub mod texts;
+
 use protocol::PAST_END;
 use protocol::Refusal;
 use protocol::Verdict;
@@ -10,7 +13,7 @@ use wire::put_u32;
 use wire::u32_at;
 ghost use mathlib.Core.Path.{_≡_};
 ghost use lib.Seq.{sets};
-ghost use Rattle.pairs.specs.Pair.{rangeAt, ifSized, unfit, verdictOf, padded, placed, rangeBytes};
+ghost use Rattle.pairs.specs.Pair.{rangeAt, partOf, unfit, verdictOf, padded, placed, rangeBytes};
 
 // 01's pair. An accepted one shows `length` bytes of the payload from `start`; absent is (0, 0).
 #[repr(C)]
@@ -25,57 +28,16 @@ pub enum PairKind {
     List,
 }
 
-// The verdict on the pair that stands at `place` of a payload of `length` bytes.
-pub fn judge(
-    kind: PairKind,
-    fixed: u32,
-    limit: u32,
-    place: usize,
-    length: usize,
-    pair: Range,
-) -> Verdict
-    ensures { λ r. ⌜ r ≡ verdictOf kind fixed limit place length pair ⌝ }
+// The bytes of a payload that a range shows; none where it ends past the payload.
+pub fn part_of(payload: &[u8], range: Range) -> &[u8]
+    ensures { λ r. ⌜ now r ≡ partOf (now (payload .entry)) range ⌝ }
 {
-    let size = pair.length;
-    let end = pair.start as usize + size as usize;
-    if is_unfit(kind, limit, size as usize) {
-        return Verdict::Fault(Refusal {
-            number: WRONG_SIZE,
-            place,
-        });
+    let start = range.start as usize;
+    let end = start + range.length as usize;
+    if payload.len() < end {
+        return &payload[0..0];
     }
-    if size == 0 {
-        return also(Verdict::Fits, pair.start != 0, WRONG_OFFSET, place);
-    }
-    let outside = also(Verdict::Fits, pair.start < fixed, WRONG_OFFSET, place);
-    let aligned = also(outside, pair.start % 4 != 0, WRONG_OFFSET, place);
-    also(aligned, length < end, PAST_END, place)
-}
-
-// A rule on a pair's bytes is broken only where there are bytes.
-pub fn if_sized(size: u32, broken: bool) -> bool
-    ensures { λ r. ⌜ r ≡ ifSized size broken ⌝ }
-{
-    if size == 0 {
-        return false;
-    }
-    broken
-}
-
-// The pair at a place of a payload.
-pub fn range_at(payload: &[u8], place: usize) -> Range
-    ensures { λ r. ⌜ r ≡ rangeAt (now (payload .entry)) place ⌝ }
-{
-    if payload.len() <= place {
-        return Range {
-            start: 0,
-            length: 0,
-        };
-    }
-    Range {
-        start: u32_at(payload, place),
-        length: u32_at(payload, place + 4),
-    }
+    &payload[start..end]
 }
 
 // Whether a size is over its limit, or odd for text.
@@ -107,13 +69,7 @@ pub fn place_at(base: u32, size: u32) -> Range
     }
 }
 
-// A size with its padding, to a multiple of 4.
-pub fn padded_size(size: u32) -> usize
-    ensures { λ r. ⌜ r ≡ padded size ⌝ }
-{
-    (size as usize + 3) / 4 * 4
-}
-
+// The pair stored at a place.
 pub fn put_range(out: &mut [u8], place: usize, pair: Range)
     ensures { λ _. ⌜ now (out .exit) ≡ sets (now (out .entry)) place (rangeBytes pair) ⌝ }
 {
@@ -122,4 +78,54 @@ pub fn put_range(out: &mut [u8], place: usize, pair: Range)
     }
     put_u32(out, place, pair.start);
     put_u32(out, place + 4, pair.length);
+}
+
+// The verdict on the pair that stands at `place` of a payload of `length` bytes.
+fn judge(
+    kind: PairKind,
+    fixed: u32,
+    limit: u32,
+    place: usize,
+    length: usize,
+    pair: Range,
+) -> Verdict
+    ensures { λ r. ⌜ r ≡ verdictOf kind fixed limit place length pair ⌝ }
+{
+    let size = pair.length;
+    let end = pair.start as usize + size as usize;
+    if is_unfit(kind, limit, size as usize) {
+        return Verdict::Fault(Refusal {
+            number: WRONG_SIZE,
+            place,
+        });
+    }
+    if size == 0 {
+        return also(Verdict::Fits, pair.start != 0, WRONG_OFFSET, place);
+    }
+    let outside = also(Verdict::Fits, pair.start < fixed, WRONG_OFFSET, place);
+    let aligned = also(outside, pair.start % 4 != 0, WRONG_OFFSET, place);
+    also(aligned, length < end, PAST_END, place)
+}
+
+// The pair at a place of a payload.
+fn range_at(payload: &[u8], place: usize) -> Range
+    ensures { λ r. ⌜ r ≡ rangeAt (now (payload .entry)) place ⌝ }
+{
+    if payload.len() <= place {
+        return Range {
+            start: 0,
+            length: 0,
+        };
+    }
+    Range {
+        start: u32_at(payload, place),
+        length: u32_at(payload, place + 4),
+    }
+}
+
+// A size with its padding, to a multiple of 4.
+fn padded_size(size: u32) -> usize
+    ensures { λ r. ⌜ r ≡ padded size ⌝ }
+{
+    (size as usize + 3) / 4 * 4
 }

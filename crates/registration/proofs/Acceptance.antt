@@ -21,17 +21,16 @@ use Rattle.protocol.specs.declared.Version.the-variants.{V2}
 use Rattle.protocol.specs.declared.Written.the-variants.{Length}
 use Rattle.protocol.proofs.Tests.{and-cases, cases-and, or-none, none-or, equal-kept, kept-equal}
 use Rattle.protocol.proofs.Verdicts.{left-fits, right-fits, fits-kept, kept-fits, open-length, length-open, written-both, both-written}
-use Rattle.pairs.specs.Pair.{rangeAt, verdictOf}
-use Rattle.pairs.specs.Claims.{PairFits}
-use Rattle.pairs.specs.declared.PairKind.the-variants.{Text}
-use Rattle.pairs.proofs.Laws.{size-said, said-size, fits-said, said-fits}
+use Rattle.pairs.specs.Texts.{rangesAt}
+use Rattle.pairs.specs.Claims.{TextsFit}
+use Rattle.pairs.proofs.Rows.{texts-said, said-texts, said-sizes}
 use Rattle.registration.specs.declared.RegistrationForm.{RegistrationForm}
 use Rattle.registration.specs.declared.RegistrationForm.the-variants.{V1 as Form1, V2 as Form2}
 use Rattle.registration.specs.declared.Registration.{Registration}
 use Rattle.registration.specs.declared.RegistrationTexts.{RegistrationTexts}
 use Rattle.registration.specs.declared.RegistrationRead.the-variants.{Info}
-use Rattle.registration.specs.Registration.{fixedPart, recordAt, textsAt, frontRules, textsVerdict, unregistered, preferredRules, backRules, shown, readOf, versionOf, sizeRules, writtenVerdict, bytesOf, writeOf}
-use Rattle.registration.proofs.Laws.{parts}
+use Rattle.registration.specs.Registration.{fixedPart, recordAt, textRows, textsAt, frontRules, textsVerdict, unregistered, preferredRules, backRules, shown, readOf, versionOf, three, sizeRules, writtenVerdict, bytesOf, writeOf}
+use Rattle.registration.proofs.Laws.{parts, small}
 use Rattle.registration.specs.Claims.{FormFits, NumbersFit, Acceptable, Writable, TextsSafe}
 
 -- ---- each rule as a fact
@@ -96,9 +95,7 @@ module _ (p : Registration) where
 record Kept-all (v : Version) (s : List ℕ) : Type 0 where
   long : openLength (fixedPart v) (length s) ≡ Fits
   front : Kept (frontRules v (recordAt v s))
-  id : PairFits Text (fixedPart v) 12 (length s) (rangeAt s 20)
-  name : PairFits Text (fixedPart v) 40 (length s) (rangeAt s 28)
-  roaming : PairFits Text (fixedPart v) 126 (length s) (rangeAt s 36)
+  texts : TextsFit (fixedPart v) (length s) textRows (rangesAt s textRows)
   back : Kept (backRules (recordAt v s))
 
 verdict : Version → List ℕ → Verdict
@@ -113,28 +110,20 @@ all-kept v s e =
     let n = length s in
     let fields = right-fits (openLength f n) _ e in
     let later = right-fits (judge (frontRules v (recordAt v s))) _ fields in
-    let texts = left-fits (textsVerdict f n (textsAt s)) _ later in
-    let others = right-fits (verdictOf Text f 12 20 n (rangeAt s 20)) _ texts in
     record {
       long = left-fits (openLength f n) _ e;
       front = fits-kept (frontRules v (recordAt v s)) (left-fits _ _ fields);
-      id = fits-said Text f 12 20 n (rangeAt s 20) (left-fits _ _ texts);
-      name = fits-said Text f 40 28 n (rangeAt s 28) (left-fits _ _ others);
-      roaming = fits-said Text f 126 36 n (rangeAt s 36) (right-fits (verdictOf Text f 40 28 n (rangeAt s 28)) _ others);
+      texts = texts-said f n textRows (rangesAt s textRows) (left-fits (textsVerdict f n (textsAt s)) _ later);
       back = fits-kept (backRules (recordAt v s)) (right-fits (textsVerdict f n (textsAt s)) _ later);
     }
 
 kept-all : (v : Version) (s : List ℕ) → Kept-all v s → verdict v s ≡ Fits
 unfolding verdict textsVerdict textsAt firstOf
 kept-all v s k =
-    let f = fixedPart v in
-    let n = length s in
     rw (
       k .long,
       kept-fits (frontRules v (recordAt v s)) (k .front),
-      said-fits Text f 12 20 n (rangeAt s 20) (k .id),
-      said-fits Text f 40 28 n (rangeAt s 28) (k .name),
-      said-fits Text f 126 36 n (rangeAt s 36) (k .roaming),
+      said-texts (fixedPart v) (length s) textRows (rangesAt s textRows) (k .texts),
       kept-fits (backRules (recordAt v s)) (k .back),
     )
 
@@ -145,18 +134,16 @@ fields-said v s k = record {
   fixed = open-length (fixedPart v) (length s) (k .long) .0;
   most = open-length (fixedPart v) (length s) (k .long) .1;
   numbers = numbers-said (recordAt v s) v (k .front) (k .back);
-  id = k .id;
-  name = k .name;
-  roaming = k .roaming;
+  id = k .texts .0;
+  name = k .texts .1 .0;
+  roaming = k .texts .1 .1 .0;
 }
 
 said-fields : (v : Version) (s : List ℕ) → Acceptable v s → Kept-all v s
 said-fields v s a = record {
   long = length-open (fixedPart v) (length s) (a .fixed) (a .most);
   front = said-front (recordAt v s) v (a .numbers);
-  id = a .id;
-  name = a .name;
-  roaming = a .roaming;
+  texts = (a .id, (a .name, (a .roaming, tt)));
   back = said-rest (recordAt v s) v (a .numbers);
 }
 
@@ -193,14 +180,14 @@ texts-safe v s p t e =
 -- ---- a writer accepts exactly what its rules allow, where it has room
 
 writable-said : (p : Registration) (id name roaming : ℕ) → writtenVerdict p id name roaming ≡ Fits → Writable p id name roaming
-unfolding sizeRules
 writable-said p id name roaming e =
     let k = parts p id name roaming e in
+    let sizes = small p id name roaming e in
     record {
       numbers = numbers-said p (versionOf p) (fits-kept (frontRules (versionOf p) p) (k .front)) (fits-kept (backRules p) (k .back));
-      id = size-said Text 12 id (k .sizes .0);
-      name = size-said Text 40 name (k .sizes .1 .0);
-      roaming = size-said Text 126 roaming (k .sizes .1 .1 .0);
+      id = sizes .0;
+      name = sizes .1 .0;
+      roaming = sizes .1 .1 .0;
     }
 
 said-writable : (p : Registration) (id name roaming : ℕ) → Writable p id name roaming → writtenVerdict p id name roaming ≡ Fits
@@ -208,7 +195,7 @@ unfolding writtenVerdict sizeRules firstOf
 said-writable p id name roaming w =
     rw (
       kept-fits (frontRules (versionOf p) p) (said-front p (versionOf p) (w .numbers)),
-      kept-fits (sizeRules id name roaming) (said-size Text 12 id (w .id), (said-size Text 40 name (w .name), (said-size Text 126 roaming (w .roaming), tt))),
+      kept-fits (sizeRules id name roaming) (said-sizes textRows (three id name roaming) (w .id, (w .name, (w .roaming, tt)))),
       kept-fits (backRules p) (said-rest p (versionOf p) (w .numbers)),
     )
 

@@ -4,12 +4,13 @@
 use mathlib.Core.Path.{_≡_, refl, ap, _∙_}
 use mathlib.Core.Bool.{Bool, true, false}
 use mathlib.Core.List.{List}
-use Prim.Native.Nat.{ℕ, zero, suc, _+_, _≤_}
+use Prim.Native.Nat.{ℕ, _≤_}
 use native.Mathlib.Omega.{arith}
-use borrow.Author.Tests.{eqb-true, eqb-false, ne-eqb}
+use borrow.Author.Tests.{eqb-true, eqb-false}
 use lib.Bits.{bitAnd}
 use lib.Dec.{eqb}
 use lib.ListN.{length}
+use Rattle.protocol.specs.Refusal.{refusal, tooShort}
 use Rattle.protocol.specs.Verdict.{Kept, judge, judgeFrom, faultIf, firstOf, openLength}
 use Rattle.protocol.specs.DataClass.{maskOf, onlyClasses}
 use Rattle.protocol.specs.declared.Verdict.{Verdict}
@@ -18,14 +19,14 @@ use Rattle.protocol.specs.declared.Version.the-variants.{V1, V2}
 use Rattle.protocol.proofs.Tests.{equal-kept, kept-equal}
 use Rattle.protocol.proofs.Verdicts.{last-fits, fits-kept, kept-fits, open-short}
 use Rattle.protocol.proofs.Classes.{later-classes}
-use Rattle.pairs.specs.declared.PairKind.the-variants.{Text}
-use Rattle.pairs.proofs.Laws.{placed-inside, absent-fits}
+use Rattle.pairs.specs.Texts.{endOf}
+use Rattle.pairs.proofs.Rows.{end-behind, end-aligned, laid-inside, none-inside}
 use Rattle.registration.specs.declared.RegistrationForm.{RegistrationForm}
 use Rattle.registration.specs.declared.RegistrationForm.the-variants.{V1 as Form1, V2 as Form2}
 use Rattle.registration.specs.declared.Registration.{Registration}
 use Rattle.registration.specs.declared.RegistrationTexts.{RegistrationTexts}
 use Rattle.registration.specs.declared.RegistrationRead.the-variants.{Refused}
-use Rattle.registration.specs.Registration.{fixedPart, recordAt, textsAt, frontRules, textsVerdict, backRules, shown, readOf, versionOf, sizeRules, writtenVerdict, laidTexts, laidFor, lengthOf, bytesOf}
+use Rattle.registration.specs.Registration.{fixedPart, recordAt, textRows, textsAt, frontRules, textsVerdict, backRules, shown, readOf, versionOf, three, sizeRules, writtenVerdict, laidTexts, laidFor, lengthOf, bytesOf}
 use Rattle.registration.specs.Claims.{inForm, shownEarlier, refusedLater, Sized}
 use Rattle.registration.proofs.Laws.{parts, length-bytes}
 use Rattle.registration.proofs.RoundTrip.{read-back, texts-shown, shared-shown, length-fits}
@@ -71,46 +72,34 @@ front-later p k =
     kept-fits (frontRules V2 p)
     (k .0, (k .1 .0, (kept-equal (bitAnd c (maskOf V2)) c (later-classes c (equal-kept (bitAnd c (maskOf V1)) c (k .1 .1 .0))), (k .1 .1 .1 .0, tt))))
 
--- by the sizes of the texts: the first one that is there lies in the larger fixed part
-texts-later : (n a b c : ℕ) → Kept (sizeRules a b c) → (a + b + c ≡ 0 → ⊥)
-    → textsVerdict 52 n (laidTexts 48 a b c) ≡ Fault (refusedLater a b c)
-unfolding textsVerdict laidTexts firstOf sizeRules
-texts-later n zero zero zero k h = absurd (h refl)
-texts-later n zero zero (suc c) k h =
-    rw (absent-fits Text 52 12 20 n, absent-fits Text 52 40 28 n, placed-inside Text 52 126 36 n 48 (suc c) (k .1 .1 .0) (omega arith) (omega arith), ne-eqb (suc c) 0 (omega arith))
-texts-later n zero (suc b) c k h =
-    rw (absent-fits Text 52 12 20 n, placed-inside Text 52 40 28 n 48 (suc b) (k .1 .0) (omega arith) (omega arith), ne-eqb (suc b) 0 (omega arith))
-texts-later n (suc a) b c k h =
-    rw (placed-inside Text 52 12 20 n 48 (suc a) (k .0) (omega arith) (omega arith), ne-eqb (suc a) 0 (omega arith))
+-- ---- by the sizes of the texts: with none the bytes are too short; else the first one that is there lies in the larger fixed part
 
--- no text: the bytes are too short
-none-later : (p : Registration) (x y z : List ℕ) → versionOf p ≡ V1 → length x + length y + length z ≡ 0
-    → readOf V2 (bytesOf p x y z) ≡ Refused (refusedLater (length x) (length y) (length z))
-unfolding readOf firstOf
-none-later p x y z e h =
-    let a : length x ≡ 0 = omega arith in
-    let b : length y ≡ 0 = omega arith in
-    let c : length z ≡ 0 = omega arith in
-    rw (length-bytes p x y z, e, a, b, c, open-short 52 48 (omega arith))
+module _ (p : Registration) (x y z : List ℕ) (e : versionOf p ≡ V1) where
+  abbrev sizes : List ℕ
+  sizes = three (length x) (length y) (length z)
 
-some-later : (p : Registration) (x y z : List ℕ) → versionOf p ≡ V1 → Sized p → writtenVerdict p (length x) (length y) (length z) ≡ Fits
-    → (length x + length y + length z ≡ 0 → ⊥) → readOf V2 (bytesOf p x y z) ≡ Refused (refusedLater (length x) (length y) (length z))
-unfolding readOf firstOf frontRules
-some-later p x y z e s ok h =
-    let k = parts p (length x) (length y) (length z) ok in
-    let n = length (bytesOf p x y z) in
-    let enough : 52 ≤ lengthOf (versionOf p) (length x) (length y) (length z) = rw e (omega arith) in
-    let o : openLength 52 n ≡ Fits = length-fits p x y z ok V2 enough in
-    let front : judge (frontRules V2 (recordAt V2 (bytesOf p x y z))) ≡ Fits =
-    ap (λ (r : Registration). judge (frontRules V2 r)) (shared-shown p x y z ok V2 s) ∙ front-later p (rw e at (fits-kept (frontRules (versionOf p) p) (k .front))) in
-    let texts : textsVerdict 52 n (textsAt (bytesOf p x y z)) ≡ Fault (refusedLater (length x) (length y) (length z)) =
-    rw (texts-shown p x y z ok, e) (texts-later n (length x) (length y) (length z) (k .sizes) h) in
-    rw (o, front, texts)
+  none-later : endOf 48 sizes ≡ 48 → readOf V2 (bytesOf p x y z) ≡ Refused (refusedLater (length x) (length y) (length z))
+  unfolding readOf firstOf
+  none-later h = rw (length-bytes p x y z, e, h, open-short 52 48 (omega arith), none-inside 48 (refusal tooShort 48) textRows sizes h)
+
+  some-later : Sized p → writtenVerdict p (length x) (length y) (length z) ≡ Fits → (endOf 48 sizes ≡ 48 → ⊥)
+      → readOf V2 (bytesOf p x y z) ≡ Refused (refusedLater (length x) (length y) (length z))
+  unfolding readOf firstOf frontRules textsVerdict laidTexts sizeRules
+  some-later s ok h =
+      let k = parts p (length x) (length y) (length z) ok in
+      let n = length (bytesOf p x y z) in
+      let enough : 52 ≤ lengthOf (versionOf p) (length x) (length y) (length z) = rw e (omega (arith, end-behind 48 sizes, end-aligned 48 sizes refl)) in
+      let o : openLength 52 n ≡ Fits = length-fits p x y z ok V2 enough in
+      let front : judge (frontRules V2 (recordAt V2 (bytesOf p x y z))) ≡ Fits =
+      ap (λ (r : Registration). judge (frontRules V2 r)) (shared-shown p x y z ok V2 s) ∙ front-later p (rw e at (fits-kept (frontRules (versionOf p) p) (k .front))) in
+      let texts : textsVerdict 52 n (textsAt (bytesOf p x y z)) ≡ Fault (refusedLater (length x) (length y) (length z)) =
+      rw (texts-shown p x y z ok, e) (laid-inside 52 n 48 (refusal tooShort 48) textRows sizes (k .sizes) (omega arith) (omega arith) h) in
+      rw (o, front, texts)
 
 pub earlier-read-later : (p : Registration) (x y z : List ℕ) → versionOf p ≡ V1 → Sized p → writtenVerdict p (length x) (length y) (length z) ≡ Fits
     → readOf V2 (bytesOf p x y z) ≡ Refused (refusedLater (length x) (length y) (length z))
-earlier-read-later p x y z e s ok = by-sizes (eqb (length x + length y + length z) 0) refl
+earlier-read-later p x y z e s ok = by-sizes (eqb (endOf 48 (three (length x) (length y) (length z))) 48) refl
   where
-    by-sizes : (b : Bool) → eqb (length x + length y + length z) 0 ≡ b → readOf V2 (bytesOf p x y z) ≡ Refused (refusedLater (length x) (length y) (length z))
-    by-sizes true h = none-later p x y z e (eqb-true (length x + length y + length z) 0 h)
-    by-sizes false h = some-later p x y z e s ok (eqb-false (length x + length y + length z) 0 h)
+    by-sizes : (b : Bool) → eqb (endOf 48 (three (length x) (length y) (length z))) 48 ≡ b → readOf V2 (bytesOf p x y z) ≡ Refused (refusedLater (length x) (length y) (length z))
+    by-sizes true h = none-later p x y z e (eqb-true (endOf 48 (three (length x) (length y) (length z))) 48 h)
+    by-sizes false h = some-later p x y z e s ok (eqb-false (endOf 48 (three (length x) (length y) (length z))) 48 h)

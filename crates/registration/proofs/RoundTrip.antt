@@ -2,29 +2,29 @@
 -- Assumes nothing.
 use mathlib.Core.Path.{_≡_, refl, ap, _∙_}
 use mathlib.Core.List.{List, [], _++_, append-assoc, append-nil}
-use Prim.Native.Nat.{ℕ, _+_, _%_, _≤_}
+use Prim.Native.Nat.{ℕ, _≤_}
 use native.Mathlib.Omega.{arith}
-use lib.ListN.{length, take, length-append}
+use lib.ListN.{length, take}
 use Rattle.wire.specs.Numbers.{u32At, digits}
-use Rattle.wire.proofs.Laws.{num-digits, length-fitted}
+use Rattle.wire.proofs.Laws.{num-digits}
 use Rattle.protocol.specs.Verdict.{judge, firstOf, openLength}
 use Rattle.protocol.specs.declared.Verdict.the-variants.{Fits}
 use Rattle.protocol.specs.declared.Version.{Version}
-use Rattle.protocol.specs.declared.Version.the-variants.{V1, V2}
 use Rattle.protocol.specs.declared.Written.the-variants.{Length}
 use Rattle.protocol.proofs.Verdicts.{length-open, written-fits, written-front}
-use Rattle.pairs.specs.Pair.{rangeAt, padded, rangeBytes}
-use Rattle.pairs.specs.Claims.{RangeSized, shownIn}
-use Rattle.pairs.specs.declared.PairKind.the-variants.{Text}
-use Rattle.pairs.proofs.Laws.{placed-fits, placed-sized, placed-back}
+use Rattle.pairs.specs.Pair.{rangeBytes}
+use Rattle.pairs.specs.Texts.{laid, endOf, rangesBytes}
+use Rattle.pairs.specs.Texts as pairs
+use Rattle.pairs.specs.Claims.{shownIn}
+use Rattle.pairs.proofs.Rows.{end-behind, laid-fit, laid-sized, ranges-back, texts-back}
 use Rattle.registration.specs.declared.RegistrationForm.{RegistrationForm}
 use Rattle.registration.specs.declared.RegistrationForm.the-variants.{V1 as Form1, V2 as Form2}
 use Rattle.registration.specs.declared.Registration.{Registration}
 use Rattle.registration.specs.declared.RegistrationTexts.{RegistrationTexts}
 use Rattle.registration.specs.declared.RegistrationRead.the-variants.{Info}
-use Rattle.registration.specs.Registration.{fixedPart, formAt, recordAt, textsAt, frontRules, textsVerdict, backRules, shown, readOf, versionIn, versionOf, sizeRules, writtenVerdict, laidTexts, laidFor, lengthOf, frontBytes, textsBytes, preferredBytes, backBytes, fixedBytes, fixedWith, textBytes, bytesOf, writeOf}
+use Rattle.registration.specs.Registration.{fixedPart, formAt, recordAt, textRows, textsOf, textsAt, frontRules, textsVerdict, backRules, shown, readOf, versionIn, versionOf, three, sizeRules, writtenVerdict, laidTexts, laidFor, lengthOf, frontBytes, textsBytes, preferredBytes, backBytes, fixedBytes, fixedWith, bytesOf, writeOf}
 use Rattle.registration.specs.Claims.{Returned, inForm, FormSized, Sized}
-use Rattle.registration.proofs.Laws.{fixed-small, length-fixed, length-bytes, parts, small}
+use Rattle.registration.proofs.Laws.{fixed-four, length-fixed, length-bytes, parts, end-most}
 
 -- ---- the fixed part, whatever follows
 
@@ -54,51 +54,32 @@ form-back p t rest = by-form (p .form)
     by-form Form1 z = refl
     by-form (Form2 class) z = ap Form2 (num-digits 4 class [] z)
 
-texts-back : (p : Registration) (t : RegistrationTexts) (rest : List ℕ) → RangeSized (t .«provider_id») → RangeSized (t .«provider_name») → RangeSized (t .«roaming_text»)
-    → textsAt (fixedWith p t ++ rest) ≡ t
-unfolding textsAt rangeAt u32At fixedBytes frontBytes textsBytes backBytes rangeBytes
-texts-back p t rest x y z =
-    λ i. record {
-      «provider_id» = record { start = num-digits 4 (t .«provider_id» .start) [] (x .start) i; length = num-digits 4 (t .«provider_id» .length) [] (x .length) i };
-      «provider_name» = record { start = num-digits 4 (t .«provider_name» .start) [] (y .start) i; length = num-digits 4 (t .«provider_name» .length) [] (y .length) i };
-      «roaming_text» = record { start = num-digits 4 (t .«roaming_text» .start) [] (z .start) i; length = num-digits 4 (t .«roaming_text» .length) [] (z .length) i };
-    }
-
-fixed-four : (v : Version) → fixedPart v % 4 ≡ 0
-fixed-four V1 = refl
-fixed-four V2 = refl
-
 -- ---- a payload as the writer lays it out
 
 module _ (p : Registration) (x y z : List ℕ) (ok : writtenVerdict p (length x) (length y) (length z) ≡ Fits) where
+  abbrev sizes : List ℕ
+  sizes = three (length x) (length y) (length z)
+
   pub texts-shown : textsAt (bytesOf p x y z) ≡ (laidFor p x y z)
-  unfolding bytesOf laidTexts
+  unfolding textsAt bytesOf laidTexts fixedBytes frontBytes textsBytes
   texts-shown =
-      let k = small p (length x) (length y) (length z) ok in
-      let f = fixed-small (versionOf p) in
-      texts-back p (laidFor p x y z) _
-      (placed-sized (fixedPart (versionOf p)) (length x) (omega arith) (omega arith))
-      (placed-sized (fixedPart (versionOf p) + padded (length x)) (length y) (omega arith) (omega arith))
-      (placed-sized (fixedPart (versionOf p) + padded (length x) + padded (length y)) (length z) (omega arith) (omega arith))
+      let f = fixedPart (versionOf p) in
+      let t = pairs.textsBytes (three x y z) in
+      let ps = laid f sizes in
+      let most = end-most p (length x) (length y) (length z) ok in
+      let back = ranges-back (frontBytes p) (backBytes p ++ t) textRows ps 20 refl refl (refl, (refl, (refl, tt))) (laid-sized f sizes (omega arith)) in
+      rw (append-assoc (frontBytes p) (rangesBytes ps ++ backBytes p) t, append-assoc (rangesBytes ps) (backBytes p) t) (ap textsOf back)
 
   -- the pairs fit at each version whose fixed part is no longer than the writer's
   texts-fit : (v : Version) → fixedPart v ≤ fixedPart (versionOf p) → textsVerdict (fixedPart v) (lengthOf (versionOf p) (length x) (length y) (length z)) (laidFor p x y z) ≡ Fits
-  unfolding textsVerdict laidTexts firstOf sizeRules
+  unfolding textsVerdict laidTexts sizeRules
   texts-fit v h =
-      let k = parts p (length x) (length y) (length z) ok .sizes in
       let f = fixedPart (versionOf p) in
-      let n = lengthOf (versionOf p) (length x) (length y) (length z) in
-      let q = fixed-four (versionOf p) in
-      rw (
-        placed-fits Text (fixedPart v) 12 20 n f (length x) (k .0) h q (omega arith),
-        placed-fits Text (fixedPart v) 40 28 n (f + padded (length x)) (length y) (k .1 .0) (omega arith) (omega arith) (omega arith),
-        placed-fits Text (fixedPart v) 126 36 n (f + padded (length x) + padded (length y)) (length z) (k .1 .1 .0) (omega arith) (omega arith) (omega arith),
-      )
+      laid-fit (fixedPart v) (endOf f sizes) f textRows sizes (parts p (length x) (length y) (length z) ok .sizes) h (fixed-four (versionOf p)) (omega arith)
 
   pub length-fits : (v : Version) → fixedPart v ≤ lengthOf (versionOf p) (length x) (length y) (length z) → openLength (fixedPart v) (length (bytesOf p x y z)) ≡ Fits
   length-fits v h =
-      let k = small p (length x) (length y) (length z) ok in
-      let f = fixed-small (versionOf p) in
+      let most = end-most p (length x) (length y) (length z) ok in
       rw (length-bytes p x y z) (length-open (fixedPart v) (lengthOf (versionOf p) (length x) (length y) (length z)) h (omega arith))
 
   pub shared-shown : (v : Version) → Sized p → recordAt v (bytesOf p x y z) ≡ inForm (formAt v (bytesOf p x y z)) p
@@ -113,7 +94,7 @@ module _ (p : Registration) (x y z : List ℕ) (ok : writtenVerdict p (length x)
   read-back v h s =
       let f = formAt v (bytesOf p x y z) in
       let r = shared-shown v s in
-      let o = length-fits v (omega arith) in
+      let o = length-fits v (omega (arith, end-behind (fixedPart (versionOf p)) sizes)) in
       let t = texts-fit v h in
       (λ i. shown (firstOf (o i) (firstOf (judge (frontRules v (r i))) (firstOf (textsVerdict (fixedPart v) (length-bytes p x y z i) (texts-shown i)) (judge (backRules (r i)))))) (r i) (texts-shown i))
       ∙ (λ i. shown (firstOf (judge (frontRules v p)) (firstOf (t i) (judge (backRules (inForm f p))))) (inForm f p) (laidFor p x y z))
@@ -134,18 +115,8 @@ module _ (p : Registration) (x y z : List ℕ) (ok : writtenVerdict p (length x)
   unfolding bytesOf laidTexts
   texts-read =
       let f = fixedWith p (laidFor p x y z) in
-      let a = textBytes x in
-      let b = textBytes y in
-      let c = textBytes z in
-      let kf : length f ≡ fixedPart (versionOf p) = length-fixed p ((laidFor p x y z) .«provider_id») ((laidFor p x y z) .«provider_name») ((laidFor p x y z) .«roaming_text») in
-      let ka : length (f ++ a) ≡ fixedPart (versionOf p) + padded (length x) = omega (arith, length-append f a, length-fitted (padded (length x)) x) in
-      let kb : length ((f ++ a) ++ b) ≡ fixedPart (versionOf p) + padded (length x) + padded (length y) = omega (arith, length-append (f ++ a) b, length-fitted (padded (length y)) y) in (
-        placed-back f x (b ++ c) (fixedPart (versionOf p)) kf,
-        (
-          rw (← append-assoc f a (b ++ c)) (placed-back (f ++ a) y c _ ka),
-          rw (← append-assoc f a (b ++ c), ← append-assoc (f ++ a) b c, ← append-nil c) (placed-back ((f ++ a) ++ b) z [] _ kb),
-        ),
-      )
+      let t = rw (append-nil (pairs.textsBytes (three x y z))) at (texts-back f [] (three x y z) (fixedPart (versionOf p)) (length-fixed p (laidFor p x y z))) in
+      (t .0, (t .1 .0, t .1 .1 .0))
 
 -- what the writer puts into an output, read at the record's version, is the record with its texts
 pub round-trip : (p : Registration) (x y z s : List ℕ) (n : ℕ) → Sized p → writeOf p x y z s .answer ≡ Length n

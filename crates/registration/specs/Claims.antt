@@ -5,14 +5,14 @@ use mathlib.Core.Logic.{_⊎_}
 use mathlib.Core.Bool.{cond}
 use mathlib.Core.List.{List}
 use lib.Bits.{bitAnd}
-use lib.Dec.{eqb}
 use lib.ListN.{length}
-use Rattle.protocol.specs.Refusal.{refusal, tooShort, wrongOffset, outsideTable}
+use Rattle.protocol.specs.Refusal.{refusal, tooShort, outsideTable}
 use Rattle.protocol.specs.DataClass.{maskOf, onlyClasses}
 use Rattle.protocol.specs.declared.Refusal.{Refusal}
 use Rattle.protocol.specs.declared.Version.{Version}
 use Rattle.protocol.specs.declared.Version.the-variants.{V1, V2}
 use Rattle.pairs.specs.Pair.{rangeAt}
+use Rattle.pairs.specs.Texts.{firstInside}
 use Rattle.pairs.specs.Claims.{Absent, Inside, SizeFits, PairFits, shownIn}
 use Rattle.pairs.specs.declared.PairKind.the-variants.{Text}
 use Rattle.registration.specs.declared.RegistrationForm.{RegistrationForm}
@@ -21,7 +21,7 @@ use Rattle.registration.specs.declared.Registration.{Registration}
 use Rattle.registration.specs.declared.RegistrationTexts.{RegistrationTexts}
 use Rattle.registration.specs.declared.RegistrationRead.{RegistrationRead}
 use Rattle.registration.specs.declared.RegistrationRead.the-variants.{Info, Refused}
-use Rattle.registration.specs.Registration.{fixedPart, recordAt, readOf, versionOf}
+use Rattle.registration.specs.Registration.{fixedPart, recordAt, textRows, readOf, versionOf, three}
 
 -- ---- the rules in words of fields
 
@@ -96,12 +96,7 @@ shownEarlier p t = cond (onlyClasses V1 (p .«available_data_class»)) (Info (in
 
 -- bytes of 1.00 at 2.00, by the sizes of the texts: the first one there lies in the larger fixed part; with none it is the length
 abbrev pub refusedLater : ℕ → ℕ → ℕ → Refusal
-refusedLater id name roaming =
-    cond (eqb id 0)
-    (cond (eqb name 0)
-    (cond (eqb roaming 0) (refusal tooShort 48) (refusal wrongOffset 36))
-    (refusal wrongOffset 28))
-    (refusal wrongOffset 20)
+refusedLater id name roaming = firstInside (refusal tooShort 48) textRows (three id name roaming)
 
 -- ---- each field is of its width
 

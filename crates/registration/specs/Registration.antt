@@ -1,22 +1,22 @@
 -- The REGISTER_STATE payload (document 01, "Registration"; source 000, MBIM_REGISTRATION_STATE_INFO_V2).
 -- In this order: the fields and their places; the rules, in the order in which they are judged; what a reader answers; what a writer gives.
-use Prim.Native.Nat.{ℕ, _+_}
+use Prim.Native.Nat.{ℕ}
 use mathlib.Core.Bool.{Bool, not, _&&_, _||_}
 use mathlib.Core.List.{List, [], _∷_, _++_}
 use lib.Dec.{ltb, eqb}
-use lib.ListN.{length}
+use lib.ListN.{length, getD}
 use Rattle.wire.specs.Numbers.{u32At, digits}
-use Rattle.wire.specs.Runs.{fitted}
-use Rattle.protocol.specs.Refusal.{wrongSize, outsideTable, contradiction}
+use Rattle.protocol.specs.Refusal.{outsideTable, contradiction}
 use Rattle.protocol.specs.Verdict.{Rule, rule, judge, firstOf, openLength, Writing, writing}
 use Rattle.protocol.specs.DataClass.{onlyClasses}
 use Rattle.protocol.specs.declared.Verdict.{Verdict}
 use Rattle.protocol.specs.declared.Verdict.the-variants.{Fits, Fault}
 use Rattle.protocol.specs.declared.Version.{Version}
 use Rattle.protocol.specs.declared.Version.the-variants.{V1, V2}
-use Rattle.pairs.specs.Pair.{rangeAt, unfit, verdictOf, padded, placed, rangeBytes}
+use Rattle.pairs.specs.Pair.{range}
+use Rattle.pairs.specs.Texts.{row, rangesAt, laid, endOf, rangesBytes}
+use Rattle.pairs.specs.Texts as pairs
 use Rattle.pairs.specs.declared.Range.{Range}
-use Rattle.pairs.specs.declared.PairKind.the-variants.{Text}
 use Rattle.registration.specs.declared.RegistrationForm.{RegistrationForm}
 use Rattle.registration.specs.declared.RegistrationForm.the-variants.{V1 as Form1, V2 as Form2}
 use Rattle.registration.specs.declared.Registration.{Registration}
@@ -48,12 +48,22 @@ recordAt v s = record {
   form = formAt v s;
 }
 
+-- "pairs ProviderId 20, ProviderName 28, RoamingText 36 with limits 12, 40 and 126 bytes"
+abbrev pub textRows : List (List ℕ)
+textRows = row 20 12 ∷ (row 28 40 ∷ (row 36 126 ∷ []))
+
 abbrev pub texts : Range → Range → Range → RegistrationTexts
 texts id name roaming = record { «provider_id» = id; «provider_name» = name; «roaming_text» = roaming }
 
--- pairs ProviderId 20, ProviderName 28, RoamingText 36
+-- the ranges of the texts in field order, and back
+abbrev pub rangesOf : RegistrationTexts → List Range
+rangesOf t = t .«provider_id» ∷ (t .«provider_name» ∷ (t .«roaming_text» ∷ []))
+
+abbrev pub textsOf : List Range → RegistrationTexts
+textsOf ps = texts (getD ps 0 (range 0 0)) (getD ps 1 (range 0 0)) (getD ps 2 (range 0 0))
+
 unfoldable pub textsAt : List ℕ → RegistrationTexts
-textsAt s = texts (rangeAt s 20) (rangeAt s 28) (rangeAt s 36)
+textsAt s = textsOf (rangesAt s textRows)
 
 -- ---- rules: broken, number, place; the first broken one decides
 
@@ -66,12 +76,9 @@ frontRules v p =
     ∷ rule (ltb 3 (p .«cellular_class»)) outsideTable 16
     ∷ []
 
--- the pairs, with limits 12, 40 and 126, in n bytes
+-- the pairs, in n bytes
 unfoldable pub textsVerdict : ℕ → ℕ → RegistrationTexts → Verdict
-textsVerdict fixed n t =
-    firstOf (verdictOf Text fixed 12 20 n (t .«provider_id»))
-    (firstOf (verdictOf Text fixed 40 28 n (t .«provider_name»))
-    (verdictOf Text fixed 126 36 n (t .«roaming_text»)))
+textsVerdict fixed n t = pairs.textsVerdict fixed n textRows (rangesOf t)
 
 -- the class is not 0 though the state is not 3, 4 or 5
 abbrev pub unregistered : ℕ → ℕ → Bool
@@ -113,10 +120,13 @@ versionIn (Form2 class) = V2
 abbrev pub versionOf : Registration → Version
 versionOf p = versionIn (p .form)
 
+-- three sizes or three texts, in field order
+abbrev pub three : {A : Type 0} → A → A → A → List A
+three a b c = a ∷ (b ∷ (c ∷ []))
+
 -- the sizes of the texts; a pair that the writer places breaks no other rule (proofs/RoundTrip)
 unfoldable pub sizeRules : ℕ → ℕ → ℕ → List Rule
-sizeRules id name roaming =
-    rule (unfit Text 12 id) wrongSize 20 ∷ rule (unfit Text 40 name) wrongSize 28 ∷ rule (unfit Text 126 roaming) wrongSize 36 ∷ []
+sizeRules id name roaming = pairs.sizeRules textRows (three id name roaming)
 
 -- what fits is at most 232 bytes long, so number 5 is never given
 unfoldable pub writtenVerdict : Registration → ℕ → ℕ → ℕ → Verdict
@@ -125,10 +135,10 @@ writtenVerdict p id name roaming =
 
 -- the texts straight after the fixed part, in field order
 unfoldable pub laidTexts : ℕ → ℕ → ℕ → ℕ → RegistrationTexts
-laidTexts fixed id name roaming = texts (placed fixed id) (placed (fixed + padded id) name) (placed (fixed + padded id + padded name) roaming)
+laidTexts fixed id name roaming = textsOf (laid fixed (three id name roaming))
 
 abbrev pub lengthOf : Version → ℕ → ℕ → ℕ → ℕ
-lengthOf v id name roaming = fixedPart v + padded id + padded name + padded roaming
+lengthOf v id name roaming = endOf (fixedPart v) (three id name roaming)
 
 unfoldable pub frontBytes : Registration → List ℕ
 frontBytes p =
@@ -136,7 +146,7 @@ frontBytes p =
     ++ (digits 4 (p .«register_state») ++ (digits 4 (p .«register_mode») ++ (digits 4 (p .«available_data_class») ++ digits 4 (p .«cellular_class»))))
 
 unfoldable pub textsBytes : Range → Range → Range → List ℕ
-textsBytes id name roaming = rangeBytes id ++ (rangeBytes name ++ rangeBytes roaming)
+textsBytes id name roaming = rangesBytes (three id name roaming)
 
 -- the preferred classes, at 2.00
 abbrev pub preferredBytes : RegistrationForm → List ℕ
@@ -156,13 +166,9 @@ fixedWith p t = fixedBytes p (t .«provider_id») (t .«provider_name») (t .«r
 abbrev pub laidFor : Registration → List ℕ → List ℕ → List ℕ → RegistrationTexts
 laidFor p x y z = laidTexts (fixedPart (versionOf p)) (length x) (length y) (length z)
 
--- a text with its padding
-abbrev pub textBytes : List ℕ → List ℕ
-textBytes x = fitted (padded (length x)) x
-
 -- the payload's bytes, with the texts x, y and z
 unfoldable pub bytesOf : Registration → List ℕ → List ℕ → List ℕ → List ℕ
-bytesOf p x y z = fixedWith p (laidFor p x y z) ++ (textBytes x ++ (textBytes y ++ textBytes z))
+bytesOf p x y z = fixedWith p (laidFor p x y z) ++ pairs.textsBytes (three x y z)
 
 -- the answer, and the output at exit
 unfoldable pub writeOf : Registration → List ℕ → List ℕ → List ℕ → List ℕ → Writing

@@ -1,25 +1,23 @@
 // The REGISTER_STATE payload: its record, and a reader and a writer of both forms. Texts are shown
 // as ranges of the payload and written from lent slices; what stands in a text is not judged.
-use pairs::PairKind;
 use pairs::Range;
-use pairs::is_unfit;
-use pairs::padded_size;
-use pairs::place_at;
-use pairs::put_range;
-use pairs::range_at;
+use pairs::texts::judge_sizes;
+use pairs::texts::judge_texts;
+use pairs::texts::judged_text;
+use pairs::texts::put_pair;
+use pairs::texts::put_text;
+use pairs::texts::start_of;
 use protocol::CONTRADICTION;
 use protocol::OUTPUT_TOO_SMALL;
 use protocol::OUTSIDE_TABLE;
 use protocol::Refusal;
 use protocol::Verdict;
 use protocol::Version;
-use protocol::WRONG_SIZE;
 use protocol::Written;
 use protocol::also;
 use protocol::data_class::is_only_classes;
 use protocol::first;
 use protocol::judge_open_length;
-use wire::put_run;
 use wire::put_u32;
 use wire::u32_at;
 ghost use mathlib.Core.Path.{_≡_};
@@ -28,7 +26,8 @@ ghost use lib.ListN.{length};
 ghost use lib.Seq.{sets};
 ghost use Rattle.protocol.specs.Verdict.{firstOf, judge};
 ghost use Rattle.protocol.specs.declared.Verdict.the-variants.{Fits};
-ghost use Rattle.registration.specs.Registration.{fixedPart, formAt, recordAt, textsAt, frontRules, textsVerdict, unregistered, backRules, readOf, versionOf, sizeRules, writtenVerdict, lengthOf, frontBytes, textsBytes, backBytes, fixedBytes, bytesOf, writeOf};
+ghost use Rattle.pairs.specs.Texts.{laid, rangesBytes, textsBytes};
+ghost use Rattle.registration.specs.Registration.{fixedPart, formAt, recordAt, textsAt, frontRules, textsVerdict, unregistered, backRules, readOf, versionOf, three, writtenVerdict, laidTexts, frontBytes, backBytes, fixedWith, writeOf};
 
 // What only one form has.
 pub enum RegistrationForm {
@@ -78,11 +77,12 @@ const REGISTRATION_FLAG: usize = 44;
 
 const PREFERRED_DATA_CLASS: usize = 48;
 
-const PROVIDER_ID_LIMIT: u32 = 12;
-
-const PROVIDER_NAME_LIMIT: u32 = 40;
-
-const ROAMING_TEXT_LIMIT: u32 = 126;
+// The place and the limit of each text.
+const TEXTS: [[u32; 2]; 3] = [
+    [PROVIDER_ID as u32, 12],
+    [PROVIDER_NAME as u32, 40],
+    [ROAMING_TEXT as u32, 126],
+];
 
 const HOME: u32 = 3;
 
@@ -100,14 +100,13 @@ const REGISTRATION_FLAG_MASK: u32 = 3;
 pub fn read(version: Version, payload: &[u8]) -> RegistrationRead
     ensures { λ r. ⌜ r ≡ readOf version (now (payload .entry)) ⌝ }
 {
-    let n = payload.len();
-    if let Verdict::Fault(refusal) = judge_open_length(fixed_part(version) as usize, n) {
+    let length = judge_open_length(fixed_part(version) as usize, payload.len());
+    if let Verdict::Fault(refusal) = length {
         return RegistrationRead::Refused(refusal);
     }
     let info = record_at(version, payload);
-    let texts = texts_at(payload);
-    match judge_fields(version, n, info, texts) {
-        Verdict::Fits => RegistrationRead::Info(info, texts),
+    match judge_fields(version, payload, info) {
+        Verdict::Fits => RegistrationRead::Info(info, texts_at(payload)),
         Verdict::Fault(refusal) => RegistrationRead::Refused(refusal),
     }
 }
@@ -147,7 +146,7 @@ pub fn version_of(info: Registration) -> Version
     }
 }
 
-fn fixed_part(version: Version) -> u32
+fn fixed_part(version: Version) -> u16
     ensures { λ r. ⌜ r ≡ fixedPart version ⌝ }
 {
     match version {
@@ -185,9 +184,9 @@ fn form_at(version: Version, s: &[u8]) -> RegistrationForm
 fn texts_at(s: &[u8]) -> RegistrationTexts
     ensures { λ r. ⌜ r ≡ textsAt (now (s .entry)) ⌝ }
 {
-    let provider_id = range_at(s, PROVIDER_ID);
-    let provider_name = range_at(s, PROVIDER_NAME);
-    let roaming_text = range_at(s, ROAMING_TEXT);
+    let provider_id = judged_text(s, &TEXTS, 0);
+    let provider_name = judged_text(s, &TEXTS, 1);
+    let roaming_text = judged_text(s, &TEXTS, 2);
     RegistrationTexts {
         provider_id,
         provider_name,
@@ -195,14 +194,14 @@ fn texts_at(s: &[u8]) -> RegistrationTexts
     }
 }
 
-// The fields of a payload of n bytes.
-fn judge_fields(version: Version, n: usize, info: Registration, texts: RegistrationTexts) -> Verdict
-    ensures { λ r. ⌜ r ≡ firstOf (judge (frontRules version info)) (firstOf (textsVerdict (fixedPart version) n texts) (judge (backRules info))) ⌝ }
+// The fields of a payload whose record is `info`.
+fn judge_fields(version: Version, payload: &[u8], info: Registration) -> Verdict
+    ensures { λ r. ⌜ r ≡ firstOf (judge (frontRules version info)) (firstOf (textsVerdict (fixedPart version) (length (now (payload .entry))) (textsAt (now (payload .entry)))) (judge (backRules info))) ⌝ }
 {
     if let Verdict::Fault(refusal) = judge_front(version, info) {
         return Verdict::Fault(refusal);
     }
-    if let Verdict::Fault(refusal) = judge_texts(fixed_part(version), n, texts) {
+    if let Verdict::Fault(refusal) = judge_texts(payload, fixed_part(version), &TEXTS) {
         return Verdict::Fault(refusal);
     }
     judge_back(info)
@@ -235,43 +234,6 @@ fn judge_front(version: Version, info: Registration) -> Verdict
         CELLULAR_CLASS_MASK < info.cellular_class,
         OUTSIDE_TABLE,
         CELLULAR_CLASS,
-    )
-}
-
-// The three pairs, in a payload of n bytes.
-fn judge_texts(fixed: u32, n: usize, texts: RegistrationTexts) -> Verdict
-    ensures { λ r. ⌜ r ≡ textsVerdict fixed n texts ⌝ }
-{
-    let id = texts.provider_id;
-    let name = texts.provider_name;
-    let roaming = texts.roaming_text;
-    if let Verdict::Fault(refusal) = pairs::judge(
-        PairKind::Text,
-        fixed,
-        PROVIDER_ID_LIMIT,
-        PROVIDER_ID,
-        n,
-        id,
-    ) {
-        return Verdict::Fault(refusal);
-    }
-    if let Verdict::Fault(refusal) = pairs::judge(
-        PairKind::Text,
-        fixed,
-        PROVIDER_NAME_LIMIT,
-        PROVIDER_NAME,
-        n,
-        name,
-    ) {
-        return Verdict::Fault(refusal);
-    }
-    pairs::judge(
-        PairKind::Text,
-        fixed,
-        ROAMING_TEXT_LIMIT,
-        ROAMING_TEXT,
-        n,
-        roaming,
     )
 }
 
@@ -321,21 +283,9 @@ fn judge_written(info: Registration, id: usize, name: usize, roaming: usize) -> 
     ensures { λ r. ⌜ r ≡ writtenVerdict info id name roaming ⌝ }
 {
     let front = judge_front(version_of(info), info);
-    first(
-        front,
-        first(judge_sizes(id, name, roaming), judge_back(info)),
-    )
-}
-
-fn judge_sizes(id: usize, name: usize, roaming: usize) -> Verdict
-    ensures { λ r. ⌜ r ≡ judge (sizeRules id name roaming) ⌝ }
-{
-    let id_unfit = is_unfit(PairKind::Text, PROVIDER_ID_LIMIT, id);
-    let name_unfit = is_unfit(PairKind::Text, PROVIDER_NAME_LIMIT, name);
-    let roaming_unfit = is_unfit(PairKind::Text, ROAMING_TEXT_LIMIT, roaming);
-    let id_fits = also(Verdict::Fits, id_unfit, WRONG_SIZE, PROVIDER_ID);
-    let name_fits = also(id_fits, name_unfit, WRONG_SIZE, PROVIDER_NAME);
-    also(name_fits, roaming_unfit, WRONG_SIZE, ROAMING_TEXT)
+    let sizes = [id, name, roaming];
+    let texts = judge_sizes(&TEXTS, &sizes);
+    first(front, first(texts, judge_back(info)))
 }
 
 // What fits: the room is judged, and the bytes are put.
@@ -350,60 +300,50 @@ fn write_judged(
     ensures { λ r. ⌜ r ≡ writeOf info (now («provider_id» .entry)) (now («provider_name» .entry)) (now («roaming_text» .entry)) (now (out .entry)) .answer ⌝ }
     ensures { λ _. ⌜ now (out .exit) ≡ writeOf info (now («provider_id» .entry)) (now («provider_name» .entry)) (now («roaming_text» .entry)) (now (out .entry)) .output ⌝ }
 {
-    let id = provider_id.len() as u32;
-    let name = provider_name.len() as u32;
-    let roaming = roaming_text.len() as u32;
-    let n = length_of(version_of(info), id, name, roaming);
+    let fixed = fixed_part(version_of(info));
+    let id = provider_id.len() as u16;
+    let name = provider_name.len() as u16;
+    let roaming = roaming_text.len() as u16;
+    let sizes = [id, name, roaming];
+    let n = start_of(fixed, &sizes, 3) as usize;
     if out.len() < n {
         return Written::Refused(Refusal {
             number: OUTPUT_TOO_SMALL,
             place: n,
         });
     }
-    put(info, provider_id, provider_name, roaming_text, out);
+    put_fixed(info, id, name, roaming, out);
+    put_texts(fixed, provider_id, provider_name, roaming_text, out);
     Written::Length(n)
 }
 
-fn length_of(version: Version, id: u32, name: u32, roaming: u32) -> usize
-    ensures { λ r. ⌜ r ≡ lengthOf version id name roaming ⌝ }
-{
-    fixed_part(version) as usize + padded_size(id) + padded_size(name) + padded_size(roaming)
-}
-
-// The payload's bytes, where the texts are of sizes that fit.
-fn put(
-    info: Registration,
+// The texts straight after the fixed part, where they are of sizes that fit.
+fn put_texts(
+    fixed: u16,
     provider_id: &[u8],
     provider_name: &[u8],
     roaming_text: &[u8],
     out: &mut [u8],
 )
     requires { ⌜ (length (now «provider_id») ≤ 126) × ((length (now «provider_name») ≤ 126) × (length (now «roaming_text») ≤ 126)) ⌝ }
-    ensures { λ _. ⌜ now (out .exit) ≡ sets (now (out .entry)) 0 (bytesOf info (now («provider_id» .entry)) (now («provider_name» .entry)) (now («roaming_text» .entry))) ⌝ }
+    ensures { λ _. ⌜ now (out .exit) ≡ sets (now (out .entry)) fixed (textsBytes (three (now («provider_id» .entry)) (now («provider_name» .entry)) (now («roaming_text» .entry)))) ⌝ }
 {
-    let id = provider_id.len() as u32;
-    let name = provider_name.len() as u32;
-    let roaming = roaming_text.len() as u32;
-    let id_room = padded_size(id);
-    let name_room = padded_size(name);
-    let roaming_room = padded_size(roaming);
-    let id_at = fixed_part(version_of(info)) as usize;
-    let name_at = id_at + id_room;
-    let roaming_at = name_at + name_room;
-    let first_text = place_at(id_at as u32, id);
-    let second_text = place_at(name_at as u32, name);
-    let third_text = place_at(roaming_at as u32, roaming);
-    put_fixed(info, first_text, second_text, third_text, out);
-    put_run(out, id_at, provider_id, id_room);
-    put_run(out, name_at, provider_name, name_room);
-    put_run(out, roaming_at, roaming_text, roaming_room);
+    let sizes = [
+        provider_id.len() as u16,
+        provider_name.len() as u16,
+        roaming_text.len() as u16,
+    ];
+    put_text(out, fixed, &sizes, 0, provider_id);
+    put_text(out, fixed, &sizes, 1, provider_name);
+    put_text(out, fixed, &sizes, 2, roaming_text);
 }
 
-fn put_fixed(info: Registration, id: Range, name: Range, roaming: Range, out: &mut [u8])
-    ensures { λ _. ⌜ now (out .exit) ≡ sets (now (out .entry)) 0 (fixedBytes info id name roaming) ⌝ }
+// The fixed part, for texts of these sizes.
+fn put_fixed(info: Registration, id: u16, name: u16, roaming: u16, out: &mut [u8])
+    ensures { λ _. ⌜ now (out .exit) ≡ sets (now (out .entry)) 0 (fixedWith info (laidTexts (fixedPart (versionOf info)) id name roaming)) ⌝ }
 {
     put_front(info, out);
-    put_texts(id, name, roaming, out);
+    put_pairs(fixed_part(version_of(info)), id, name, roaming, out);
     put_back(info, out);
 }
 
@@ -417,12 +357,13 @@ fn put_front(info: Registration, out: &mut [u8])
     put_u32(out, CELLULAR_CLASS, info.cellular_class);
 }
 
-fn put_texts(id: Range, name: Range, roaming: Range, out: &mut [u8])
-    ensures { λ _. ⌜ now (out .exit) ≡ sets (now (out .entry)) 20 (textsBytes id name roaming) ⌝ }
+fn put_pairs(fixed: u16, id: u16, name: u16, roaming: u16, out: &mut [u8])
+    ensures { λ _. ⌜ now (out .exit) ≡ sets (now (out .entry)) 20 (rangesBytes (laid fixed (three id name roaming))) ⌝ }
 {
-    put_range(out, PROVIDER_ID, id);
-    put_range(out, PROVIDER_NAME, name);
-    put_range(out, ROAMING_TEXT, roaming);
+    let sizes = [id, name, roaming];
+    put_pair(out, PROVIDER_ID, fixed, &sizes, 0);
+    put_pair(out, PROVIDER_NAME, fixed, &sizes, 1);
+    put_pair(out, ROAMING_TEXT, fixed, &sizes, 2);
 }
 
 fn put_back(info: Registration, out: &mut [u8])

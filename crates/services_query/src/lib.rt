@@ -1,12 +1,12 @@
 // Questions to a DEVICE_SERVICES payload: an element by its number or its service, and whether a
 // CID is listed. The whole list is judged before anything of it is shown.
 use device_services::DeviceService;
-use device_services::cid_at;
-use device_services::cid_count_at;
-use device_services::count_of;
-use device_services::element_at;
 use device_services::judge_list;
-use device_services::offset_of;
+use device_services::judged_cid;
+use device_services::judged_cid_count;
+use device_services::judged_count;
+use device_services::judged_element;
+use device_services::judged_offset;
 use protocol::OUTPUT_TOO_SMALL;
 use protocol::Refusal;
 use protocol::Verdict;
@@ -52,7 +52,7 @@ pub fn cids_of(payload: &[u8], service: ServiceId, cids: &mut [u32]) -> ElementA
 {
     match judge_list(payload) {
         Verdict::Fits => {
-            let number = index_of(payload, service, count_of(payload));
+            let number = index_of(payload, service, judged_count(payload));
             show_chosen(payload, number, cids)
         }
         Verdict::Fault(refusal) => ElementAnswer::Refused(refusal),
@@ -65,7 +65,7 @@ pub fn is_listed(payload: &[u8], service: ServiceId, cid: u32) -> ListedAnswer
 {
     match judge_list(payload) {
         Verdict::Fits => {
-            if is_any_holding(payload, service, cid, count_of(payload)) {
+            if is_any_holding(payload, service, cid, judged_count(payload)) {
                 return ListedAnswer::Listed;
             }
             ListedAnswer::NotListed
@@ -74,20 +74,11 @@ pub fn is_listed(payload: &[u8], service: ServiceId, cid: u32) -> ListedAnswer
     }
 }
 
-// Whether an element is of a service.
-pub fn is_of(payload: &[u8], service: ServiceId, number: u32) -> bool
-    ensures { λ r. ⌜ r ≡ isOf (now (payload .entry)) service number ⌝ }
-{
-    let fields = element_at(payload, offset_of(payload, number));
-    let own = fields.device_service_id;
-    is_same_id(own, service)
-}
-
 fn show_chosen(payload: &[u8], number: u32, cids: &mut [u32]) -> ElementAnswer
     ensures { λ r. ⌜ r ≡ chosenShown (now (payload .entry)) number (now (cids .entry)) .answer ⌝ }
     ensures { λ _. ⌜ now (cids .exit) ≡ chosenShown (now (payload .entry)) number (now (cids .entry)) .output ⌝ }
 {
-    if number < count_of(payload) {
+    if number < judged_count(payload) {
         return show_element(payload, number, cids);
     }
     ElementAnswer::NotListed
@@ -97,8 +88,8 @@ fn show_element(payload: &[u8], number: u32, cids: &mut [u32]) -> ElementAnswer
     ensures { λ r. ⌜ r ≡ elementShown (now (payload .entry)) number (now (cids .entry)) .answer ⌝ }
     ensures { λ _. ⌜ now (cids .exit) ≡ elementShown (now (payload .entry)) number (now (cids .entry)) .output ⌝ }
 {
-    let offset = offset_of(payload, number);
-    let count = cid_count_at(payload, offset);
+    let offset = judged_offset(payload, number);
+    let count = judged_cid_count(payload, offset);
     if cids.len() < count as usize {
         return ElementAnswer::Refused(Refusal {
             number: OUTPUT_TOO_SMALL,
@@ -106,7 +97,7 @@ fn show_element(payload: &[u8], number: u32, cids: &mut [u32]) -> ElementAnswer
         });
     }
     copy_cids(payload, offset, count, cids);
-    ElementAnswer::Listed(element_at(payload, offset))
+    ElementAnswer::Listed(judged_element(payload, offset))
 }
 
 // The first n CIDs of the element that starts at an offset.
@@ -116,7 +107,7 @@ fn copy_cids(payload: &[u8], offset: u32, n: u32, cids: &mut [u32])
 {
     let mut i: u32 = 0;
     while i < n {
-        cids[i as usize] = cid_at(payload, offset, i);
+        cids[i as usize] = judged_cid(payload, offset, i);
         i += 1;
     }
 }
@@ -134,6 +125,15 @@ fn index_of(payload: &[u8], service: ServiceId, count: u32) -> u32
         i += 1;
     }
     found
+}
+
+// Whether an element is of a service.
+fn is_of(payload: &[u8], service: ServiceId, number: u32) -> bool
+    ensures { λ r. ⌜ r ≡ isOf (now (payload .entry)) service number ⌝ }
+{
+    let fields = judged_element(payload, judged_offset(payload, number));
+    let own = fields.device_service_id;
+    is_same_id(own, service)
 }
 
 fn is_any_holding(payload: &[u8], service: ServiceId, cid: u32, count: u32) -> bool
@@ -156,8 +156,8 @@ fn is_held(payload: &[u8], serves: bool, number: u32, cid: u32) -> bool
     ensures { λ r. ⌜ r ≡ (serves && hasCid (now (payload .entry)) (offsetOf (now (payload .entry)) number) cid) ⌝ }
 {
     if serves {
-        let offset = offset_of(payload, number);
-        return is_among(payload, offset, cid_count_at(payload, offset), cid);
+        let offset = judged_offset(payload, number);
+        return is_among(payload, offset, judged_cid_count(payload, offset), cid);
     }
     false
 }
@@ -168,7 +168,7 @@ fn is_among(payload: &[u8], offset: u32, n: u32, cid: u32) -> bool
 {
     let mut i: u32 = 0;
     while i < n {
-        if cid_at(payload, offset, i) == cid {
+        if judged_cid(payload, offset, i) == cid {
             return true;
         }
         i += 1;

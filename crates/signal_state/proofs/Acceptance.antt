@@ -3,11 +3,11 @@
 -- Assumes nothing.
 use mathlib.Core.Path.{_≡_, refl, sym, ap}
 use mathlib.Core.Logic.{_↔_, _⊎_, inl, inr, ⊎-map, ⊎-elim}
-use mathlib.Core.Bool.{Bool, true, false, not}
+use mathlib.Core.Bool.{true, false, not}
 use mathlib.Core.List.{List}
-use Prim.Native.Nat.{ℕ, _+_, _*_, _≤_, _<_}
+use Prim.Native.Nat.{ℕ, _≤_, _<_}
 use native.Mathlib.Omega.{arith}
-use borrow.Author.Tests.{ltb-false, le-ltb, eqb-true, eqb-false, eq-eqb, ne-eqb}
+use borrow.Author.Tests.{ltb-false, le-ltb, eqb-true, eq-eqb}
 use lib.Dec.{eqb, ltb}
 use lib.ListN.{length}
 use Rattle.wire.specs.Numbers.{u32At}
@@ -23,17 +23,20 @@ use Rattle.protocol.proofs.Tests.{and-cases, cases-and, or-none, none-or, not-k
 use Rattle.protocol.proofs.Classes.{class-said, said-class}
 use Rattle.protocol.proofs.Verdicts.{left-fits, right-fits, not-broken, fits-kept, kept-fits, then-kept, kept-then, exact-length, length-exact, open-length, length-open, written-both, both-written}
 use Rattle.below.proofs.Laws.{fits-each, each-fits, none-each, each-none}
-use Rattle.pairs.specs.Pair.{rangeAt, unfit, verdictOf}
+use Rattle.pairs.specs.Pair.{rangeAt, unfit}
+use Rattle.pairs.specs.Lists.{absentIn}
+use Rattle.pairs.specs.Claims.{Whole}
 use Rattle.pairs.specs.declared.Range.{Range}
 use Rattle.pairs.specs.declared.PairKind.the-variants.{List as ListKind}
-use Rattle.pairs.proofs.Laws.{size-said, said-size, fits-said, said-fits}
+use Rattle.pairs.proofs.Laws.{size-said, said-size}
+use Rattle.pairs.proofs.Behind.{behind-said, said-behind}
 use Rattle.signal_state.specs.declared.RsrpSnr.{RsrpSnr}
 use Rattle.signal_state.specs.declared.SignalForm.{SignalForm}
 use Rattle.signal_state.specs.declared.SignalForm.the-variants.{V1 as Form1, V2 as Form2}
 use Rattle.signal_state.specs.declared.SignalState.{SignalState}
 use Rattle.signal_state.specs.declared.SignalStateRead.the-variants.{Info, Refused}
 use Rattle.signal_state.specs.declared.SignalStateShown.{SignalStateShown}
-use Rattle.signal_state.specs.SignalState.{countAt, listPlace, entryPlace, entryAt, unmarked, numberRules, wrongCountOf, listRules, entryRules, entriesVerdict, isKnown, anyKnown, contradicts, bodyVerdict, headOf, headVerdict, verdictAt, shown, recordAt, shownEntries, readOf, entryIn, sizeOf, limitVerdict, listedVerdict, verdictIn, bytesOf, writtenVerdict, writeOf}
+use Rattle.signal_state.specs.SignalState.{listForm, countAt, listPlace, entryPlace, entryAt, unmarked, numberRules, listRules, entryRules, entriesVerdict, isKnown, anyKnown, contradicts, bodyVerdict, headOf, headVerdict, verdictAt, shown, recordAt, shownEntries, readOf, entryIn, sizeOf, limitVerdict, listedVerdict, verdictIn, bytesOf, writtenVerdict, writeOf}
 use Rattle.signal_state.specs.Claims.{Marked, CountFits, EntryFits, Unknown, Acceptable, FormWritable, Writable}
 use Rattle.signal_state.proofs.Laws.{size-small, small-size}
 
@@ -45,30 +48,11 @@ marked-said last x e = ⊎-map (equal-kept x 99) (ltb-false last x) (and-cases (
 said-marked : (last x : ℕ) → Marked last x → unmarked last x ≡ false
 said-marked last x h = cases-and (not (eqb x 99)) (ltb last x) (⊎-map (kept-equal x 99) (le-ltb last x) h)
 
-list-said : (p : Range) (n : ℕ) → Kept (listRules p n) → (p .length ≡ 0) ⊎ CountFits p n
-unfolding listRules
-list-said p n k = by-size (eqb (p .length) 0) refl
-  where
-    by-size : (b : Bool) → eqb (p .length) 0 ≡ b → (p .length ≡ 0) ⊎ CountFits p n
-    by-size true e = inl (eqb-true (p .length) 0 e)
-    by-size false e =
-        let w : wrongCountOf n ≡ false = rw e at (k .1 .0) in
-        let c = or-none (eqb n 0) (ltb 16 n) w in
-        let some : n ≡ 0 → ⊥ = eqb-false n 0 (c .0) in
-        inr (record { some = omega arith; most = ltb-false 16 n (c .1); whole = equal-kept (p .length) (4 + 20 * n) (rw e at (k .1 .1 .0)) })
+list-said : (p : Range) (n : ℕ) → (absentIn listForm p ≡ true) ⊎ Whole listForm p n → (p .length ≡ 0) ⊎ CountFits p n
+list-said p n h = ⊎-map (eqb-true (p .length) 0) (λ w. record { some = w .some; most = w .most; whole = w .size }) h
 
-pub said-list : (p : Range) (n : ℕ) → (p .length ≡ 0) ⊎ CountFits p n → Kept (listRules p n)
-unfolding listRules
-said-list p n (inl e) = let z : eqb (p .length) 0 ≡ true = eq-eqb (p .length) 0 e in (rw z refl, (rw z refl, (rw z refl, tt)))
-said-list p n (inr c) =
-    let there = not (eqb (p .length) 0) in
-    let some = none-or (eqb n 0) (ltb 16 n) (ne-eqb n 0 (λ e. omega (arith, c .some))) (le-ltb 16 n (c .most)) in (
-      cases-and there (ltb (p .length) 4) (inr (le-ltb (p .length) 4 (omega (arith, c .whole)))),
-      (
-        cases-and there (wrongCountOf n) (inr some),
-        (cases-and there (not (eqb (p .length) (4 + 20 * n))) (inr (kept-equal (p .length) (4 + 20 * n) (c .whole))), tt),
-      ),
-    )
+pub said-list : (p : Range) (n : ℕ) → (p .length ≡ 0) ⊎ CountFits p n → (absentIn listForm p ≡ true) ⊎ Whole listForm p n
+said-list p n h = ⊎-map (eq-eqb (p .length) 0) (λ c. record { some = c .some; most = c .most; size = c .whole }) h
 
 entry-said : (at : ℕ) (e : RsrpSnr) → Kept (entryRules at e) → EntryFits e
 unfolding entryRules
@@ -130,7 +114,7 @@ unfolding numberRules
 said-numbers rssi rate a b = (said-marked 31 rssi a, (said-marked 7 rate b, tt))
 
 fields-said : (v : Version) (s : List ℕ) → verdictAt v s ≡ Fits → Acceptable v s
-unfolding verdictAt headOf
+unfolding verdictAt headOf listRules
 fields-said V1 s e =
     let k = then-kept (exactLength 20 (length s)) (numberRules (u32At s 0) (u32At s 4)) e in
     let n = numbers-said (u32At s 0) (u32At s 4) (k .1) in
@@ -142,7 +126,7 @@ fields-said V2 s e =
     let later = right-fits (judge (numberRules (u32At s 0) (u32At s 4))) _ fields in
     let long = open-length 28 (length s) (left-fits _ _ head) in
     let n = numbers-said (u32At s 0) (u32At s 4) (fits-kept (numberRules (u32At s 0) (u32At s 4)) (left-fits _ _ fields)) in
-    let pair = verdictOf ListKind 28 324 20 (length s) (rangeAt s 20) in
+    let list = behind-said listForm 28 20 s later in
     record {
       rssi = n .0;
       rate = n .1;
@@ -151,8 +135,8 @@ fields-said V2 s e =
         (
           long .1,
           record {
-            pair = fits-said ListKind 28 324 20 (length s) (rangeAt s 20) (left-fits pair _ later);
-            list = list-said (rangeAt s 20) (countAt s) (fits-kept (listRules (rangeAt s 20) (countAt s)) (right-fits pair _ later));
+            pair = list .0;
+            list = list-said (rangeAt s 20) (countAt s) (list .1);
             entries = entries-said (u32At s 0) (listPlace s) (entryAt s (listPlace s)) (countAt s) body;
             alone = alone-said (u32At s 0) (listPlace s) (entryAt s (listPlace s)) (countAt s) body;
           },
@@ -161,7 +145,7 @@ fields-said V2 s e =
     }
 
 said-fields : (v : Version) (s : List ℕ) → Acceptable v s → verdictAt v s ≡ Fits
-unfolding verdictAt headOf firstOf
+unfolding verdictAt headOf listRules firstOf
 said-fields V1 s a =
     kept-then (exactLength 20 (length s)) (numberRules (u32At s 0) (u32At s 4)) (length-exact 20 (length s) (a .form)) (said-numbers (u32At s 0) (u32At s 4) (a .rssi) (a .rate))
 said-fields V2 s a =
@@ -169,8 +153,7 @@ said-fields V2 s a =
     rw (
       length-open 28 (length s) (a .form .0) (a .form .1 .0),
       kept-fits (numberRules (u32At s 0) (u32At s 4)) (said-numbers (u32At s 0) (u32At s 4) (a .rssi) (a .rate)),
-      said-fits ListKind 28 324 20 (length s) (rangeAt s 20) (l .pair),
-      kept-fits (listRules (rangeAt s 20) (countAt s)) (said-list (rangeAt s 20) (countAt s) (l .list)),
+      said-behind listForm 28 20 s (l .pair) (said-list (rangeAt s 20) (countAt s) (l .list)),
     )
     (said-body (u32At s 0) (listPlace s) (entryAt s (listPlace s)) (countAt s) (l .entries) (l .alone))
 

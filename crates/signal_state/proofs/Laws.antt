@@ -1,38 +1,39 @@
 -- Entries one by one, counts that fit, and lengths.
 -- Assumes nothing.
 use mathlib.Core.Path.{_≡_, refl, sym, ap, _∙_}
-use mathlib.Core.Logic.{_⊎_, inl, inr}
-use mathlib.Core.Bool.{Bool, true, false, cond}
+use mathlib.Core.Logic.{_⊎_, inl, inr, ⊎-map, ⊎-elim}
+use mathlib.Core.Bool.{cond}
 use mathlib.Core.List.{List, [], _∷_, _++_, append-assoc, append-nil}
 use Prim.Native.Nat.{ℕ, zero, suc, _+_, _*_, _-_, _≤_, _<_}
 use native.Mathlib.Nat.{add-zero, add-suc}
 use native.Mathlib.Numerals.{add-one}
 use native.Mathlib.Omega.{arith}
-use borrow.Author.Tests.{ltb-false, eq-eqb, ne-eqb}
-use lib.Dec.{ltb, eqb}
+use borrow.Author.Tests.{eqb-true, eq-eqb, ne-eqb}
+use lib.Dec.{eqb}
 use lib.ListN.{length, set, take, drop, length-append}
 use lib.Seq.{sets, set-at, getD-take, getD-drop}
 use Rattle.wire.specs.Numbers.{num, u32At, digits}
 use Rattle.wire.proofs.Laws.{sets-then}
 use Rattle.protocol.specs.Refusal.{wrongSize, contradiction}
-use Rattle.protocol.specs.Verdict.{Kept, judge, firstOf, faultIf, openLength, Writing, writing}
+use Rattle.protocol.specs.Verdict.{judge, firstOf, faultIf, openLength, Writing, writing}
 use Rattle.protocol.specs.declared.Refusal.{Refusal}
 use Rattle.protocol.specs.declared.Verdict.the-variants.{Fits, Fault}
 use Rattle.protocol.specs.declared.Version.the-variants.{V2}
 use Rattle.protocol.specs.declared.Written.{Written}
-use Rattle.protocol.proofs.Tests.{or-none, equal-kept}
-use Rattle.protocol.proofs.Verdicts.{left-fits, right-fits, not-broken, fits-kept, open-length}
+use Rattle.protocol.proofs.Verdicts.{left-fits, right-fits, not-broken, open-length}
 use Rattle.below.specs.Below.{listOf}
 use Rattle.below.proofs.Laws.{fault-same, any-same, length-list, list-at, length-joined}
-use Rattle.pairs.specs.Pair.{rangeAt, verdictOf, placed, rangeBytes}
-use Rattle.pairs.specs.Claims.{Absent, Inside}
+use Rattle.pairs.specs.Pair.{rangeAt, placed, rangeBytes}
+use Rattle.pairs.specs.Lists.{listVerdict}
+use Rattle.pairs.specs.Claims.{Absent, Inside, Whole}
 use Rattle.pairs.specs.declared.Range.{Range}
 use Rattle.pairs.specs.declared.PairKind.the-variants.{List as ListKind}
-use Rattle.pairs.proofs.Laws.{size-said, fits-said}
+use Rattle.pairs.proofs.Laws.{size-said}
+use Rattle.pairs.proofs.Behind.{behind-said}
 use Rattle.signal_state.specs.declared.RsrpSnr.{RsrpSnr}
 use Rattle.signal_state.specs.declared.SignalForm.{SignalForm}
 use Rattle.signal_state.specs.declared.SignalState.{SignalState}
-use Rattle.signal_state.specs.SignalState.{countIn, countAt, entryPlace, zeroEntry, noEntries, sixteen, numberRules, wrongCountOf, listRules, entryRules, entriesVerdict, isKnown, anyKnown, contradicts, bodyVerdict, headOf, headVerdict, entryIn, sizeOf, limitVerdict, listedVerdict, numberBytes, entryBytes, entriesBytes, listBytes, listedBytes, listPlace, verdictAt, refused, readEntries, readOf, verdictIn, bytesIn, writeOf}
+use Rattle.signal_state.specs.SignalState.{listForm, countAt, entryPlace, zeroEntry, noEntries, sixteen, numberRules, listRules, entryRules, entriesVerdict, isKnown, anyKnown, contradicts, bodyVerdict, headOf, headVerdict, entryIn, sizeOf, limitVerdict, listedVerdict, numberBytes, entryBytes, entriesBytes, listBytes, listedBytes, listPlace, verdictAt, refused, readEntries, readOf, verdictIn, bytesIn, writeOf}
 
 -- ---- entries one by one
 
@@ -77,43 +78,26 @@ unfolding limitVerdict
 limit-small p n e = size-small n (size-said ListKind 324 (sizeOf n) (not-broken _ wrongSize 20 (right-fits _ _ e)) .small)
 
 -- a list that fits is absent, or has from 1 to 16 entries
-few : (p : Range) (n : ℕ) → Kept (listRules p n) → eqb (p .length) 0 ≡ false → n ≤ 16
-unfolding listRules
-few p n k e =
-    let w : wrongCountOf n ≡ false = rw e at (k .1 .0) in
-    ltb-false 16 n (or-none (eqb n 0) (ltb 16 n) w .1)
-
-counted : (s : List ℕ) (p : Range) → Kept (listRules p (countIn s p)) → countIn s p ≤ 16
-counted s p k = by-size (eqb (p .length) 0) refl
-  where
-    by-size : (b : Bool) → eqb (p .length) 0 ≡ b → countIn s p ≤ 16
-    by-size true e = rw e (omega arith)
-    by-size false e = few p (countIn s p) k e
+listed : (s : List ℕ) → headVerdict s ≡ Fits → listVerdict listForm 28 20 s ≡ Fits
+unfolding headOf listRules
+listed s e = right-fits (judge (numberRules _ _)) _ (right-fits (openLength 28 (length s)) _ e)
 
 pub count-small : (s : List ℕ) → headVerdict s ≡ Fits → countAt s ≤ 16
-unfolding headOf
-count-small s e =
-    let fields = right-fits (openLength 28 (length s)) _ e in
-    let pair = right-fits (judge (numberRules _ _)) _ fields in
-    counted s (rangeAt s 20) (fits-kept _ (right-fits (verdictOf ListKind 28 324 20 (length s) (rangeAt s 20)) _ pair))
+count-small s e = ⊎-elim (λ a. rw a (omega arith)) (λ w. w .most) (behind-said listForm 28 20 s (listed s e) .1)
 
 -- and it stands within the payload
-within : (s : List ℕ) (p : Range) → 28 ≤ length s → Absent p ⊎ Inside 28 (length s) p → Kept (listRules p (countIn s p)) → p .start + 4 + 20 * countIn s p ≤ length s
-unfolding listRules
-within s p l (inl a) k = rw (eq-eqb (p .length) 0 (a .empty)) (omega (arith, a .nowhere))
-within s p l (inr i) k =
-    let e : eqb (p .length) 0 ≡ false = ne-eqb (p .length) 0 (λ z. omega (arith, i .some)) in
-    let q : p .length ≡ 4 + 20 * u32At s (p .start) = equal-kept (p .length) (4 + 20 * u32At s (p .start)) (rw e at (k .1 .1 .0)) in
-    rw e (omega (arith, i .within, q))
+within : (s : List ℕ) (p : Range) (n : ℕ) → 28 ≤ length s → Absent p ⊎ Inside 28 (length s) p → ((n ≡ 0) × (p .length ≡ 0)) ⊎ Whole listForm p n → p .start + 4 + 20 * n ≤ length s
+within s p n l (inl a) (inl z) = omega (arith, a .nowhere, z .0)
+within s p n l (inl a) (inr w) = absurd (omega (arith, a .empty, w .size))
+within s p n l (inr i) (inl z) = absurd (omega (arith, i .some, z .1))
+within s p n l (inr i) (inr w) = omega (arith, i .within, w .size)
 
 pub list-within : (s : List ℕ) → headVerdict s ≡ Fits → listPlace s + 4 + 20 * countAt s ≤ length s
 unfolding headOf
 list-within s e =
-    let p = rangeAt s 20 in
     let long = open-length 28 (length s) (left-fits (openLength 28 (length s)) _ e) .0 in
-    let pair = right-fits (judge (numberRules _ _)) _ (right-fits (openLength 28 (length s)) _ e) in
-    let safe = fits-said ListKind 28 324 20 (length s) p (left-fits (verdictOf ListKind 28 324 20 (length s) p) _ pair) .safe in
-    within s p long safe (fits-kept _ (right-fits (verdictOf ListKind 28 324 20 (length s) p) _ pair))
+    let k = behind-said listForm 28 20 s (listed s e) in
+    within s (rangeAt s 20) (countAt s) long (k .0 .safe) (⊎-map (λ a. (rw a refl, eqb-true (rangeAt s 20 .length) 0 a)) (λ w. w) (k .1))
 
 -- a number of a part is the number at its place
 pub num-in : (m n : ℕ) (s : List ℕ) (at k : ℕ) → k + m ≤ n → num m (take n (drop at s)) k ≡ num m s (at + k)

@@ -12,7 +12,7 @@ use lib.ListN.{length, take}
 use Rattle.wire.specs.Numbers.{u32At, digits}
 use Rattle.wire.proofs.Laws.{num-digits}
 use Rattle.protocol.specs.Refusal.{wrongSize}
-use Rattle.protocol.specs.Verdict.{judge, firstOf, faultIf, exactLength}
+use Rattle.protocol.specs.Verdict.{Kept, judge, firstOf, faultIf, exactLength}
 use Rattle.protocol.specs.declared.Verdict.{Verdict}
 use Rattle.protocol.specs.declared.Verdict.the-variants.{Fits}
 use Rattle.protocol.specs.declared.Version.the-variants.{V1, V2}
@@ -27,13 +27,15 @@ use Rattle.pairs.specs.Claims.{RangeSized}
 use Rattle.pairs.specs.declared.Range.{Range}
 use Rattle.pairs.specs.declared.PairKind.the-variants.{List as ListKind}
 use Rattle.pairs.proofs.Laws.{placed-fits, placed-sized}
+use Rattle.pairs.proofs.Behind.{said-list as said-behind}
+use Rattle.pairs.proofs.Rows.{range-back}
 use Rattle.signal_state.specs.declared.RsrpSnr.{RsrpSnr}
 use Rattle.signal_state.specs.declared.SignalForm.{SignalForm}
 use Rattle.signal_state.specs.declared.SignalForm.the-variants.{V1 as Form1, V2 as Form2}
 use Rattle.signal_state.specs.declared.SignalState.{SignalState}
 use Rattle.signal_state.specs.declared.SignalStateRead.the-variants.{Info}
 use Rattle.signal_state.specs.declared.SignalStateShown.{SignalStateShown}
-use Rattle.signal_state.specs.SignalState.{stateAt, countIn, entryPlace, entryAt, noEntries, sixteen, entriesAt, numberRules, listRules, entriesVerdict, anyKnown, bodyVerdict, headOf, verdictAt, shown, readOf, versionIn, versionOf, entryIn, sizeOf, limitVerdict, listedVerdict, numberBytes, entryBytes, entriesBytes, listBytes, listedBytes, verdictIn, bytesIn, bytesOf, writtenVerdict, writeOf}
+use Rattle.signal_state.specs.SignalState.{stateAt, listForm, countIn, entryPlace, entryAt, noEntries, sixteen, entriesAt, numberRules, listRules, entriesVerdict, anyKnown, bodyVerdict, headOf, verdictAt, shown, readOf, versionIn, versionOf, entryIn, sizeOf, limitVerdict, listedVerdict, numberBytes, entryBytes, entriesBytes, listBytes, listedBytes, verdictIn, bytesIn, bytesOf, writtenVerdict, writeOf}
 use Rattle.signal_state.specs.Claims.{CountFits, keptIn, Sized, EntrySized, EntriesSized}
 use Rattle.signal_state.proofs.Laws.{body-same, size-is, small-size, limit-small, length-numbers, length-entries, length-listed}
 use Rattle.signal_state.proofs.Acceptance.{said-list}
@@ -60,8 +62,7 @@ unfolding u32At numberBytes
 rate-back p rest z = num-digits 4 (p .«error_rate») [] (z .rate)
 
 pair-back : (p : SignalState) (r : Range) (rest : List ℕ) → RangeSized r → rangeAt (numberBytes p ++ (rangeBytes r ++ rest)) 20 ≡ r
-unfolding rangeAt u32At numberBytes rangeBytes
-pair-back p r rest z = λ i. record { start = num-digits 4 (r .start) [] (z .start) i; length = num-digits 4 (r .length) [] (z .length) i }
+pair-back p r rest z = range-back (numberBytes p) rest r 20 (length-numbers p) z
 
 -- ---- the entries
 
@@ -123,6 +124,10 @@ size-said : (n : ℕ) → n ≤ 16 → (sizeOf n ≡ 0) ⊎ CountFits (placed 28
 size-said zero h = inl refl
 size-said (suc m) h = inr (record { some = omega arith; most = h; whole = size-is m })
 
+list-kept : (p : Range) (n : ℕ) → (p .length ≡ 0) ⊎ CountFits p n → Kept (listRules p n)
+unfolding listRules
+list-kept p n h = said-behind listForm 20 p n (said-list p n h)
+
 head-fits : (p : SignalState) (n : ℕ) (f : ℕ → RsrpSnr) → Sized p → limitVerdict p n ≡ Fits → headOf (listedBytes p n f) (placed 28 (sizeOf n)) n ≡ Fits
 unfolding headOf firstOf limitVerdict listedBytes
 head-fits p n f z e =
@@ -137,7 +142,7 @@ head-fits p n f z e =
       rate-back p (listBytes n f) z,
       left-fits (judge (numberRules (p .rssi) (p .«error_rate»))) _ e,
       placed-fits ListKind 28 324 20 (length s) 28 (sizeOf n) u (omega arith) refl (omega arith),
-      kept-fits (listRules (placed 28 (sizeOf n)) n) (said-list (placed 28 (sizeOf n)) n (size-said n few)),
+      kept-fits (listRules (placed 28 (sizeOf n)) n) (list-kept (placed 28 (sizeOf n)) n (size-said n few)),
     )
 
 -- no list: no entries

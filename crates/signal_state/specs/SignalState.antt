@@ -1,12 +1,12 @@
 -- The SIGNAL_STATE payload (document 01, "Signal"; source 000, MBIM_SIGNAL_STATE_INFO_V2, MBIM_RSRP_SNR and MBIM_RSRP_SNR_INFO).
 -- In this order: the fields and their places; the rules, in the order in which they are judged; what a reader answers; what a writer gives.
 use Prim.Native.Nat.{ℕ, _+_, _*_, _-_}
-use mathlib.Core.Bool.{Bool, not, cond, _&&_, _||_}
+use mathlib.Core.Bool.{Bool, true, not, cond, _&&_, _||_}
 use mathlib.Core.List.{List, [], _∷_, _++_}
 use lib.Dec.{ltb, eqb}
 use lib.ListN.{length, getD, replicate}
 use Rattle.wire.specs.Numbers.{u32At, digits}
-use Rattle.protocol.specs.Refusal.{wrongSize, outsideTable, contradiction, wrongCount}
+use Rattle.protocol.specs.Refusal.{wrongSize, outsideTable, contradiction}
 use Rattle.protocol.specs.Verdict.{Rule, rule, judge, firstOf, faultIf, exactLength, openLength, Writing, writing}
 use Rattle.protocol.specs.DataClass.{oneClass}
 use Rattle.protocol.specs.declared.Refusal.{Refusal}
@@ -15,8 +15,10 @@ use Rattle.protocol.specs.declared.Verdict.the-variants.{Fits, Fault}
 use Rattle.protocol.specs.declared.Version.{Version}
 use Rattle.protocol.specs.declared.Version.the-variants.{V1, V2}
 use Rattle.below.specs.Below.{firstFault, anyOf, listOf, joined}
-use Rattle.pairs.specs.Pair.{rangeAt, ifSized, unfit, verdictOf, placed, rangeBytes}
+use Rattle.pairs.specs.Pair.{rangeAt, unfit, verdictOf, placed, rangeBytes}
+use Rattle.pairs.specs.Lists as lists
 use Rattle.pairs.specs.declared.Range.{Range}
+use Rattle.pairs.specs.declared.lists.ListForm.{ListForm}
 use Rattle.pairs.specs.declared.PairKind.the-variants.{List as ListKind}
 use Rattle.signal_state.specs.declared.RsrpSnr.{RsrpSnr}
 use Rattle.signal_state.specs.declared.SignalForm.{SignalForm}
@@ -38,9 +40,14 @@ stateAt form s = record {
   form = form;
 }
 
--- the list of a pair: "a count", then "that many entries of 20 bytes"; none where the size is 0
+-- the list of a pair: "a count (1 to 16) and that many entries of 20 bytes"; "the pair's size is 4 + 20 × count and at most 324";
+-- "a signal pair of size 0 is absent"
+abbrev pub listForm : ListForm
+listForm = record { limit = 324; least = 4; «count_place» = 0; fewest = 1; most = 16; each = 20; optional = true }
+
+-- its count, 0 where there is none
 abbrev pub countIn : List ℕ → Range → ℕ
-countIn s p = cond (eqb (p .length) 0) 0 (u32At s (p .start))
+countIn s p = lists.countIn listForm s p
 
 -- "At 2.00 a pair at 20"
 abbrev pub countAt : List ℕ → ℕ
@@ -85,17 +92,9 @@ unmarked last x = not (eqb x 99) && ltb last x
 unfoldable pub numberRules : ℕ → ℕ → List Rule
 numberRules rssi rate = rule (unmarked 31 rssi) outsideTable 0 ∷ rule (unmarked 7 rate) outsideTable 4 ∷ []
 
--- 0, or over 16
-abbrev pub wrongCountOf : ℕ → Bool
-wrongCountOf n = eqb n 0 || ltb 16 n
-
--- "a signal pair of size 0 is absent"; "size under 4, 8; count 15 when over its limit or 0; size against count, 8"
+-- "size under 4, 8; count 15 when over its limit or 0; size against count, 8"
 unfoldable pub listRules : Range → ℕ → List Rule
-listRules p count =
-    rule (ifSized (p .length) (ltb (p .length) 4)) wrongSize 20
-    ∷ rule (ifSized (p .length) (wrongCountOf count)) wrongCount (p .start)
-    ∷ rule (ifSized (p .length) (not (eqb (p .length) (4 + 20 * count)))) wrongSize 20
-    ∷ []
+listRules p count = lists.listRules listForm 20 p count
 
 -- one entry: RSRP 0 to 126 or the mark 127, SNR 0 to 127 or the mark 128, SystemType exactly one class
 unfoldable pub entryRules : ℕ → RsrpSnr → List Rule

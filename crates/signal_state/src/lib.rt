@@ -1,19 +1,18 @@
 // The SIGNAL_STATE payload: its record and entries, and a reader and a writer of both forms. What a
 // code means in decibels is not known here.
 use pairs::PairKind;
-use pairs::Range;
-use pairs::if_sized;
 use pairs::is_unfit;
+use pairs::lists::ListForm;
+use pairs::lists::judge_list;
+use pairs::lists::judged_list_count;
 use pairs::place_at;
 use pairs::put_range;
-use pairs::range_at;
 use protocol::CONTRADICTION;
 use protocol::OUTPUT_TOO_SMALL;
 use protocol::OUTSIDE_TABLE;
 use protocol::Refusal;
 use protocol::Verdict;
 use protocol::Version;
-use protocol::WRONG_COUNT;
 use protocol::WRONG_SIZE;
 use protocol::Written;
 use protocol::also;
@@ -30,7 +29,7 @@ ghost use lib.Seq.{sets};
 ghost use Rattle.protocol.specs.Verdict.{judge, writing};
 ghost use Rattle.protocol.specs.declared.Verdict.the-variants.{Fits};
 ghost use Rattle.protocol.specs.declared.Version.the-variants.{V1, V2};
-ghost use Rattle.signal_state.specs.SignalState.{entryPlace, entryAt, noEntries, entriesAt, countIn, stateAt, unmarked, numberRules, wrongCountOf, listRules, entryRules, isKnown, entryIn, entriesVerdict, anyKnown, contradicts, bodyVerdict, headOf, refused, readEntries, readOf, versionOf, sizeOf, limitVerdict, listedVerdict, numberBytes, entryBytes, entriesBytes, listBytes, listedBytes, writeOf};
+ghost use Rattle.signal_state.specs.SignalState.{entryPlace, entryAt, noEntries, entriesAt, stateAt, unmarked, numberRules, entryRules, isKnown, entryIn, entriesVerdict, anyKnown, contradicts, bodyVerdict, headVerdict, refused, readEntries, readOf, versionOf, sizeOf, limitVerdict, listedVerdict, numberBytes, entryBytes, entriesBytes, listBytes, listedBytes, writeOf};
 
 // One entry of the list.
 #[repr(C)]
@@ -91,6 +90,17 @@ const COUNT_SIZE: usize = 4;
 const ENTRY_SIZE: usize = 20;
 
 const MOST_ENTRIES: u32 = 16;
+
+// The list behind the pair.
+const LIST: ListForm = ListForm {
+    limit: LIST_LIMIT,
+    least: COUNT_SIZE as u32,
+    count_place: 0,
+    fewest: 1,
+    most: MOST_ENTRIES,
+    each: ENTRY_SIZE as u32,
+    optional: true,
+};
 
 const LAST_RSSI: u32 = 31;
 
@@ -156,30 +166,23 @@ fn read_numbers(s: &[u8]) -> SignalStateShown
 fn read_listed(s: &[u8]) -> SignalStateShown
     ensures { λ r. ⌜ r ≡ readOf V2 (now (s .entry)) ⌝ }
 {
-    let pair = range_at(s, RSRP_SNR);
-    let count = count_in(s, pair);
-    match judge_head(s, pair, count) {
-        Verdict::Fits => read_entries(s, pair.start, count),
+    match judge_head(s) {
+        Verdict::Fits => {
+            let count = judged_list_count(s, RSRP_SNR, LIST);
+            read_entries(s, u32_at(s, RSRP_SNR), count)
+        }
         Verdict::Fault(refusal) => refuse(refusal),
     }
 }
 
-fn judge_head(s: &[u8], pair: Range, count: u32) -> Verdict
-    ensures { λ r. ⌜ r ≡ headOf (now (s .entry)) pair count ⌝ }
+fn judge_head(s: &[u8]) -> Verdict
+    ensures { λ r. ⌜ r ≡ headVerdict (now (s .entry)) ⌝ }
 {
     if let Verdict::Fault(refusal) = judge_open_length(FIXED_PART_V2 as usize, s.len()) {
         return Verdict::Fault(refusal);
     }
     let numbers = judge_numbers(u32_at(s, RSSI), u32_at(s, ERROR_RATE));
-    let pair_fits = pairs::judge(
-        PairKind::List,
-        FIXED_PART_V2,
-        LIST_LIMIT,
-        RSRP_SNR,
-        s.len(),
-        pair,
-    );
-    let list = first(pair_fits, judge_list(pair, count));
+    let list = judge_list(s, FIXED_PART_V2, RSRP_SNR, LIST);
     first(numbers, list)
 }
 
@@ -219,16 +222,6 @@ fn state_at(s: &[u8], form: SignalForm) -> SignalState
         error_rate_threshold: u32_at(s, ERROR_RATE_THRESHOLD),
         form,
     }
-}
-
-// The count of the pair's list, 0 where there is none.
-fn count_in(s: &[u8], pair: Range) -> u32
-    ensures { λ r. ⌜ r ≡ countIn (now (s .entry)) pair ⌝ }
-{
-    if pair.length == 0 {
-        return 0;
-    }
-    u32_at(s, pair.start as usize)
 }
 
 // Entry i of the list at `offset`, where all of it is there.
@@ -304,41 +297,6 @@ fn is_unmarked(last: u32, x: u32) -> bool
         return false;
     }
     last < x
-}
-
-// The rules on a list that come before its entries.
-fn judge_list(pair: Range, count: u32) -> Verdict
-    ensures { λ r. ⌜ r ≡ judge (listRules pair count) ⌝ }
-{
-    let size = pair.length;
-    let counted = also(
-        Verdict::Fits,
-        if_sized(size, (size as usize) < COUNT_SIZE),
-        WRONG_SIZE,
-        RSRP_SNR,
-    );
-    let some = also(
-        counted,
-        if_sized(size, is_wrong_count(count)),
-        WRONG_COUNT,
-        pair.start as usize,
-    );
-    let whole = COUNT_SIZE + ENTRY_SIZE * count as usize;
-    also(
-        some,
-        if_sized(size, size as usize != whole),
-        WRONG_SIZE,
-        RSRP_SNR,
-    )
-}
-
-fn is_wrong_count(count: u32) -> bool
-    ensures { λ r. ⌜ r ≡ wrongCountOf count ⌝ }
-{
-    if count == 0 {
-        return true;
-    }
-    MOST_ENTRIES < count
 }
 
 // The entries of the list at `offset`, and last what contradicts.

@@ -1,17 +1,34 @@
--- The pair is judged, then what stands in its element.
+-- The length and the count are judged, then the number by the count, then the pair and its element.
 use borrow.Author.Needs.{needs}
-use Rattle.protocol.specs.Verdict.{firstOf}
-use Rattle.device_services.specs.DeviceServices.{elementVerdict}
+use mathlib.Core.Path.{sym, _∙_}
+use native.Mathlib.Omega.{arith}
+use borrow.Author.Tests.{lt-ltb, le-ltb}
+use Rattle.device_services.specs.DeviceServices.{elementJudged}
+use Rattle.device_services.proofs.Laws.{few}
 use Rattle.device_services.proofs.judge_element.Statement.{statement}
 use Rattle.device_services.proofs.judge_element.Tie as tie
 
 returns : tie.Need-returns
-unfolding elementVerdict firstOf
-returns c = rw (← c .before .before .before .before .before .pair-place .ensures, ← c .before .before .before .before .range-at .ensures, ← c .before .before .before .judge .ensures, c .before .placed .given .1)
+unfolding elementJudged
+returns c = rw (← c .before .before .before .judge-length .ensures, c .before .refusal .given .1)
 
 returns-2 : tie.Need-returns-2
-unfolding elementVerdict firstOf
-returns-2 c = rw (← c .before .before .before .before .before .pair-place .ensures, ← c .before .before .before .before .range-at .ensures, ← c .before .before .before .judge .ensures, c .before .enum-told .given .1, c .judge-content .ensures)
+unfolding elementJudged
+returns-2 c = rw (← c .before .before .before .before .judge-length .ensures, c .before .before .enum-told .given .1, ← c .before .judged-count .ensures, le-ltb _ _ (c .if1 .taken))
+
+mul-judge-numbered : tie.Need-mul-judge-numbered
+mul-judge-numbered c = omega (arith, few _ _ (sym (c .before .before .before .before .judge-length .ensures) ∙ c .before .before .enum-told .given .1), c .before .judged-count .ensures)
+
+add-judge-numbered : tie.Need-add-judge-numbered
+add-judge-numbered c = omega (arith, few _ _ (sym (c .before .before .before .before .judge-length .ensures) ∙ c .before .before .enum-told .given .1), c .before .judged-count .ensures)
+
+returns-3 : tie.Need-returns-3
+unfolding elementJudged
+returns-3 c = rw (← c .before .before .before .before .before .before .before .judge-length .ensures, c .before .before .before .before .before .enum-told .given .1, ← c .before .before .before .before .judged-count .ensures, lt-ltb _ _ (c .before .before .before .if1 .left), ← c .before .before .judge-numbered .ensures, c .enum-told2 .given .1)
+
+returns-4 : tie.Need-returns-4
+unfolding elementJudged
+returns-4 c = rw (← c .before .before .before .before .before .before .before .before .judge-length .ensures, c .before .before .before .before .before .before .enum-told .given .1, ← c .before .before .before .before .before .judged-count .ensures, lt-ltb _ _ (c .before .before .before .before .if1 .left), ← c .before .before .before .judge-numbered .ensures, c .before .refusal2 .given .1)
 
 pub judge-element-spec : {M : Type 1} → statement M
-judge-element-spec = tie.close (tie.spec (λ c. search needs) (λ c. search needs) (λ c. search needs) (λ c. search needs) returns (λ c. search needs) (λ c. search needs) returns-2)
+judge-element-spec = tie.close (tie.spec (λ c. search needs) (λ c. search needs) returns (λ c. search needs) (λ c. search needs) returns-2 mul-judge-numbered add-judge-numbered (λ c. search needs) (λ c. search needs) (λ c. search needs) returns-3 returns-4)

@@ -21,10 +21,10 @@ unfolding firstFault
 loop-holds c = (search needs, refl)
 
 returns : tie.Need-returns Inv-loop μ-loop
-returns c = let a = c .before .before .before .before .before .before .before .args in sym (fault-at (elementVerdict (a .payload .now) (a .fixed)) (a .count) (c .before .before .before .before .before .loop .i) _ (c .before .before .before .before .before .loop .inv .1) (c .before .before .before .before .loop-test .taken) (sym (c .before .before .before .judge-element .ensures) ∙ c .before .verdict .given .1))
+returns c = let a = c .before .before .before .before .before .before .before .args in sym (fault-at (elementVerdict (a .payload .now) (a .fixed)) (a .count) (c .before .before .before .before .before .loop .i) _ (c .before .before .before .before .before .loop .inv .1) (c .before .before .before .before .loop-test .taken) (sym (c .before .before .before .judge-numbered .ensures) ∙ c .before .verdict .given .1))
 
 loop-again : tie.Need-loop-again Inv-loop μ-loop
-loop-again c = let a = c .before .before .before .before .before .before .args in (search needs, fits-next (elementVerdict (a .payload .now) (a .fixed)) _ (c .before .before .before .before .loop .inv .1) (sym (c .before .before .judge-element .ensures) ∙ c .enum-told .given .1))
+loop-again c = let a = c .before .before .before .before .before .before .args in (search needs, fits-next (elementVerdict (a .payload .now) (a .fixed)) _ (c .before .before .before .before .loop .inv .1) (sym (c .before .before .judge-numbered .ensures) ∙ c .enum-told .given .1))
 
 returns-2 : tie.Need-returns-2 Inv-loop μ-loop
 returns-2 c = let a = c .before .before .before .args in sym (c .before .loop .inv .1) ∙ ap (firstFault (elementVerdict (a .payload .now) (a .fixed))) (le-antisymm (c .before .loop .inv .0) (c .loop-test .left))

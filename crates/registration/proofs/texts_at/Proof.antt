@@ -1,4 +1,4 @@
--- Each pair is the one at its place.
+-- Each range is that of its text.
 use borrow.Author.Needs.{needs}
 use Rattle.registration.specs.Registration.{textsAt}
 use Rattle.registration.proofs.texts_at.Statement.{statement}
@@ -6,7 +6,7 @@ use Rattle.registration.proofs.texts_at.Tie as tie
 
 returns : tie.Need-returns
 unfolding textsAt
-returns c = rw (c .before .before .range-at .ensures, c .before .range-at2 .ensures, c .range-at3 .ensures)
+returns c = rw (c .before .before .before .before .judged-text .ensures, c .before .before .judged-text2 .ensures, c .judged-text3 .ensures)
 
 pub texts-at-spec : {M : Type 1} → statement M
-texts-at-spec = tie.close (tie.spec (λ c. search needs) (λ c. search needs) (λ c. search needs) returns)
+texts-at-spec = tie.close (tie.spec (λ c. search needs) (λ c. search needs) (λ c. search needs) (λ c. search needs) (λ c. search needs) (λ c. search needs) returns)

@@ -7,7 +7,7 @@ use Rattle.services_query.proofs.cids_of.Tie as tie
 
 returns : tie.Need-returns
 unfolding cidsOf
-returns c = rw (← c .before .before .before .before .before .before .before .before .judge-list .ensures, c .before .before .before .before .before .before .enum-told .given .1, ← c .before .before .before .before .before .count-of .ensures, ← c .before .before .before .before .index-of .ensures) (c .before .before .show-chosen .ensures)
+returns c = rw (← c .before .before .before .before .before .before .before .before .judge-list .ensures, c .before .before .before .before .before .before .enum-told .given .1, ← c .before .before .before .before .before .judged-count .ensures, ← c .before .before .before .before .index-of .ensures) (c .before .before .show-chosen .ensures)
 
 returns-2 : tie.Need-returns-2
 unfolding cidsOf

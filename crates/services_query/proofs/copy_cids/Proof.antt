@@ -26,7 +26,7 @@ slice-write-cids : tie.Need-slice-write-cids Inv-loop μ-loop
 slice-write-cids c = omega (arith, ap length (c .before .before .loop .inv .1) ∙ length-sets (c .before .before .before .before .before .args .cids .now) 0 (listOf (cidAt (c .before .before .before .before .before .args .payload .now) (c .before .before .before .before .before .args .offset)) (c .before .before .loop .i)), c .before .loop-test .taken, c .before .before .before .before .before .pre)
 
 loop-again : tie.Need-loop-again Inv-loop μ-loop
-loop-again c = (search needs, list-next (cidAt (c .before .before .before .before .before .args .payload .now) (c .before .before .before .before .before .args .offset)) (c .before .before .loop .i) (c .before .before .before .before .before .args .cids .now) (c .before .before .loop .inv .1) (c .cid-at .ensures) refl)
+loop-again c = (search needs, list-next (cidAt (c .before .before .before .before .before .args .payload .now) (c .before .before .before .before .before .args .offset)) (c .before .before .loop .i) (c .before .before .before .before .before .args .cids .now) (c .before .before .loop .inv .1) (c .judged-cid .ensures) refl)
 
 same-length : tie.Need-same-length Inv-loop μ-loop
 same-length c = ap length (c .before .loop .inv .1) ∙ simp length-sets

@@ -24,12 +24,12 @@ loop-holds c = (search needs, refl)
 returns : tie.Need-returns Inv-loop μ-loop
 returns c =
     let a = c .before .before .before .before .before .args in
-    sym (any-at (isCid (a .payload .now) (a .offset) (a .cid)) (a .n) (c .before .before .before .loop .i) (c .before .before .loop-test .taken) (rw (← c .before .cid-at .ensures) (eq-eqb _ _ (c .if1 .taken))))
+    sym (any-at (isCid (a .payload .now) (a .offset) (a .cid)) (a .n) (c .before .before .before .loop .i) (c .before .before .loop-test .taken) (rw (← c .before .judged-cid .ensures) (eq-eqb _ _ (c .if1 .taken))))
 
 loop-again : tie.Need-loop-again Inv-loop μ-loop
 loop-again c =
     let a = c .before .before .before .before .before .args in
-    (search needs, none-next (isCid (a .payload .now) (a .offset) (a .cid)) _ (c .before .before .before .loop .inv .1) (rw (← c .before .cid-at .ensures) (ne-eqb _ _ (c .if1 .left))))
+    (search needs, none-next (isCid (a .payload .now) (a .offset) (a .cid)) _ (c .before .before .before .loop .inv .1) (rw (← c .before .judged-cid .ensures) (ne-eqb _ _ (c .if1 .left))))
 
 returns-2 : tie.Need-returns-2 Inv-loop μ-loop
 returns-2 c =

@@ -6,7 +6,7 @@ use Rattle.services_query.proofs.is_held.Tie as tie
 
 returns : tie.Need-returns
 unfolding hasCid
-returns c = rw (c .before .before .before .if1 .taken, ← c .before .before .offset-of .ensures, ← c .before .cid-count-at .ensures) (c .is-among .ensures)
+returns c = rw (c .before .before .before .if1 .taken, ← c .before .before .judged-offset .ensures, ← c .before .judged-cid-count .ensures) (c .is-among .ensures)
 
 returns-2 : tie.Need-returns-2
 returns-2 c = rw (c .if1 .left)

@@ -6,11 +6,11 @@ use Rattle.services_query.proofs.is_listed.Tie as tie
 
 returns : tie.Need-returns
 unfolding listedOf
-returns c = rw (← c .before .before .before .before .before .judge-list .ensures, c .before .before .before .enum-told .given .1, ← c .before .before .count-of .ensures, ← c .before .is-any-holding .ensures, c .if1 .taken)
+returns c = rw (← c .before .before .before .before .before .judge-list .ensures, c .before .before .before .enum-told .given .1, ← c .before .before .judged-count .ensures, ← c .before .is-any-holding .ensures, c .if1 .taken)
 
 returns-2 : tie.Need-returns-2
 unfolding listedOf
-returns-2 c = rw (← c .before .before .before .before .before .judge-list .ensures, c .before .before .before .enum-told .given .1, ← c .before .before .count-of .ensures, ← c .before .is-any-holding .ensures, c .if1 .left)
+returns-2 c = rw (← c .before .before .before .before .before .judge-list .ensures, c .before .before .before .enum-told .given .1, ← c .before .before .judged-count .ensures, ← c .before .is-any-holding .ensures, c .if1 .left)
 
 returns-3 : tie.Need-returns-3
 unfolding listedOf

@@ -6,7 +6,7 @@ use Rattle.services_query.proofs.is_of.Tie as tie
 
 returns : tie.Need-returns
 unfolding isOf
-returns c = rw (← c .before .before .before .offset-of .ensures, ← c .before .before .element-at .ensures) (c .is-same-id .ensures)
+returns c = rw (← c .before .before .before .judged-offset .ensures, ← c .before .before .judged-element .ensures) (c .is-same-id .ensures)
 
 pub is-of-spec : {M : Type 1} → statement M
 is-of-spec = tie.close (tie.spec (λ c. search needs) (λ c. search needs) (λ c. search needs) returns)

@@ -13,15 +13,15 @@ use Rattle.services_query.proofs.show_element.Tie as tie
 
 returns : tie.Need-returns
 unfolding elementShown
-returns c = rw (← c .before .before .offset-of .ensures, ← c .before .cid-count-at .ensures, lt-ltb _ _ (c .if1 .taken)) (refl, refl)
+returns c = rw (← c .before .before .judged-offset .ensures, ← c .before .judged-cid-count .ensures, lt-ltb _ _ (c .if1 .taken)) (refl, refl)
 
 returns-2 : tie.Need-returns-2
 unfolding elementShown cidsAt
 returns-2 c =
     let a = c .before .before .before .before .before .before .before .before .before .before .args in
-    let f = cidAt (a .payload .now) (c .before .before .before .before .before .before .before .offset-of .result) in
-    let n = c .before .before .before .before .before .before .cid-count-at .result in
-    rw (← c .before .before .before .before .before .before .before .offset-of .ensures, ← c .element-at .ensures, ← c .before .before .before .before .before .before .cid-count-at .ensures, le-ltb _ _ (c .before .before .before .before .before .if1 .left))
+    let f = cidAt (a .payload .now) (c .before .before .before .before .before .before .before .judged-offset .result) in
+    let n = c .before .before .before .before .before .before .judged-cid-count .result in
+    rw (← c .before .before .before .before .before .before .before .judged-offset .ensures, ← c .judged-element .ensures, ← c .before .before .before .before .before .before .judged-cid-count .ensures, le-ltb _ _ (c .before .before .before .before .before .if1 .left))
     (refl, c .before .before .before .copy-cids .ensures ∙ sets-over (listOf f n) (a .cids .now) (omega (arith, length-list f n, c .before .before .before .before .before .if1 .left)))
 
 pub show-element-spec : {M : Type 1} → statement M

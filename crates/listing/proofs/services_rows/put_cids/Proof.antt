@@ -30,7 +30,7 @@ put-cid-requires c κs = omega (arith, c .before .before .before .before .before
 
 loop-again : tie.Need-loop-again Inv-loop μ-loop
 unfolding cidRows
-loop-again c = (search needs, omega (arith, c .before .before .put-cid .ensures .1), put-next (λ k. cidRow (c .before .before .before .before .before .before .before .before .before .args .i) k (cidAt (c .before .before .before .before .before .before .before .before .before .args .payload .now) (c .before .before .before .before .before .before .before .before .before .args .offset) k)) (c .before .before .before .before .before .before .loop .j) (c .before .before .before .before .before .before .loop .inv .2) (rw (c .before .before .before .cid-at .ensures) at (c .before .before .put-cid .ensures .0)))
+loop-again c = (search needs, omega (arith, c .before .before .put-cid .ensures .1), put-next (λ k. cidRow (c .before .before .before .before .before .before .before .before .before .args .i) k (cidAt (c .before .before .before .before .before .before .before .before .before .args .payload .now) (c .before .before .before .before .before .before .before .before .before .args .offset) k)) (c .before .before .before .before .before .before .loop .j) (c .before .before .before .before .before .before .loop .inv .2) (rw (c .before .before .before .judged-cid .ensures) at (c .before .before .put-cid .ensures .0)))
 
 same-length : tie.Need-same-length Inv-loop μ-loop
 same-length c = ap length (c .before .loop .inv .2 .stored) ∙ length-sets (c .before .before .before .before .args .out .now) (c .before .before .before .before .args .at) (cidRows (c .before .before .before .before .args .payload .now) (c .before .before .before .before .args .offset) (c .before .before .before .before .args .i) (c .before .loop .j))

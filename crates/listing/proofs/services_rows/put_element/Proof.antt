@@ -22,14 +22,14 @@ put-indexed-row-requires-3 c κs = (omega (arith, c .before .before .before .bef
 
 put-cids-requires : tie.Need-put-cids-requires
 unfolding elementAt
-put-cids-requires c κs = (omega (arith, c .before .before .before .before .before .before .before .before .before .before .before .before .before .before .before .before .before .before .before .before .before .before .before .before .before .before .before .pre .0, c .before .before .before .before .before .before .before .before .before .before .before .before .before .before .before .before .before .before .before .before .before .put-id-row .ensures .1, c .before .before .before .before .before .before .before .before .before .before .before .before .before .before .before .put-indexed-row .ensures .1, c .before .before .before .before .before .before .before .before .before .put-indexed-row2 .ensures .1, c .before .before .before .put-indexed-row3 .ensures .1), rw (c .before .before .before .before .before .before .before .before .before .before .before .before .before .before .before .before .before .before .before .before .before .before .before .before .element-at .ensures) (c .before .before .before .before .before .before .before .before .before .before .before .before .before .before .before .before .before .before .before .before .before .before .before .before .before .before .before .pre .1))
+put-cids-requires c κs = (omega (arith, c .before .before .before .before .before .before .before .before .before .before .before .before .before .before .before .before .before .before .before .before .before .before .before .before .before .before .before .pre .0, c .before .before .before .before .before .before .before .before .before .before .before .before .before .before .before .before .before .before .before .before .before .put-id-row .ensures .1, c .before .before .before .before .before .before .before .before .before .before .before .before .before .before .before .put-indexed-row .ensures .1, c .before .before .before .before .before .before .before .before .before .put-indexed-row2 .ensures .1, c .before .before .before .put-indexed-row3 .ensures .1), rw (c .before .before .before .before .before .before .before .before .before .before .before .before .before .before .before .before .before .before .before .before .before .before .before .before .judged-element .ensures) (c .before .before .before .before .before .before .before .before .before .before .before .before .before .before .before .before .before .before .before .before .before .before .before .before .before .before .before .pre .1))
 
 same-length : tie.Need-same-length
 same-length c = c .before .before .put-cids .kept .1 .1 .1 .1 .0 ∙ c .before .before .before .before .before .before .put-indexed-row3 .kept .0 ∙ c .before .before .before .before .before .before .before .before .before .before .before .before .put-indexed-row2 .kept .0 ∙ c .before .before .before .before .before .before .before .before .before .before .before .before .before .before .before .before .before .before .put-indexed-row .kept .0 ∙ c .before .before .before .before .before .before .before .before .before .before .before .before .before .before .before .before .before .before .before .before .before .before .before .before .put-id-row .kept .0
 
 returns : tie.Need-returns
 unfolding elementRows
-returns c = (rw (← c .before .before .before .before .before .before .before .before .before .before .before .before .before .before .before .before .before .before .before .before .before .before .before .before .before .before .before .element-at .ensures) (put-then (c .before .before .before .before .before .before .before .before .before .before .before .before .before .before .before .before .before .before .before .before .before .before .before .before .put-id-row .ensures .0) (put-then (c .before .before .before .before .before .before .before .before .before .before .before .before .before .before .before .before .before .before .put-indexed-row .ensures .0) (put-then (c .before .before .before .before .before .before .before .before .before .before .before .before .put-indexed-row2 .ensures .0) (put-then (c .before .before .before .before .before .before .put-indexed-row3 .ensures .0) (c .before .before .put-cids .ensures .0))))), omega (arith, c .before .before .before .before .before .before .before .before .before .before .before .before .before .before .before .before .before .before .before .before .before .before .before .before .put-id-row .ensures .1, c .before .before .before .before .before .before .before .before .before .before .before .before .before .before .before .before .before .before .put-indexed-row .ensures .1, c .before .before .before .before .before .before .before .before .before .before .before .before .put-indexed-row2 .ensures .1, c .before .before .before .before .before .before .put-indexed-row3 .ensures .1, c .before .before .put-cids .ensures .1))
+returns c = (rw (← c .before .before .before .before .before .before .before .before .before .before .before .before .before .before .before .before .before .before .before .before .before .before .before .before .before .before .before .judged-element .ensures) (put-then (c .before .before .before .before .before .before .before .before .before .before .before .before .before .before .before .before .before .before .before .before .before .before .before .before .put-id-row .ensures .0) (put-then (c .before .before .before .before .before .before .before .before .before .before .before .before .before .before .before .before .before .before .put-indexed-row .ensures .0) (put-then (c .before .before .before .before .before .before .before .before .before .before .before .before .put-indexed-row2 .ensures .0) (put-then (c .before .before .before .before .before .before .put-indexed-row3 .ensures .0) (c .before .before .put-cids .ensures .0))))), omega (arith, c .before .before .before .before .before .before .before .before .before .before .before .before .before .before .before .before .before .before .before .before .before .before .before .before .put-id-row .ensures .1, c .before .before .before .before .before .before .before .before .before .before .before .before .before .before .before .before .before .before .put-indexed-row .ensures .1, c .before .before .before .before .before .before .before .before .before .before .before .before .put-indexed-row2 .ensures .1, c .before .before .before .before .before .before .put-indexed-row3 .ensures .1, c .before .before .put-cids .ensures .1))
 
 pub put-element-spec : {M : Type 1} → statement M
 put-element-spec = tie.close (tie.spec (λ c. search needs) put-id-row-requires (λ c. search needs) (λ c. search needs) put-indexed-row-requires (λ c. search needs) (λ c. search needs) put-indexed-row-requires-2 (λ c. search needs) (λ c. search needs) put-indexed-row-requires-3 put-cids-requires same-length returns)

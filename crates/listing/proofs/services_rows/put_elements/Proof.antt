@@ -26,11 +26,11 @@ unfolding elementsRows joined
 loop-holds c = (search needs, search needs, put-start (c .before .before .args .out .now) (c .before .before .args .at))
 
 put-element-requires : tie.Need-put-element-requires Inv-loop μ-loop
-put-element-requires c κs = (omega (arith, c .before .before .before .before .before .before .pre .0, c .before .before .before .before .before .before .pre .1), rw (c .before .offset-of .ensures) (c .before .before .before .before .before .before .pre .2 (c .before .before .before .loop .i) (c .before .before .loop-test .taken)))
+put-element-requires c κs = (omega (arith, c .before .before .before .before .before .before .pre .0, c .before .before .before .before .before .before .pre .1), rw (c .before .judged-offset .ensures) (c .before .before .before .before .before .before .pre .2 (c .before .before .before .loop .i) (c .before .before .loop-test .taken)))
 
 loop-again : tie.Need-loop-again Inv-loop μ-loop
 unfolding elementsRows
-loop-again c = (search needs, omega (arith, c .before .before .put-element .ensures .1), put-next (λ k. elementRows (c .before .before .before .before .before .before .before .before .before .args .payload .now) (offsetOf (c .before .before .before .before .before .before .before .before .before .args .payload .now) k) k) (c .before .before .before .before .before .before .loop .i) (c .before .before .before .before .before .before .loop .inv .2) (rw (c .before .before .before .before .offset-of .ensures) at (c .before .before .put-element .ensures .0)))
+loop-again c = (search needs, omega (arith, c .before .before .put-element .ensures .1), put-next (λ k. elementRows (c .before .before .before .before .before .before .before .before .before .args .payload .now) (offsetOf (c .before .before .before .before .before .before .before .before .before .args .payload .now) k) k) (c .before .before .before .before .before .before .loop .i) (c .before .before .before .before .before .before .loop .inv .2) (rw (c .before .before .before .before .judged-offset .ensures) at (c .before .before .put-element .ensures .0)))
 
 same-length : tie.Need-same-length Inv-loop μ-loop
 same-length c = ap length (c .before .loop .inv .2 .stored) ∙ length-sets (c .before .before .before .before .args .out .now) (c .before .before .before .before .args .at) (elementsRows (c .before .before .before .before .args .payload .now) (c .before .loop .i))

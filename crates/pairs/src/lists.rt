@@ -1,0 +1,109 @@
+// A list behind a pair: a count, and as many elements of one size. What stands in an element is
+// judged where it is known.
+use crate::PairKind;
+use crate::Range;
+use crate::judge;
+use crate::range_at;
+use protocol::Refusal;
+use protocol::Verdict;
+use protocol::WRONG_COUNT;
+use protocol::WRONG_SIZE;
+use protocol::also;
+use wire::u32_at;
+ghost use mathlib.Core.Path.{_≡_};
+ghost use mathlib.Core.Bool.{false};
+ghost use Rattle.protocol.specs.Verdict.{judge as judged};
+ghost use Rattle.pairs.specs.Pair.{rangeAt};
+ghost use Rattle.pairs.specs.Lists.{absentIn, countIn, outside, listRules, listVerdict};
+
+// What lists of one kind are like.
+pub struct ListForm {
+    // The most bytes.
+    pub limit: u32,
+    // The bytes of one without elements.
+    pub least: u32,
+    // Where the count stands, from the list's start.
+    pub count_place: u32,
+    // The fewest elements, and the most.
+    pub fewest: u32,
+    pub most: u32,
+    // The bytes of an element.
+    pub each: u32,
+    // Whether a pair of size 0 is absent.
+    pub optional: bool,
+}
+
+// The verdict on the pair at `place` of a payload with a fixed part, and on its list.
+pub fn judge_list(payload: &[u8], fixed: u32, place: usize, form: ListForm) -> Verdict
+    ensures { λ r. ⌜ r ≡ listVerdict form fixed place (now (payload .entry)) ⌝ }
+{
+    let pair = range_at(payload, place);
+    let limit = form.limit;
+    if let Verdict::Fault(refusal) = judge(
+        PairKind::List,
+        fixed,
+        limit,
+        place,
+        payload.len(),
+        pair,
+    ) {
+        return Verdict::Fault(refusal);
+    }
+    if is_absent(form, pair) {
+        return Verdict::Fits;
+    }
+    judge_count(payload, place, form, pair)
+}
+
+// How many elements the list has that was judged before.
+pub fn judged_list_count(payload: &[u8], place: usize, form: ListForm) -> u32
+    ensures { λ r. ⌜ r ≡ countIn form (now (payload .entry)) (rangeAt (now (payload .entry)) place) ⌝ }
+{
+    let pair = range_at(payload, place);
+    if is_absent(form, pair) {
+        return 0;
+    }
+    u32_at(payload, pair.start as usize + form.count_place as usize)
+}
+
+// A list that is there: its least size, its count, and its size against its count.
+fn judge_count(payload: &[u8], place: usize, form: ListForm, pair: Range) -> Verdict
+    requires { ⌜ absentIn form pair ≡ false ⌝ }
+    ensures { λ r. ⌜ r ≡ judged (listRules form place pair (countIn form (now (payload .entry)) pair)) ⌝ }
+{
+    let size = pair.length;
+    if size < form.least {
+        return Verdict::Fault(Refusal {
+            number: WRONG_SIZE,
+            place,
+        });
+    }
+    let count_place = pair.start as usize + form.count_place as usize;
+    let count = u32_at(payload, count_place);
+    let whole = form.least as usize + form.each as usize * count as usize;
+    let counted = also(
+        Verdict::Fits,
+        is_outside(form.fewest, form.most, count),
+        WRONG_COUNT,
+        count_place,
+    );
+    also(counted, size as usize != whole, WRONG_SIZE, place)
+}
+
+fn is_absent(form: ListForm, pair: Range) -> bool
+    ensures { λ r. ⌜ r ≡ absentIn form pair ⌝ }
+{
+    if form.optional {
+        return pair.length == 0;
+    }
+    false
+}
+
+fn is_outside(fewest: u32, most: u32, count: u32) -> bool
+    ensures { λ r. ⌜ r ≡ outside fewest most count ⌝ }
+{
+    if count < fewest {
+        return true;
+    }
+    most < count
+}
