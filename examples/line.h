@@ -19,7 +19,7 @@
 #include <time.h>
 #include <unistd.h>
 
-#define LINE_SILENCE 50          /* milliseconds */
+#define LINE_SILENCE 20          /* milliseconds */
 #define LINE_LONG 60000          /* the longest single wait */
 #define LINE_FOREVER INT64_MAX
 #define LINE_HEADER 12           /* bytes of the shortest message */

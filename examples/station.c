@@ -103,8 +103,9 @@ static cvr_refusal show_signal(size_t length)
 static void show_bytes(cvr_message_header message, size_t length)
 {
     size_t i;
-    fprintf(stderr, "bytes: %" PRIu32 " %" PRIu32 " %" PRIu32 " %s ", message.transaction, message.cid,
-            message.word, line_version_text(version));
+    fprintf(stderr, "bytes: %" PRIx32 " %" PRIu32 " %" PRIu32 " %" PRIu32 " %s ",
+            message.message_type, message.transaction, message.cid, message.word,
+            line_version_text(version));
     for (i = 0; i < length; i++)
         fprintf(stderr, "%02x", modem.information[i]);
     fprintf(stderr, "\n");
