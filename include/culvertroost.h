@@ -836,43 +836,44 @@ cvr_refusal cvr_modem_close(uint8_t *memory, size_t size);
 cvr_modem_answer cvr_modem_receive(uint8_t *memory, size_t size, cvr_message_header message,
                                    const uint8_t *information, size_t length, uint8_t *out, size_t room);
 
-/* ---- the layout that the library was built for: size, and offset of the last member -------------- */
+/* ---- the layout that the library was built for: size, and the last member's offset and end -------- */
 
-#define CVR_LAYOUT(type, size, last, offset)                                                  \
+#define CVR_LAYOUT(type, size, last, offset, end)                                             \
     typedef char type##_has_the_library_s_layout                                              \
-        [sizeof(type) == (size) && offsetof(type, last) == (offset) ? 1 : -1]
+        [sizeof(type) == (size) && offsetof(type, last) == (offset)                           \
+         && (offset) + sizeof(((type *)0)->last) == (end) ? 1 : -1]
 
-CVR_LAYOUT(cvr_refusal, 16, place, 8);
-CVR_LAYOUT(cvr_written, 24, length, 16);
-CVR_LAYOUT(cvr_service, 16, word3, 12);
-CVR_LAYOUT(cvr_version_info, 4, bcd_mbim_extended_version, 2);
-CVR_LAYOUT(cvr_version_info_answer, 24, info, 16);
-CVR_LAYOUT(cvr_packet_service, 40, downlink_speed, 32);
-CVR_LAYOUT(cvr_packet_service_answer, 56, info, 16);
-CVR_LAYOUT(cvr_registration, 32, preferred_data_class, 28);
-CVR_LAYOUT(cvr_range, 8, length, 4);
-CVR_LAYOUT(cvr_registration_texts, 24, roaming_text, 16);
-CVR_LAYOUT(cvr_registration_answer, 72, texts, 48);
-CVR_LAYOUT(cvr_rsrp_snr, 20, system_type, 16);
-CVR_LAYOUT(cvr_signal_state, 348, entries, 28);
-CVR_LAYOUT(cvr_signal_state_answer, 368, info, 16);
-CVR_LAYOUT(cvr_reading_answer, 24, value, 20);
-CVR_LAYOUT(cvr_bars_answer, 24, bars, 20);
-CVR_LAYOUT(cvr_device_services, 8, max_dss_sessions, 4);
-CVR_LAYOUT(cvr_device_services_answer, 24, info, 16);
-CVR_LAYOUT(cvr_device_service, 28, cid_count, 24);
-CVR_LAYOUT(cvr_element_answer, 48, element, 20);
-CVR_LAYOUT(cvr_listed_answer, 24, listed, 16);
-CVR_LAYOUT(cvr_service_element, 540, cids, 28);
-CVR_LAYOUT(cvr_service_list, 17288, elements, 8);
-CVR_LAYOUT(cvr_message_header, 32, word, 28);
-CVR_LAYOUT(cvr_whole_answer, 32, word, 24);
-CVR_LAYOUT(cvr_cut_answer, 32, length, 24);
-CVR_LAYOUT(cvr_kind_answer, 24, kind, 16);
-CVR_LAYOUT(cvr_receive_answer, 64, length, 56);
-CVR_LAYOUT(cvr_host_answer, 24, version, 20);
-CVR_LAYOUT(cvr_ask_answer, 32, length, 24);
-CVR_LAYOUT(cvr_modem_answer, 48, length, 40);
+CVR_LAYOUT(cvr_refusal, 16, place, 8, 16);
+CVR_LAYOUT(cvr_written, 24, length, 16, 24);
+CVR_LAYOUT(cvr_service, 16, word3, 12, 16);
+CVR_LAYOUT(cvr_version_info, 4, bcd_mbim_extended_version, 2, 4);
+CVR_LAYOUT(cvr_version_info_answer, 24, info, 16, 20);
+CVR_LAYOUT(cvr_packet_service, 40, downlink_speed, 32, 40);
+CVR_LAYOUT(cvr_packet_service_answer, 56, info, 16, 56);
+CVR_LAYOUT(cvr_registration, 32, preferred_data_class, 28, 32);
+CVR_LAYOUT(cvr_range, 8, length, 4, 8);
+CVR_LAYOUT(cvr_registration_texts, 24, roaming_text, 16, 24);
+CVR_LAYOUT(cvr_registration_answer, 72, texts, 48, 72);
+CVR_LAYOUT(cvr_rsrp_snr, 20, system_type, 16, 20);
+CVR_LAYOUT(cvr_signal_state, 348, entries, 28, 348);
+CVR_LAYOUT(cvr_signal_state_answer, 368, info, 16, 364);
+CVR_LAYOUT(cvr_reading_answer, 24, value, 20, 24);
+CVR_LAYOUT(cvr_bars_answer, 24, bars, 20, 24);
+CVR_LAYOUT(cvr_device_services, 8, max_dss_sessions, 4, 8);
+CVR_LAYOUT(cvr_device_services_answer, 24, info, 16, 24);
+CVR_LAYOUT(cvr_device_service, 28, cid_count, 24, 28);
+CVR_LAYOUT(cvr_element_answer, 48, element, 20, 48);
+CVR_LAYOUT(cvr_listed_answer, 24, listed, 16, 20);
+CVR_LAYOUT(cvr_service_element, 540, cids, 28, 540);
+CVR_LAYOUT(cvr_service_list, 17288, elements, 8, 17288);
+CVR_LAYOUT(cvr_message_header, 32, word, 28, 32);
+CVR_LAYOUT(cvr_whole_answer, 32, word, 24, 28);
+CVR_LAYOUT(cvr_cut_answer, 32, length, 24, 32);
+CVR_LAYOUT(cvr_kind_answer, 24, kind, 16, 20);
+CVR_LAYOUT(cvr_receive_answer, 64, length, 56, 64);
+CVR_LAYOUT(cvr_host_answer, 24, version, 20, 22);
+CVR_LAYOUT(cvr_ask_answer, 32, length, 24, 32);
+CVR_LAYOUT(cvr_modem_answer, 48, length, 40, 48);
 
 #undef CVR_LAYOUT
 
