@@ -5,24 +5,31 @@
  * fragments, the version handshake of both ends, decibels and bars. Every function is proved against
  * its specification: on any bytes and any numbers it ends, with the answer described here.
  *
- * A station gives each piece that its modem sends (one read of a cdc-wdm device) to this:
+ * A station's receive loop; one read of a cdc-wdm device is one piece:
  *
- *   static uint8_t assembly[CVR_ASSEMBLY_SIZE], host[CVR_HOST_SIZE], information[CVR_MOST_INFORMATION];
- *
- *   void take(const uint8_t *piece, size_t length)
+ *   void receive(int device, uint16_t advertised)
  *   {
- *       cvr_receive_answer got = cvr_receive(assembly, sizeof assembly, piece, length,
- *                                            information, sizeof information);
- *       if (got.refusal.number != CVR_NO_REFUSAL)
- *           fprintf(stderr, "a piece was refused: %s\n", cvr_refusal_name(got.refusal.number));
- *       else if (got.received == CVR_RECEIVED_COMPLETE)
- *           cvr_host_receive(host, sizeof host, got.message, information, got.length);
- *       else if (got.message.message_type == CVR_MESSAGE_OPEN_DONE && got.message.word == 0)
- *           cvr_host_open(host, sizeof host, CVR_VERSION_1_00);
+ *       static uint8_t assembly[CVR_ASSEMBLY_SIZE], host[CVR_HOST_SIZE];
+ *       static uint8_t piece[CVR_MOST_TRANSFER], information[CVR_MOST_INFORMATION];
+ *       ssize_t length;
+ *       cvr_host_make(host, sizeof host, CVR_VERSION_2_00);
+ *       while ((length = read(device, piece, sizeof piece)) > 0) {
+ *           cvr_receive_answer got = cvr_receive(assembly, sizeof assembly, piece, (size_t)length,
+ *                                                information, sizeof information);
+ *           cvr_refusal refusal = got.refusal;
+ *           if (got.message.message_type == CVR_MESSAGE_OPEN_DONE && got.message.word == 0)
+ *               refusal = cvr_host_open(host, sizeof host, advertised).refusal;
+ *           if (got.received == CVR_RECEIVED_COMPLETE)
+ *               refusal = cvr_host_receive(host, sizeof host, got.message, information,
+ *                                          got.length).refusal;
+ *           if (refusal.number != CVR_NO_REFUSAL)
+ *               fprintf(stderr, "refused: %s at %u\n", cvr_refusal_name(refusal.number),
+ *                       (unsigned)refusal.place);
+ *       }
  *   }
  *
- * After each call cvr_host_next_command says what to send. examples/station.c and examples/modem.c
- * are whole programs.
+ * cvr_host_next_command says what to send, cvr_payload_kind what a complete message shows.
+ * examples/station.c and examples/modem.c are whole programs.
  *
  * Memory. The library allocates nothing, keeps nothing between calls and never faults. What lasts
  * between calls lies in memory that you lend: bytes of any alignment, without pointers inside, that
@@ -36,7 +43,8 @@
  *   - a range that is written to overlaps no other range of the same call.
  * Nothing else is asked. Numbers need not be checked first, lengths need not be sensible.
  *
- * Answers. An answer is a refusal or begins with one: a number and a place.
+ * Answers. But for a service id and a transaction number, an answer is a refusal or begins with one: a
+ * number and a place.
  *   - Number 0: there is no refusal, and the place is 0. Output past what was written stays as it was.
  *   - Any other number is one of enum cvr_refusal_number. Every other member of the answer is 0, no
  *     output is written, and the memory of a host or a modem stays as it was. What becomes of an
@@ -58,6 +66,7 @@
 #include <stddef.h>
 #include <stdint.h>
 
+/* The archive is for x86-64; a header that fits other boards is not yet a library for them. */
 #if defined(__BYTE_ORDER__) && __BYTE_ORDER__ != __ORDER_LITTLE_ENDIAN__
 #error "culvertroost is for little-endian machines"
 #endif
@@ -676,7 +685,7 @@ cvr_refusal cvr_assembly_empty(uint8_t *memory, size_t size);
  * CVR_MOST_INFORMATION is room enough. The transaction of a first fragment is not judged. In this order:
  *
  *   memory too small    OUTPUT_TOO_SMALL; the memory stays as it was.
- *   a whole type        Judged as by cvr_message_judge; the memory stays as it was, refused or not.
+ *   a whole type at 0   Judged as by cvr_message_judge; the memory stays as it was, refused or not.
  *   anything else       A fragment; refused, it leaves an empty assembly, and so does a complete message.
  *     Refuses: for the memory, where no call can have left it: CONTRADICTION at 32 (no total, but other
  *     numbers); OUTSIDE_TABLE at 0, 32, 36, 40, 44. For the piece: TOO_SHORT (under 20); WRONG_LENGTH at
@@ -693,7 +702,7 @@ cvr_receive_answer cvr_receive(uint8_t *memory, size_t size, const uint8_t *piec
 
 #define CVR_AT_HOST_NATIVE 0
 #define CVR_AT_HOST_STAGE 2   /* enum cvr_host_stage */
-#define CVR_AT_HOST_VERSION 4 /* advertised, once settled that; 0 when closed */
+#define CVR_AT_HOST_VERSION 4 /* advertised; once settled, the settled one; 0 when closed */
 
 enum cvr_host_stage {
     CVR_HOST_CLOSED = 0,
@@ -745,7 +754,8 @@ cvr_host_answer cvr_host_close(uint8_t *memory, size_t size);
  * Refuses: last, for VERSION's payload, OUTPUT_TOO_SMALL. */
 cvr_ask_answer cvr_host_next_command(const uint8_t *memory, size_t size, uint8_t *out, size_t room);
 
-/* Takes any message that came; the transaction is not looked at, so compare it with your command's.
+/* Takes any message that came; the transaction is not looked at, so compare it with your command's. The
+ * first row that fits holds:
  *
  *   stage            what comes                           status  answer                    next stage
  *   any              no reply, or one of another CID      any     UNCHANGED                 the same
@@ -778,7 +788,7 @@ cvr_host_answer cvr_host_receive(uint8_t *memory, size_t size, cvr_message_heade
 #define CVR_AT_MODEM_ADVERTISED 2
 #define CVR_AT_MODEM_LISTS_VERSION 4 /* 0 or 1 */
 #define CVR_AT_MODEM_STAGE 6         /* enum cvr_modem_stage */
-#define CVR_AT_MODEM_VERSION 8       /* settled that; else 0 */
+#define CVR_AT_MODEM_VERSION 8       /* the settled one, else 0 */
 
 /* There is no closed stage: that no command is served before OPEN or after CLOSE is the program's. */
 enum cvr_modem_stage {
@@ -817,7 +827,7 @@ cvr_refusal cvr_modem_close(uint8_t *memory, size_t size);
 
 /* Takes a command that came. CVR_VERSION_INFO_LENGTH is room enough.
  * Refuses: after the memory, UNKNOWN at 0 (not a COMMAND); OUTSIDE_TABLE at 8 (transaction 0); last,
- * for VERSION's payload, OUTPUT_TOO_SMALL.
+ * for VERSION's payload, OUTPUT_TOO_SMALL. The first row that fits holds:
  *
  *   stage      what comes                                answer    status  next stage
  *   START      DEVICE_SERVICES, query or set             SERVE     0       LISTED
@@ -827,16 +837,17 @@ cvr_refusal cvr_modem_close(uint8_t *memory, size_t size);
  *                                                                          advertised and the lower native
  *   LISTED     any other VERSION                         FAILED    9       LISTED
  *   LISTED     any other, advertised 2.00                FAILED    9       LISTED
- *   LISTED     another CID, advertised 1.00              SERVE     0       SETTLED at 1.00
  *   LISTED     a CID not known, advertised 1.00          UNKNOWN   9       SETTLED at 1.00
+ *   LISTED     any other, advertised 1.00                SERVE     0       SETTLED at 1.00
  *   SETTLED    VERSION                                   FAILED    9       SETTLED
- *   SETTLED    any other CID                             SERVE     0       SETTLED
  *   SETTLED    a CID not known                           UNKNOWN   9       SETTLED
+ *   SETTLED    any other, query or set                   SERVE     0       SETTLED
  */
 cvr_modem_answer cvr_modem_receive(uint8_t *memory, size_t size, cvr_message_header message,
                                    const uint8_t *information, size_t length, uint8_t *out, size_t room);
 
-/* ---- the layout that the library was built for: size, and the last member's offset and end -------- */
+/* ---- the layout that the library was built for: size, and the last member's offset and end --------
+ * Lengths and places in structs are uint64_t, so that it is the same with pointers of 32 bits. */
 
 #define CVR_LAYOUT(type, size, last, offset, end)                                             \
     typedef char type##_has_the_library_s_layout                                              \

@@ -27,8 +27,8 @@ big_endian() {
 # The example in the header's first comment, as a program's part.
 header_example() {
     {
-        printf '#include "culvertroost.h"\n#include <stdio.h>\nvoid take(const uint8_t *, size_t);\n'
-        sed -n '/^ \*   static uint8_t assembly/,/^ \*   }/s/^ \*//p' include/culvertroost.h
+        printf '#include "culvertroost.h"\n#include <stdio.h>\n#include <unistd.h>\n'
+        sed -n '/^ \*   void receive/,/^ \*   }/s/^ \*//p' include/culvertroost.h
     } >"$work/example.c"
     grep -q 'cvr_receive(' "$work/example.c" &&
         gcc -std=c99 $warnings -Iinclude -fsyntax-only "$work/example.c"
