@@ -1,6 +1,6 @@
 #!/bin/sh
-# The static library as its users see it: the header, null pointers, the C example, an install, the Rust
-# example, and the comparison with the second program. One line a step; the first that fails ends it.
+# The static library as its users see it: the header and what its tables say, null pointers, the C
+# example, an install, the Rust example, and the comparison with the second program.
 set -u
 cd "$(dirname "$0")/.." || exit 2
 name=library
@@ -46,7 +46,7 @@ exported() {
     [ -s "$work/declared" ] && diff "$work/declared" "$work/exported"
 }
 
-# ---- null pointers
+# ---- null pointers, and the header's tables
 
 # Every function with a pointer is tried.
 all_tried() {
@@ -55,9 +55,14 @@ all_tried() {
     done
 }
 
+# tried NAME: a program of tests/, under valgrind and with sanitizers
+tried() {
+    compile -O2 "$work/$1" "tests/$1.c" && valgrind -q --error-exitcode=9 "$work/$1" &&
+        compile "$sanitizers" "$work/$1.sanitized" "tests/$1.c" && "$work/$1.sanitized"
+}
+
 null() {
-    all_tried && compile -O2 "$work/null" tests/null.c && valgrind -q --error-exitcode=9 "$work/null" &&
-        compile "$sanitizers" "$work/null.sanitized" tests/null.c && "$work/null.sanitized"
+    all_tried && tried null
 }
 
 # ---- the example
@@ -119,6 +124,7 @@ step 'header on a big-endian machine' big_endian
 step 'example in the header' header_example
 step 'what is exported' exported
 step 'null pointers' null
+step 'the tables of the header' tried tables
 step 'C example' plain
 step 'C example under valgrind' under_valgrind
 step 'C example with sanitizers' sanitized
