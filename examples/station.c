@@ -28,7 +28,7 @@ static uint16_t native = CVR_VERSION_2_00, advertised = CVR_VERSION_1_00;
 static long timeout = 1000, rounds = 1;
 static int verbose;
 static uint8_t host[CVR_HOST_SIZE];
-static uint16_t version; /* the settled one */
+static uint16_t version; /* the settled one, 0 before */
 static uint32_t transaction;
 static int tries;
 
@@ -149,7 +149,7 @@ static enum result await(uint32_t message_type, cvr_receive_answer *got)
             return ANSWERED;
         if (got->message.message_type == CVR_MESSAGE_FUNCTION_ERROR)
             return NO_ANSWER;
-        if (got->message.message_type == CVR_MESSAGE_INDICATE_STATUS)
+        if (got->message.message_type == CVR_MESSAGE_INDICATE_STATUS && version != 0)
             show(got->message, got->length);
     }
 }
@@ -252,6 +252,7 @@ static enum result go_round(void)
 static enum result session(void)
 {
     enum result result;
+    version = 0;
     cvr_assembly_empty(modem.assembly, sizeof modem.assembly);
     result = send_whole(CVR_MESSAGE_OPEN, CVR_MESSAGE_OPEN_DONE);
     if (result != ANSWERED)

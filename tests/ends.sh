@@ -73,6 +73,25 @@ versions() {
     done
 }
 
+# ---- file descriptors, and nobody there
+
+descriptors() {
+    rm -f "$work/there" "$work/back"
+    mkfifo "$work/there" "$work/back" || return 1
+    timeout 20 "$work/modem" <"$work/there" >"$work/back" 2>"$work/run.modem" &
+    timeout 20 "$work/station" -i 3 -o 4 4>"$work/there" 3<"$work/back" </dev/null >/dev/null 2>"$work/run.station"
+    status=$?
+    wait $!
+    cat "$work/run.station" "$work/run.modem"
+    [ $status -eq 0 ] && [ "$(settled)" = "$(printf '2.00\n2.00')" ]
+}
+
+# A line on which nothing comes: it gives up by its time-out.
+silent() {
+    timeout 20 "$work/station" -t 20 -i 3 3<>"$work/back" >/dev/null
+    [ $? -eq 1 ]
+}
+
 # ---- noise
 
 # noisy SEED NOISE ROUNDS TIMEOUT STATION MODEM: they end, and what is shown is what came
@@ -153,6 +172,8 @@ stock_client() {
 step 'archive' tests/archive.sh
 step 'programs' programs
 step 'versions' versions
+step 'file descriptors' descriptors
+step 'nobody there' silent
 step 'noisy line' noise
 tail -n 1 "$work/log" | awk -v n=$name '{ print n ": shown " $1 ", of those damaged " $2 ", refused " $3 }'
 step 'noisy line under valgrind' under_valgrind
