@@ -94,9 +94,9 @@ silent() {
 
 # ---- noise
 
-# noisy SEED NOISE ROUNDS TIMEOUT STATION MODEM: they end, and what is shown is what came
+# noisy SEED NOISE SIZE ROUNDS TIMEOUT STATION MODEM: they end, and what is shown is what came
 noisy() {
-    "$line" "$1" "$2" 40 "$work/run" $5 -v -s 64 -r "$3" -t "$4" -- $6 -d 5
+    "$line" "$1" "$2" 40 "$work/run" $6 -v -s "$3" -r "$4" -t "$5" -- $7 -d 5
     status=$?
     if [ $status -ne 0 ]; then
         echo "seed $1: status $status"
@@ -117,15 +117,16 @@ counted() {
 
 noise() {
     : >"$work/counts"
-    for seed in 1 2 3 4; do
-        noisy $seed 25 80 60 "$work/station.sanitized" "$work/modem.sanitized" || return 1
+    for seed in 1 2 3; do
+        noisy $seed 25 64 60 60 "$work/station.sanitized" "$work/modem.sanitized" &&
+            noisy $seed 50 4096 60 60 "$work/station.sanitized" "$work/modem.sanitized" || return 1
     done
     counted
 }
 
 under_valgrind() {
     memory='valgrind -q --error-exitcode=9'
-    noisy 5 25 8 500 "$memory $work/station" "$memory $work/modem"
+    noisy 5 25 64 8 500 "$memory $work/station" "$memory $work/modem"
 }
 
 # ---- the stock client
