@@ -4,6 +4,7 @@
  */
 #include "culvertroost.h"
 
+#include <inttypes.h>
 #include <stdio.h>
 #include <stdlib.h>
 #include <string.h>
@@ -36,20 +37,10 @@ static uint8_t host[CVR_HOST_SIZE];
 static uint8_t modem[CVR_MODEM_SIZE];
 static receiver host_side = {"host", {0}};
 static receiver modem_side = {"modem", {0}};
+static payload services;
 static uint32_t transaction = 0;
 
 /* ---- names */
-
-static const char *refusal_name(uint32_t number)
-{
-    static const char *const names[] = {
-        "NO_REFUSAL", "TOO_SHORT", "WRONG_LENGTH", "UNKNOWN", "WRONG_FRAGMENT", "TOO_LONG",
-        "WRONG_OFFSET", "PAST_END", "WRONG_SIZE", "OUTSIDE_TABLE", "CONTRADICTION",
-        "OUTPUT_TOO_SMALL", "WRONG_VERSION", "ABOVE_HOST", "VERSION_NOT_LISTED", "WRONG_COUNT",
-        "WRONG_TRANSFER_SIZE",
-    };
-    return number < sizeof names / sizeof names[0] ? names[number] : "?";
-}
 
 static const char *kind_name(uint32_t kind)
 {
@@ -78,7 +69,8 @@ static const char *type_name(uint32_t message_type)
 static void need(cvr_refusal refusal, const char *what)
 {
     if (refusal.number != CVR_NO_REFUSAL) {
-        printf("%s: refused, %s at %zu\n", what, refusal_name(refusal.number), refusal.place);
+        printf("%s: refused, %s at %" PRIu64 "\n", what, cvr_refusal_name(refusal.number),
+               refusal.place);
         exit(1);
     }
 }
@@ -104,20 +96,20 @@ static size_t fragment_length(const uint8_t *fragment)
     return low | (size_t)fragment[6] << 16 | (size_t)fragment[7] << 24;
 }
 
-/* Feeds fragments that lie one after another; the last one completes the message. */
+/* Takes fragments that lie one after another; the last one completes the message. */
 static void receive(receiver *to, const uint8_t *fragments, size_t length, message *got)
 {
     size_t at = 0;
     while (at < length) {
         size_t size = fragment_length(fragments + at);
-        cvr_feed_answer fed = cvr_assembly_feed(to->assembly, sizeof to->assembly, fragments + at, size,
-                                                got->bytes, sizeof got->bytes);
-        need(fed.refusal, "feed");
-        need_equal(fed.dropped, 0, "dropped");
+        cvr_receive_answer taken = cvr_receive(to->assembly, sizeof to->assembly, fragments + at, size,
+                                               got->bytes, sizeof got->bytes);
+        need(taken.refusal, "receive");
         at += size;
-        need_equal(fed.complete, at == length, "complete");
-        got->header = fed.message;
-        got->length = fed.length;
+        need_equal(taken.received, at < length ? CVR_RECEIVED_PENDING : CVR_RECEIVED_COMPLETE,
+                   "received");
+        got->header = taken.message;
+        got->length = taken.length;
     }
 }
 
@@ -128,12 +120,21 @@ static void carry(cvr_message_header header, const payload *sent, receiver *to, 
     cvr_cut_answer cut = cvr_message_cut(header, TRANSFER_SIZE, sent->bytes, sent->length, fragments,
                                          sizeof fragments);
     need(cut.refusal, "cut");
-    printf("line: %s, fragments: %u, bytes: %zu\n", type_name(header.message_type), (unsigned)cut.count,
-           cut.length);
+    printf("line: %s, fragments: %u, bytes: %" PRIu64 "\n", type_name(header.message_type),
+           (unsigned)cut.count, cut.length);
     receive(to, fragments, cut.length, got);
     printf("%s: got %s, transaction %u, CID %u, %zu bytes of information\n", to->name,
            type_name(got->header.message_type), (unsigned)got->header.transaction,
            (unsigned)got->header.cid, got->length);
+}
+
+/* What a message shows must be this. */
+static void need_kind(const message *got, uint32_t kind)
+{
+    cvr_kind_answer shown = cvr_payload_kind(got->header);
+    need(shown.refusal, "payload kind");
+    need_equal(shown.kind, kind, "payload kind");
+    printf("host: it shows %s\n", kind_name(shown.kind));
 }
 
 /* A query from the host. */
@@ -146,29 +147,31 @@ static void send_query(cvr_service service, uint32_t cid, const payload *sent, m
     carry(header, sent, &modem_side, got);
 }
 
-/* A reply from the modem to a command that it got; the host judges what the reply shows. */
-static void send_reply(const message *command, const payload *sent, uint32_t kind, message *got)
+/* The modem takes a command that it got: this is what it is to do. */
+static cvr_modem_answer take_command(const message *command, uint32_t action, payload *reply)
+{
+    cvr_modem_answer answer = cvr_modem_receive(modem, sizeof modem, command->header, command->bytes,
+                                                command->length, reply->bytes, sizeof reply->bytes);
+    need(answer.refusal, "modem receive");
+    need_equal(answer.action, action, "modem action");
+    if (action == CVR_ACTION_SERVE)
+        printf("modem: serves %s\n", kind_name(answer.kind));
+    reply->length = answer.length;
+    return answer;
+}
+
+/* A reply from the modem to a command that it got; the host takes it. */
+static cvr_host_answer send_reply(const message *command, const payload *sent, uint32_t kind,
+                                  message *got)
 {
     cvr_message_header header = command->header;
-    cvr_kind_answer shown;
+    cvr_host_answer answer;
     header.message_type = CVR_MESSAGE_COMMAND_DONE;
     header.word = CVR_STATUS_SUCCESS;
     carry(header, sent, &host_side, got);
-    shown = cvr_payload_kind(got->header);
-    need(shown.refusal, "payload kind");
-    need_equal(shown.kind, kind, "payload kind");
-    printf("host: it shows %s\n", kind_name(shown.kind));
-}
-
-/* The modem's answer to a command that it got. */
-static cvr_modem_answer take_command(const message *command, payload *reply)
-{
-    const cvr_message_header *header = &command->header;
-    cvr_modem_answer answer = cvr_modem_command(modem, sizeof modem, header->service, header->cid,
-                                                header->word, command->bytes, command->length,
-                                                reply->bytes, sizeof reply->bytes);
-    need(answer.refusal, "modem command");
-    reply->length = answer.length;
+    need_kind(got, kind);
+    answer = cvr_host_receive(host, sizeof host, got->header, got->bytes, got->length);
+    need(answer.refusal, "host receive");
     return answer;
 }
 
@@ -182,24 +185,7 @@ static cvr_ask_answer next_command(uint32_t command, payload *query)
     return ask;
 }
 
-/* ---- both ends are made and opened */
-
-static void open_ends(void)
-{
-    cvr_host_answer opened;
-    need(cvr_assembly_empty(host_side.assembly, sizeof host_side.assembly), "host assembly");
-    need(cvr_assembly_empty(modem_side.assembly, sizeof modem_side.assembly), "modem assembly");
-    need(cvr_modem_make(modem, sizeof modem, CVR_VERSION_2_00, CVR_VERSION_1_00, 1), "modem make");
-    need(cvr_modem_open(modem, sizeof modem), "modem open");
-    printf("modem: native 2.00, advertises 1.00, lists VERSION\n");
-    need(cvr_host_make(host, sizeof host, CVR_VERSION_2_00), "host make");
-    opened = cvr_host_open(host, sizeof host, CVR_VERSION_1_00);
-    need(opened.refusal, "host open");
-    need_equal(opened.event, CVR_EVENT_OPENED, "host open");
-    printf("host: native 2.00, opened\n");
-}
-
-/* ---- DEVICE_SERVICES */
+/* ---- the modem's list of services */
 
 static void add_service(cvr_service_list *list, cvr_service service, const uint32_t *cids,
                         uint32_t count)
@@ -223,9 +209,28 @@ static void write_services(payload *out)
     written = cvr_device_services_write(list, out->bytes, sizeof out->bytes);
     need(written.refusal, "services write");
     out->length = written.length;
-    printf("modem: wrote a list of %u services, %zu bytes\n", (unsigned)list.device_services_count,
-           written.length);
 }
+
+/* ---- both ends are made and opened */
+
+static void open_ends(void)
+{
+    cvr_host_answer opened;
+    need(cvr_assembly_empty(host_side.assembly, sizeof host_side.assembly), "host assembly");
+    need(cvr_assembly_empty(modem_side.assembly, sizeof modem_side.assembly), "modem assembly");
+    write_services(&services);
+    need(cvr_modem_make(modem, sizeof modem, CVR_VERSION_2_00, CVR_VERSION_1_00, services.bytes,
+                        services.length), "modem make");
+    need(cvr_modem_open(modem, sizeof modem), "modem open");
+    printf("modem: native 2.00, advertises 1.00, lists VERSION\n");
+    need(cvr_host_make(host, sizeof host, CVR_VERSION_2_00), "host make");
+    opened = cvr_host_open(host, sizeof host, CVR_VERSION_1_00);
+    need(opened.refusal, "host open");
+    need_equal(opened.event, CVR_EVENT_OPENED, "host open");
+    printf("host: native 2.00, opened\n");
+}
+
+/* ---- DEVICE_SERVICES */
 
 static void print_services(const message *reply)
 {
@@ -250,19 +255,15 @@ static void ask_services(void)
 {
     static payload query, reply;
     static message command, done;
-    cvr_modem_answer answer;
     cvr_host_answer event;
     next_command(CVR_COMMAND_DEVICE_SERVICES, &query);
     printf("host: asks for DEVICE_SERVICES\n");
     send_query(basic_connect, CVR_CID_DEVICE_SERVICES, &query, &command);
-    answer = take_command(&command, &reply);
-    need_equal(answer.action, CVR_ACTION_SERVE, "modem action");
-    printf("modem: serves %s\n", kind_name(answer.kind));
-    write_services(&reply);
-    send_reply(&command, &reply, CVR_KIND_DEVICE_SERVICES, &done);
+    take_command(&command, CVR_ACTION_SERVE, &reply);
+    printf("modem: wrote a list of %u services, %zu bytes\n",
+           (unsigned)services.bytes[CVR_AT_DEVICE_SERVICES_COUNT], services.length);
+    event = send_reply(&command, &services, CVR_KIND_DEVICE_SERVICES, &done);
     print_services(&done);
-    event = cvr_host_services_reply(host, sizeof host, done.header.word, done.bytes, done.length);
-    need(event.refusal, "services reply");
     need_equal(event.event, CVR_EVENT_ASKS_VERSION, "services reply");
 }
 
@@ -281,14 +282,9 @@ static void ask_version(void)
     info = cvr_version_info_read(command.bytes, command.length);
     need(info.refusal, "version read");
     print_version("modem: the host is at", info.info.bcd_mbim_extended_version);
-    answer = take_command(&command, &reply);
-    need_equal(answer.action, CVR_ACTION_VERSION, "modem action");
-    info = cvr_version_info_read(reply.bytes, reply.length);
-    need(info.refusal, "version read");
-    print_version("modem: answers and settles at", info.info.bcd_mbim_extended_version);
-    send_reply(&command, &reply, CVR_KIND_VERSION, &done);
-    event = cvr_host_version_reply(host, sizeof host, done.header.word, done.bytes, done.length);
-    need(event.refusal, "version reply");
+    answer = take_command(&command, CVR_ACTION_VERSION, &reply);
+    print_version("modem: answers and settles at", answer.version);
+    event = send_reply(&command, &reply, CVR_KIND_VERSION, &done);
     need_equal(event.event, CVR_EVENT_SETTLED, "version reply");
     print_version("host: settles at", event.version);
 }
@@ -323,16 +319,16 @@ static void write_registration(payload *out)
     cvr_written written;
     memset(&info, 0, sizeof info);
     info.version = CVR_VERSION_2_00;
-    info.register_state = 3;
-    info.register_mode = 1;
-    info.available_data_class = 0x60;
-    info.cellular_class = 1;
-    info.preferred_data_class = 0x40;
+    info.register_state = CVR_REGISTER_STATE_HOME;
+    info.register_mode = CVR_REGISTER_MODE_AUTOMATIC;
+    info.available_data_class = CVR_DATA_CLASS_LTE | CVR_DATA_CLASS_5G_NSA;
+    info.cellular_class = CVR_CELLULAR_CLASS_GSM;
+    info.preferred_data_class = CVR_DATA_CLASS_5G_NSA;
     written = cvr_registration_write(info, id, id_length, name, name_length, id, 0, out->bytes,
                                      sizeof out->bytes);
     need(written.refusal, "registration write");
     out->length = written.length;
-    printf("modem: wrote a registration, %zu bytes\n", written.length);
+    printf("modem: wrote a registration, %" PRIu64 " bytes\n", written.length);
 }
 
 static void ask_registration(void)
@@ -341,12 +337,9 @@ static void ask_registration(void)
     static message command, done;
     cvr_registration_answer read;
     cvr_ask_answer ask = next_command(CVR_COMMAND_FREE, &query);
-    cvr_modem_answer answer;
     print_version("host: asks for REGISTER_STATE at", ask.version);
     send_query(basic_connect, CVR_CID_REGISTER_STATE, &query, &command);
-    answer = take_command(&command, &reply);
-    need_equal(answer.action, CVR_ACTION_SERVE, "modem action");
-    printf("modem: serves %s\n", kind_name(answer.kind));
+    take_command(&command, CVR_ACTION_SERVE, &reply);
     write_registration(&reply);
     send_reply(&command, &reply, CVR_KIND_REGISTER_STATE, &done);
     read = cvr_registration_read(ask.version, done.bytes, done.length);
@@ -363,13 +356,14 @@ static void ask_registration(void)
 
 static void write_signal(payload *out)
 {
-    static const cvr_rsrp_snr lte = {60, 87, 0, 0, 0x20}, nr = {0, 128, 0, 0, 0x40};
+    static const cvr_rsrp_snr lte = {60, 87, 0, 0, CVR_DATA_CLASS_LTE};
+    static const cvr_rsrp_snr nr = {0, CVR_SNR_UNKNOWN, 0, 0, CVR_DATA_CLASS_5G_NSA};
     cvr_signal_state info;
     cvr_written written;
     memset(&info, 0, sizeof info);
     info.version = CVR_VERSION_2_00;
-    info.rssi = 99;
-    info.error_rate = 99;
+    info.rssi = CVR_RSSI_UNKNOWN;
+    info.error_rate = CVR_ERROR_RATE_UNKNOWN;
     info.signal_strength_interval = 30;
     info.count = 2;
     info.entries[0] = lte;
@@ -377,7 +371,7 @@ static void write_signal(payload *out)
     written = cvr_signal_state_write(info, out->bytes, sizeof out->bytes);
     need(written.refusal, "signal write");
     out->length = written.length;
-    printf("modem: wrote a signal state, %zu bytes\n", written.length);
+    printf("modem: wrote a signal state, %" PRIu64 " bytes\n", written.length);
 }
 
 static void print_reading(const char *label, cvr_reading_answer reading)
@@ -426,8 +420,8 @@ static void print_refusal(const message *indication)
     for (length = 20; length <= 30; length += 10) {
         cvr_refusal refusal =
             cvr_signal_state_read(CVR_VERSION_2_00, indication->bytes, length).refusal;
-        printf("host: its first %zu bytes: refused, %u %s at %zu\n", length,
-               (unsigned)refusal.number, refusal_name(refusal.number), refusal.place);
+        printf("host: its first %zu bytes: refused, %u %s at %" PRIu64 "\n", length,
+               (unsigned)refusal.number, cvr_refusal_name(refusal.number), refusal.place);
     }
 }
 
@@ -437,13 +431,9 @@ static void indicate_signal(void)
     static message got;
     cvr_message_header header = {CVR_MESSAGE_INDICATE_STATUS, 0, CVR_BASIC_CONNECT,
                                  CVR_CID_SIGNAL_STATE, 0};
-    cvr_kind_answer shown;
     write_signal(&sent);
     carry(header, &sent, &host_side, &got);
-    shown = cvr_payload_kind(got.header);
-    need(shown.refusal, "payload kind");
-    need_equal(shown.kind, CVR_KIND_SIGNAL_STATE, "payload kind");
-    printf("host: it shows %s\n", kind_name(shown.kind));
+    need_kind(&got, CVR_KIND_SIGNAL_STATE);
     print_signal(&got);
     print_refusal(&got);
 }

@@ -1,9 +1,35 @@
 /*
  * culvertroost: the control messages of MBIM with extensions 2.0, for hosts and for modems.
  *
- * Readers and writers of five payloads, the judges of messages, the cutter and the assembler of
+ * Readers and writers of five payloads and of whole messages, the cutter and the assembler of
  * fragments, the version handshake of both ends, decibels and bars. Every function is proved against
  * its specification: on any bytes and any numbers it ends, with the answer described here.
+ *
+ * A station's receive loop; one read of a cdc-wdm device is one piece:
+ *
+ *   void receive(int device, uint16_t advertised)
+ *   {
+ *       static uint8_t assembly[CVR_ASSEMBLY_SIZE], host[CVR_HOST_SIZE];
+ *       static uint8_t piece[CVR_MOST_TRANSFER], information[CVR_MOST_INFORMATION];
+ *       ssize_t length;
+ *       cvr_host_make(host, sizeof host, CVR_VERSION_2_00);
+ *       while ((length = read(device, piece, sizeof piece)) > 0) {
+ *           cvr_receive_answer got = cvr_receive(assembly, sizeof assembly, piece, (size_t)length,
+ *                                                information, sizeof information);
+ *           cvr_refusal refusal = got.refusal;
+ *           if (got.message.message_type == CVR_MESSAGE_OPEN_DONE && got.message.word == 0)
+ *               refusal = cvr_host_open(host, sizeof host, advertised).refusal;
+ *           if (got.received == CVR_RECEIVED_COMPLETE)
+ *               refusal = cvr_host_receive(host, sizeof host, got.message, information,
+ *                                          got.length).refusal;
+ *           if (refusal.number != CVR_NO_REFUSAL)
+ *               fprintf(stderr, "refused: %s at %u\n", cvr_refusal_name(refusal.number),
+ *                       (unsigned)refusal.place);
+ *       }
+ *   }
+ *
+ * cvr_host_next_command says what to send, cvr_payload_kind what a complete message shows.
+ * examples/station.c and examples/modem.c are whole programs.
  *
  * Memory. The library allocates nothing, keeps nothing between calls and never faults. What lasts
  * between calls lies in memory that you lend: bytes of any alignment, without pointers inside, that
@@ -13,24 +39,26 @@
  *
  * What a caller owes:
  *   - a pointer is valid for the length that comes after it (a number of bytes, or of uint32_t where
- *     the pointer is to them); with length 0, it is any pointer that is not null;
+ *     the pointer is to them); with length 0 it is any pointer, null too;
  *   - a range that is written to overlaps no other range of the same call.
  * Nothing else is asked. Numbers need not be checked first, lengths need not be sensible.
  *
- * Refusals. An answer is a refusal or has a member `refusal`: a number and a place.
- *   - Number 0: there is no refusal, and the place is 0.
- *   - Any other number is one of enum cvr_refusal_number. Then every other member of the answer is
- *     0, and no output is written. The memory of a host or a modem stays as it was; an assembly is
- *     emptied.
- * The place is the byte offset of the field that is wrong, in the payload, message or record as it
- * is laid out on the wire, unless enum cvr_refusal_number says otherwise.
- * An answer that is no refusal leaves the output past what it wrote as it was.
+ * Answers. But for a service id and a transaction number, an answer is a refusal or begins with one: a
+ * number and a place.
+ *   - Number 0: there is no refusal, and the place is 0. Output past what was written stays as it was.
+ *   - Any other number is one of enum cvr_refusal_number. Every other member of the answer is 0, no
+ *     output is written, and the memory of a host or a modem stays as it was. What becomes of an
+ *     assembly is told at cvr_receive.
+ * Compare answers member by member: padding between members is unspecified, so memcmp won't do.
  *
- * Versions are BCD numbers: CVR_VERSION_1_00 or CVR_VERSION_2_00. A reader or writer judges its
- * version before anything else. A record's member that only the other version has is 0 in an answer,
- * and a writer doesn't look at it.
+ * 'Refuses' below lists a function's refusals in the order in which they are judged, without CVR_;
+ * the first that holds is the answer. The place is the byte offset of the wrong field, in the payload,
+ * message or lent memory, as the CVR_AT_ names have it, unless another is named.
  *
- * The library is for x86-64; the checks at the end hold this header to its layout.
+ * MBIM has no checksum: a damaged byte that breaks no rule is shown as it came.
+ *
+ * Versions are BCD numbers: CVR_VERSION_1_00 or CVR_VERSION_2_00. A record's member that only the
+ * other version has is 0 in an answer, and a writer doesn't look at it.
  */
 #ifndef CULVERTROOST_H
 #define CULVERTROOST_H
@@ -38,18 +66,33 @@
 #include <stddef.h>
 #include <stdint.h>
 
+/* The archive is for x86-64; a header that fits other boards is not yet a library for them. */
+#if defined(__BYTE_ORDER__) && __BYTE_ORDER__ != __ORDER_LITTLE_ENDIAN__
+#error "culvertroost is for little-endian machines"
+#endif
+#if UINTPTR_MAX != UINT32_MAX && UINTPTR_MAX != UINT64_MAX
+#error "culvertroost is for pointers of 32 or 64 bits"
+#endif
+
 #ifdef __cplusplus
 extern "C" {
 #endif
 
-/* ---- numbers ---------------------------------------------------------------------------------- */
+/* This library's own version. A call or a struct that changes raises the first two. */
+#define CVR_LIBRARY_VERSION "0.2.0"
+#define CVR_LIBRARY_VERSION_MAJOR 0
+#define CVR_LIBRARY_VERSION_MINOR 2
+#define CVR_LIBRARY_VERSION_PATCH 0
+
+/* ---- refusals ---------------------------------------------------------------------------------- */
 
 /* The number of a refusal. Its place is the field that is wrong, where no other is named. */
 enum cvr_refusal_number {
     CVR_NO_REFUSAL = 0,
     /* Fewer bytes than the header or the fixed part. Place: the length given. */
     CVR_TOO_SHORT = 1,
-    /* A length disagrees. Place: a message's length field; for a payload, the length given. */
+    /* A length disagrees. Place: of a payload, the length given; of a message its length field, 4, or
+     * the information length field, 44, in an indication 40. */
     CVR_WRONG_LENGTH = 2,
     /* A message type, service or CID that is not known. Place: 0, 20 or 36. */
     CVR_UNKNOWN = 3,
@@ -81,6 +124,31 @@ enum cvr_refusal_number {
     CVR_WRONG_TRANSFER_SIZE = 16
 };
 
+/* The name of a refusal's number, for a log. */
+static inline const char *cvr_refusal_name(uint32_t number)
+{
+    static const char *const names[] = {
+        "NO_REFUSAL", "TOO_SHORT", "WRONG_LENGTH", "UNKNOWN", "WRONG_FRAGMENT", "TOO_LONG",
+        "WRONG_OFFSET", "PAST_END", "WRONG_SIZE", "OUTSIDE_TABLE", "CONTRADICTION",
+        "OUTPUT_TOO_SMALL", "WRONG_VERSION", "ABOVE_HOST", "VERSION_NOT_LISTED", "WRONG_COUNT",
+        "WRONG_TRANSFER_SIZE"
+    };
+    return number < sizeof names / sizeof names[0] ? names[number] : "?";
+}
+
+typedef struct cvr_refusal {
+    uint32_t number; /* enum cvr_refusal_number */
+    uint64_t place;
+} cvr_refusal;
+
+/* What a writer answers. */
+typedef struct cvr_written {
+    cvr_refusal refusal;
+    uint64_t length; /* bytes written at the front of the output */
+} cvr_written;
+
+/* ---- numbers ----------------------------------------------------------------------------------- */
+
 /* Versions of the extensions, and the one MBIM version beside them. */
 #define CVR_VERSION_1_00 UINT16_C(0x0100)
 #define CVR_VERSION_2_00 UINT16_C(0x0200)
@@ -94,6 +162,8 @@ enum cvr_refusal_number {
 /* Limits. */
 #define CVR_MOST_INFORMATION 4096 /* bytes of information in a message, and of a payload */
 #define CVR_MOST_CUT 6004         /* bytes of all fragments of a message, at any transfer size */
+#define CVR_MOST_WHOLE 16         /* bytes of a whole message */
+#define CVR_MOST_FRAGMENTS 128    /* fragments of a message */
 #define CVR_LEAST_TRANSFER 64     /* transfer size: bytes of one fragment */
 #define CVR_MOST_TRANSFER 4096
 #define CVR_MOST_ENTRIES 16       /* entries of a signal state */
@@ -129,17 +199,13 @@ enum cvr_cid {
     CVR_CID_VERSION = 15
 };
 
-/* Class bits: what a data class field may hold at each version. */
-#define CVR_DATA_CLASSES_1_00 UINT32_C(0x807F003F)
-#define CVR_DATA_CLASSES_2_00 UINT32_C(0x807F00FF)
-
 /* The type of a command. */
 enum cvr_command_type { CVR_QUERY = 0, CVR_SET = 1 };
 
-/* The status of a COMMAND_DONE. MBIM has more; these two the handshake gives. */
-enum cvr_status { CVR_STATUS_SUCCESS = 0, CVR_STATUS_NO_DEVICE_SUPPORT = 9 };
+/* The status of a reply. MBIM has more; the handshake gives the first and the last. */
+enum cvr_status { CVR_STATUS_SUCCESS = 0, CVR_STATUS_FAILURE = 2, CVR_STATUS_NO_DEVICE_SUPPORT = 9 };
 
-/* Which payload a message shows. */
+/* Which payload a message shows, or a command asks for. */
 enum cvr_kind {
     CVR_KIND_NONE = 0,
     CVR_KIND_REGISTER_STATE = 1,
@@ -149,62 +215,25 @@ enum cvr_kind {
     CVR_KIND_VERSION = 5
 };
 
-/* What a reading is. */
-enum cvr_reading_kind {
-    CVR_READING_DBM = 1,
-    CVR_READING_DB = 2,
-    CVR_READING_BELOW_RANGE = 3, /* the value is the range's lower edge */
-    CVR_READING_UNKNOWN = 4      /* the value is 0 */
-};
-
-/* What a call did to the host's end. */
-enum cvr_event {
-    CVR_EVENT_UNCHANGED = 0,
-    CVR_EVENT_OPENED = 1,
-    CVR_EVENT_ASKS_VERSION = 2, /* the next command is VERSION */
-    CVR_EVENT_SETTLED = 3       /* the handshake is over */
-};
-
-/* The host's next command. */
-enum cvr_command {
-    CVR_COMMAND_NOTHING = 0,         /* the host is closed */
-    CVR_COMMAND_DEVICE_SERVICES = 1, /* a query of CVR_CID_DEVICE_SERVICES without information */
-    CVR_COMMAND_VERSION = 2,         /* a query of CVR_CID_VERSION with the payload written */
-    CVR_COMMAND_FREE = 3             /* settled: any command */
-};
-
-/* What the modem is to do with a command. */
-enum cvr_action {
-    CVR_ACTION_SERVE = 1,   /* answer it */
-    CVR_ACTION_VERSION = 2, /* send the VERSION payload written, with status 0 */
-    CVR_ACTION_FAILED = 3   /* send the status, without information */
-};
-
-/* Stages of the handshake, as the lent memory has them (see the memory of each end). */
-enum cvr_host_stage {
-    CVR_HOST_CLOSED = 0,
-    CVR_HOST_OPEN = 1,
-    CVR_HOST_AWAITS_VERSION = 2,
-    CVR_HOST_SETTLED = 3
-};
-enum cvr_modem_stage {
-    CVR_MODEM_START = 0,
-    CVR_MODEM_LISTED = 1, /* the services list was asked for */
-    CVR_MODEM_SETTLED = 2
-};
-
-/* ---- what all answers share -------------------------------------------------------------------- */
-
-typedef struct cvr_refusal {
-    uint32_t number; /* enum cvr_refusal_number */
-    size_t place;
-} cvr_refusal;
-
-/* What a writer answers. */
-typedef struct cvr_written {
-    cvr_refusal refusal;
-    size_t length; /* bytes written at the front of the output */
-} cvr_written;
+/* Data classes: bits of a mask. */
+#define CVR_DATA_CLASS_GPRS UINT32_C(0x1)
+#define CVR_DATA_CLASS_EDGE UINT32_C(0x2)
+#define CVR_DATA_CLASS_UMTS UINT32_C(0x4)
+#define CVR_DATA_CLASS_HSDPA UINT32_C(0x8)
+#define CVR_DATA_CLASS_HSUPA UINT32_C(0x10)
+#define CVR_DATA_CLASS_LTE UINT32_C(0x20)
+#define CVR_DATA_CLASS_5G_NSA UINT32_C(0x40) /* 2.00 only, as the next */
+#define CVR_DATA_CLASS_5G_SA UINT32_C(0x80)
+#define CVR_DATA_CLASS_1XRTT UINT32_C(0x10000)
+#define CVR_DATA_CLASS_1XEVDO UINT32_C(0x20000)
+#define CVR_DATA_CLASS_1XEVDO_REV_A UINT32_C(0x40000)
+#define CVR_DATA_CLASS_1XEVDV UINT32_C(0x80000)
+#define CVR_DATA_CLASS_3XRTT UINT32_C(0x100000)
+#define CVR_DATA_CLASS_1XEVDO_REV_B UINT32_C(0x200000)
+#define CVR_DATA_CLASS_UMB UINT32_C(0x400000)
+#define CVR_DATA_CLASS_CUSTOM UINT32_C(0x80000000)
+#define CVR_DATA_CLASSES_1_00 UINT32_C(0x807F003F) /* all of a version */
+#define CVR_DATA_CLASSES_2_00 UINT32_C(0x807F00FF)
 
 /* A service id: its 16 bytes in printed order, as four little-endian words. */
 typedef struct cvr_service {
@@ -222,6 +251,9 @@ cvr_service cvr_service_id(const uint8_t *bytes, size_t length);
 
 /* ---- VERSION ----------------------------------------------------------------------------------- */
 
+#define CVR_AT_VERSION_INFO_BCD_MBIM_VERSION 0
+#define CVR_AT_VERSION_INFO_BCD_MBIM_EXTENDED_VERSION 2
+
 typedef struct cvr_version_info {
     uint16_t bcd_mbim_version;          /* CVR_MBIM_1_00 */
     uint16_t bcd_mbim_extended_version; /* CVR_VERSION_1_00 or CVR_VERSION_2_00 */
@@ -232,21 +264,47 @@ typedef struct cvr_version_info_answer {
     cvr_version_info info;
 } cvr_version_info_answer;
 
-/* Judges a payload of exactly 4 bytes and shows it. */
+/* Reads a payload of exactly 4 bytes.
+ * Refuses: TOO_SHORT; WRONG_LENGTH; WRONG_VERSION at 0 for either number. */
 cvr_version_info_answer cvr_version_info_read(const uint8_t *payload, size_t length);
 
-/* Judges the numbers and writes CVR_VERSION_INFO_LENGTH bytes. */
+/* Writes CVR_VERSION_INFO_LENGTH bytes.
+ * Refuses: WRONG_VERSION at 0 for either number; OUTPUT_TOO_SMALL. */
 cvr_written cvr_version_info_write(cvr_version_info info, uint8_t *out, size_t room);
 
 /* ---- PACKET_SERVICE ---------------------------------------------------------------------------- */
 
+#define CVR_AT_PACKET_SERVICE_NW_ERROR 0
+#define CVR_AT_PACKET_SERVICE_PACKET_SERVICE_STATE 4
+#define CVR_AT_PACKET_SERVICE_HIGHEST_AVAILABLE_DATA_CLASS 8 /* 1.00 */
+#define CVR_AT_PACKET_SERVICE_CURRENT_DATA_CLASS 8           /* 2.00 */
+#define CVR_AT_PACKET_SERVICE_UPLINK_SPEED 12
+#define CVR_AT_PACKET_SERVICE_DOWNLINK_SPEED 20
+#define CVR_AT_PACKET_SERVICE_FREQUENCY_RANGE 28             /* 2.00 */
+
+enum cvr_packet_service_state {
+    CVR_PACKET_SERVICE_STATE_UNKNOWN = 0,
+    CVR_PACKET_SERVICE_STATE_ATTACHING = 1,
+    CVR_PACKET_SERVICE_STATE_ATTACHED = 2,
+    CVR_PACKET_SERVICE_STATE_DETACHING = 3,
+    CVR_PACKET_SERVICE_STATE_DETACHED = 4
+};
+
+enum cvr_frequency_range {
+    CVR_FREQUENCY_RANGE_UNKNOWN = 0,
+    CVR_FREQUENCY_RANGE_1 = 1, /* below 6 GHz */
+    CVR_FREQUENCY_RANGE_2 = 2, /* millimetre waves */
+    CVR_FREQUENCY_RANGE_1_AND_2 = 3
+};
+
 typedef struct cvr_packet_service {
     uint16_t version;
     uint32_t nw_error;                     /* any number */
-    uint32_t packet_service_state;         /* 0 to 4 */
+    uint32_t packet_service_state;         /* enum cvr_packet_service_state */
     uint32_t highest_available_data_class; /* 1.00 only: at most one class bit */
-    uint32_t current_data_class;           /* 2.00 only: the same, and 0 unless the state is 2 */
-    uint32_t frequency_range;              /* 2.00 only: 0 to 3, 0 unless the class is 40h or 80h */
+    uint32_t current_data_class;           /* 2.00 only: the same, and 0 unless attached */
+    uint32_t frequency_range;              /* 2.00 only: enum cvr_frequency_range, 0 unless the class is
+                                              CVR_DATA_CLASS_5G_NSA or _5G_SA */
     uint64_t uplink_speed;                 /* bits per second */
     uint64_t downlink_speed;
 } cvr_packet_service;
@@ -256,23 +314,60 @@ typedef struct cvr_packet_service_answer {
     cvr_packet_service info;
 } cvr_packet_service_answer;
 
-/* Judges a payload of exactly 28 bytes at 1.00, or 32 at 2.00, and shows it. */
+/* Reads a payload of exactly 28 bytes at 1.00, 32 at 2.00.
+ * Refuses: WRONG_VERSION; TOO_SHORT; WRONG_LENGTH; OUTSIDE_TABLE at 4, 8, 28; CONTRADICTION at 8 (a
+ * class, though not attached), 28 (a range beside another class). */
 cvr_packet_service_answer cvr_packet_service_read(uint16_t version, const uint8_t *payload,
                                                   size_t length);
 
-/* Judges the record and writes 28 or 32 bytes: CVR_PACKET_SERVICE_LENGTH is room enough. */
+/* Writes 28 or 32 bytes: CVR_PACKET_SERVICE_LENGTH is room enough.
+ * Refuses: as the reader, but for lengths; then OUTPUT_TOO_SMALL. */
 cvr_written cvr_packet_service_write(cvr_packet_service info, uint8_t *out, size_t room);
 
 /* ---- REGISTER_STATE ---------------------------------------------------------------------------- */
 
+#define CVR_AT_REGISTRATION_NW_ERROR 0
+#define CVR_AT_REGISTRATION_REGISTER_STATE 4
+#define CVR_AT_REGISTRATION_REGISTER_MODE 8
+#define CVR_AT_REGISTRATION_AVAILABLE_DATA_CLASS 12
+#define CVR_AT_REGISTRATION_CELLULAR_CLASS 16
+#define CVR_AT_REGISTRATION_PROVIDER_ID 20 /* each an offset, with the size 4 bytes on */
+#define CVR_AT_REGISTRATION_PROVIDER_NAME 28
+#define CVR_AT_REGISTRATION_ROAMING_TEXT 36
+#define CVR_AT_REGISTRATION_REGISTRATION_FLAG 44
+#define CVR_AT_REGISTRATION_PREFERRED_DATA_CLASS 48 /* 2.00 */
+
+enum cvr_register_state {
+    CVR_REGISTER_STATE_UNKNOWN = 0,
+    CVR_REGISTER_STATE_DEREGISTERED = 1,
+    CVR_REGISTER_STATE_SEARCHING = 2,
+    CVR_REGISTER_STATE_HOME = 3,
+    CVR_REGISTER_STATE_ROAMING = 4,
+    CVR_REGISTER_STATE_PARTNER = 5,
+    CVR_REGISTER_STATE_DENIED = 6
+};
+
+enum cvr_register_mode {
+    CVR_REGISTER_MODE_UNKNOWN = 0,
+    CVR_REGISTER_MODE_AUTOMATIC = 1,
+    CVR_REGISTER_MODE_MANUAL = 2
+};
+
+/* Bits of a mask. */
+enum cvr_cellular_class { CVR_CELLULAR_CLASS_GSM = 1, CVR_CELLULAR_CLASS_CDMA = 2 };
+enum cvr_registration_flag {
+    CVR_REGISTRATION_MANUAL_SELECTION_NOT_AVAILABLE = 1,
+    CVR_REGISTRATION_PACKET_SERVICE_AUTOMATIC_ATTACH = 2
+};
+
 typedef struct cvr_registration {
     uint16_t version;
     uint32_t nw_error;             /* any number */
-    uint32_t register_state;       /* 0 to 6 */
-    uint32_t register_mode;        /* 0 to 2 */
-    uint32_t available_data_class; /* class bits, 0 unless the state is 3, 4 or 5 */
-    uint32_t cellular_class;       /* bits 0 and 1 */
-    uint32_t registration_flag;    /* bits 0 and 1 */
+    uint32_t register_state;       /* enum cvr_register_state */
+    uint32_t register_mode;        /* enum cvr_register_mode */
+    uint32_t available_data_class; /* class bits, 0 unless home, roaming or partner */
+    uint32_t cellular_class;       /* enum cvr_cellular_class, any bits of it */
+    uint32_t registration_flag;    /* enum cvr_registration_flag, any bits of it */
     uint32_t preferred_data_class; /* 2.00 only: class bits */
 } cvr_registration;
 
@@ -295,12 +390,15 @@ typedef struct cvr_registration_answer {
     cvr_registration_texts texts;
 } cvr_registration_answer;
 
-/* Judges a payload with 48 fixed bytes at 1.00, or 52 at 2.00, and shows it. The ranges of the texts
- * lie inside the payload. */
+/* Reads a payload with 48 fixed bytes at 1.00, 52 at 2.00. The ranges of the texts lie inside it.
+ * Refuses: WRONG_VERSION; TOO_SHORT; TOO_LONG at 0; OUTSIDE_TABLE at 4, 8, 12, 16; for each text, at
+ * 20, 28, 36: WRONG_SIZE, WRONG_OFFSET, PAST_END; OUTSIDE_TABLE at 44, 48; CONTRADICTION at 12 (a
+ * class, though not registered). */
 cvr_registration_answer cvr_registration_read(uint16_t version, const uint8_t *payload, size_t length);
 
-/* Judges the record and the three texts, each a pointer and its length in bytes, and writes the
- * payload: CVR_REGISTRATION_LENGTH is room enough. */
+/* Writes the record and the three texts, each a pointer and its length in bytes:
+ * CVR_REGISTRATION_LENGTH is room enough.
+ * Refuses: as the reader, but of lengths and texts WRONG_SIZE only; then OUTPUT_TOO_SMALL. */
 cvr_written cvr_registration_write(cvr_registration info,
                                    const uint8_t *provider_id, size_t provider_id_length,
                                    const uint8_t *provider_name, size_t provider_name_length,
@@ -309,9 +407,31 @@ cvr_written cvr_registration_write(cvr_registration info,
 
 /* ---- SIGNAL_STATE ------------------------------------------------------------------------------ */
 
+#define CVR_AT_SIGNAL_STATE_RSSI 0
+#define CVR_AT_SIGNAL_STATE_ERROR_RATE 4
+#define CVR_AT_SIGNAL_STATE_SIGNAL_STRENGTH_INTERVAL 8
+#define CVR_AT_SIGNAL_STATE_RSSI_THRESHOLD 12
+#define CVR_AT_SIGNAL_STATE_ERROR_RATE_THRESHOLD 16
+#define CVR_AT_SIGNAL_STATE_RSRP_SNR 20 /* 2.00: the list's offset, with its size 4 bytes on */
+
+/* In the list: the count, entry i, and from the entry's start its fields. */
+#define CVR_AT_RSRP_SNR_COUNT(list) (list)
+#define CVR_AT_RSRP_SNR_ENTRY(list, i) ((list) + 4 + 20 * (i))
+#define CVR_AT_ENTRY_RSRP 0
+#define CVR_AT_ENTRY_SNR 4
+#define CVR_AT_ENTRY_RSRP_THRESHOLD 8
+#define CVR_AT_ENTRY_SNR_THRESHOLD 12
+#define CVR_AT_ENTRY_SYSTEM_TYPE 16
+
+/* Codes of 'unknown or not detectable'. */
+#define CVR_RSSI_UNKNOWN 99
+#define CVR_ERROR_RATE_UNKNOWN 99
+#define CVR_RSRP_UNKNOWN 127
+#define CVR_SNR_UNKNOWN 128
+
 typedef struct cvr_rsrp_snr {
-    uint32_t rsrp;           /* code 0 to 126, 127 unknown: see cvr_rsrp */
-    uint32_t snr;            /* code 0 to 127, 128 unknown: see cvr_snr */
+    uint32_t rsrp;           /* code 0 to 126 or unknown: see cvr_rsrp */
+    uint32_t snr;            /* code 0 to 127 or unknown: see cvr_snr */
     uint32_t rsrp_threshold; /* any number, as the next */
     uint32_t snr_threshold;
     uint32_t system_type;    /* exactly one class bit of 2.00 */
@@ -319,9 +439,9 @@ typedef struct cvr_rsrp_snr {
 
 typedef struct cvr_signal_state {
     uint16_t version;
-    uint32_t rssi;                     /* code 0 to 31, 99 unknown: see cvr_bars. 99 if any entry has
-                                          an RSRP or SNR that is not unknown */
-    uint32_t error_rate;               /* 0 to 7, 99 unknown */
+    uint32_t rssi;                     /* code 0 to 31 or unknown: see cvr_bars. Unknown if any entry
+                                          has an RSRP or SNR that is not */
+    uint32_t error_rate;               /* 0 to 7 or unknown */
     uint32_t signal_strength_interval; /* any number, as the next two */
     uint32_t rssi_threshold;
     uint32_t error_rate_threshold;
@@ -335,13 +455,27 @@ typedef struct cvr_signal_state_answer {
     cvr_signal_state info;
 } cvr_signal_state_answer;
 
-/* Judges a payload of exactly 20 bytes at 1.00, or with 28 fixed bytes at 2.00, and shows it. */
+/* Reads a payload of exactly 20 bytes at 1.00, or with 28 fixed bytes at 2.00.
+ * Refuses: WRONG_VERSION; TOO_SHORT; at 1.00 WRONG_LENGTH, at 2.00 TOO_LONG at 0; OUTSIDE_TABLE at 0,
+ * 4; of the list, at 20: WRONG_SIZE (over 324), WRONG_OFFSET, PAST_END, WRONG_SIZE (under 4);
+ * WRONG_COUNT at the count; WRONG_SIZE at 20 (not the count's); OUTSIDE_TABLE at the first wrong field
+ * of an entry; CONTRADICTION at 0 (an RSSI beside known entries). */
 cvr_signal_state_answer cvr_signal_state_read(uint16_t version, const uint8_t *payload, size_t length);
 
-/* Judges the record and writes the payload: CVR_SIGNAL_STATE_LENGTH is room enough. */
+/* Writes the record: CVR_SIGNAL_STATE_LENGTH is room enough.
+ * Refuses: WRONG_VERSION; OUTSIDE_TABLE at 0, 4; WRONG_SIZE at 20 (too many entries); OUTSIDE_TABLE in
+ * an entry, the list being at 28; CONTRADICTION at 0; OUTPUT_TOO_SMALL. */
 cvr_written cvr_signal_state_write(cvr_signal_state info, uint8_t *out, size_t room);
 
 /* ---- decibels and bars ------------------------------------------------------------------------- */
+
+/* What a reading is. */
+enum cvr_reading_kind {
+    CVR_READING_DBM = 1,
+    CVR_READING_DB = 2,
+    CVR_READING_BELOW_RANGE = 3, /* the value is the range's lower edge */
+    CVR_READING_UNKNOWN = 4      /* the value is 0 */
+};
 
 typedef struct cvr_reading_answer {
     cvr_refusal refusal;
@@ -355,14 +489,25 @@ typedef struct cvr_bars_answer {
     uint32_t bars;    /* 0 to 5 */
 } cvr_bars_answer;
 
-/* The lower edge of the code's step. A code outside its table is CVR_OUTSIDE_TABLE at 0. */
+/* The lower edge of the code's step. Refuses: OUTSIDE_TABLE at 0. */
 cvr_reading_answer cvr_rsrp(uint32_t code); /* in dBm: code - 157 */
 cvr_reading_answer cvr_snr(uint32_t code);  /* in dB: (code - 47) / 2 */
 
-/* Bars from the code of an RSSI. A code outside its table is CVR_OUTSIDE_TABLE at 0. */
+/* Bars from the code of an RSSI. Refuses: OUTSIDE_TABLE at 0. */
 cvr_bars_answer cvr_bars(uint32_t rssi);
 
 /* ---- DEVICE_SERVICES --------------------------------------------------------------------------- */
+
+#define CVR_AT_DEVICE_SERVICES_COUNT 0
+#define CVR_AT_DEVICE_SERVICES_MAX_DSS_SESSIONS 4
+#define CVR_AT_DEVICE_SERVICES_ELEMENT(i) (8 + 8 * (i)) /* its offset, with its size 4 bytes on */
+
+/* From an element's start. */
+#define CVR_AT_ELEMENT_DEVICE_SERVICE_ID 0
+#define CVR_AT_ELEMENT_DSS_PAYLOAD 16
+#define CVR_AT_ELEMENT_MAX_DSS_INSTANCES 20
+#define CVR_AT_ELEMENT_CID_COUNT 24
+#define CVR_AT_ELEMENT_CID(k) (28 + 4 * (k))
 
 typedef struct cvr_device_services {
     uint32_t device_services_count; /* elements, at most CVR_MOST_SERVICES */
@@ -407,14 +552,17 @@ typedef struct cvr_service_list {
     cvr_service_element elements[CVR_MOST_SERVICES];
 } cvr_service_list;
 
-/* Each of these four judges the whole payload first. */
+/* Each of these four judges the whole payload first.
+ * Refuses: TOO_SHORT (under 8); WRONG_COUNT at 0; TOO_SHORT (pairs missing); TOO_LONG at 0; for each
+ * element, at its offset field: WRONG_SIZE (over 540), WRONG_OFFSET, PAST_END, WRONG_SIZE (under 28);
+ * WRONG_COUNT at its CID count; WRONG_SIZE at its offset field (not the count's). */
 
 /* Shows the list's head. */
 cvr_device_services_answer cvr_device_services_read(const uint8_t *payload, size_t length);
 
 /* Shows the element with this number, from 0; its CIDs go to the front of the list of `room` numbers
- * (CVR_MOST_CIDS is enough). A list that is too small is judged last; the place of that refusal counts
- * bytes, 4 for each CID. */
+ * (CVR_MOST_CIDS is enough).
+ * Refuses: last, OUTPUT_TOO_SMALL at 4 bytes for each CID. */
 cvr_element_answer cvr_device_services_element(const uint8_t *payload, size_t length, uint32_t number,
                                                uint32_t *cids, size_t room);
 
@@ -426,31 +574,50 @@ cvr_element_answer cvr_device_services_cids(const uint8_t *payload, size_t lengt
 cvr_listed_answer cvr_device_services_listed(const uint8_t *payload, size_t length, cvr_service service,
                                              uint32_t cid);
 
-/* Judges the list and writes the payload: CVR_MOST_INFORMATION is room enough. */
+/* Writes the list: CVR_MOST_INFORMATION is room enough.
+ * Refuses: WRONG_COUNT at 0; WRONG_SIZE at the offset field of an element with too many CIDs; TOO_LONG
+ * at 0; OUTPUT_TOO_SMALL. */
 cvr_written cvr_device_services_write(cvr_service_list list, uint8_t *out, size_t room);
 
 /* ---- messages ---------------------------------------------------------------------------------- */
+
+#define CVR_AT_MESSAGE_TYPE 0
+#define CVR_AT_MESSAGE_LENGTH 4 /* of the whole message, or of this fragment */
+#define CVR_AT_MESSAGE_TRANSACTION 8
+#define CVR_AT_WHOLE_WORD 12    /* but for CLOSE */
+#define CVR_AT_FRAGMENT_TOTAL 12
+#define CVR_AT_FRAGMENT_NUMBER 16
+#define CVR_AT_FRAGMENT_INFORMATION 20 /* but in the first fragment, which has here */
+#define CVR_AT_FIRST_SERVICE 20
+#define CVR_AT_FIRST_CID 36
+#define CVR_AT_FIRST_WORD 40                /* a command's type or a reply's status */
+#define CVR_AT_FIRST_INFORMATION_LENGTH 44
+#define CVR_AT_FIRST_INFORMATION 48
+#define CVR_AT_INDICATION_INFORMATION_LENGTH 40 /* an indication has no word */
+#define CVR_AT_INDICATION_INFORMATION 44
+
+/* A message without its information. */
+typedef struct cvr_message_header {
+    uint32_t message_type;
+    uint32_t transaction;  /* 0 for indications, another number for commands and replies */
+    cvr_service service;
+    uint32_t cid;
+    uint32_t word;         /* COMMAND: enum cvr_command_type; COMMAND_DONE: the status; INDICATE_STATUS:
+                              0 in an answer, ignored by the cutter; a whole message: see below */
+} cvr_message_header;
 
 typedef struct cvr_whole_answer {
     cvr_refusal refusal;
     uint32_t message_type;
     uint32_t transaction;
+    uint32_t word; /* OPEN: MaxControlTransfer; OPEN_DONE and CLOSE_DONE: the status; the errors:
+                      ErrorStatusCode; CLOSE: 0 */
 } cvr_whole_answer;
-
-/* What the first fragment of a message says besides lengths. */
-typedef struct cvr_message_header {
-    uint32_t message_type; /* CVR_MESSAGE_COMMAND, _COMMAND_DONE or _INDICATE_STATUS */
-    uint32_t transaction;  /* 0 for indications, another number for the others */
-    cvr_service service;
-    uint32_t cid;
-    uint32_t word;         /* COMMAND: enum cvr_command_type; COMMAND_DONE: the status; INDICATE_STATUS:
-                              0 in an answer, ignored by the cutter */
-} cvr_message_header;
 
 typedef struct cvr_cut_answer {
     cvr_refusal refusal;
-    uint32_t count; /* fragments */
-    size_t length;  /* their bytes together */
+    uint32_t count;  /* fragments */
+    uint64_t length; /* their bytes together */
 } cvr_cut_answer;
 
 typedef struct cvr_kind_answer {
@@ -458,150 +625,266 @@ typedef struct cvr_kind_answer {
     uint32_t kind; /* enum cvr_kind */
 } cvr_kind_answer;
 
-/* Judges a message that is never fragmented (OPEN, CLOSE, the errors and their replies): its length,
- * length field and type. The numbers past its header are not judged. */
+/* Reads a whole message: CLOSE has 12 bytes, the others 16. Transaction and word may be any numbers.
+ * Refuses: TOO_SHORT (under 12); WRONG_LENGTH at 4 (not the bytes given); UNKNOWN at 0; WRONG_LENGTH at
+ * 4 (not its type's). */
 cvr_whole_answer cvr_message_judge(const uint8_t *message, size_t length);
 
-/* Cuts a message into fragments of `size` bytes (CVR_LEAST_TRANSFER to CVR_MOST_TRANSFER), the last
- * one as short as it comes, and writes them one after another; the number at byte 4 of each is its
- * length. Judges the size, the message type, the transaction and a command's type; service, CID and
- * status are taken as they are. CVR_MOST_CUT is room enough. */
+/* Writes a whole message: CVR_MOST_WHOLE is room enough. CLOSE's word is ignored.
+ * Refuses: UNKNOWN at 0; OUTPUT_TOO_SMALL. */
+cvr_written cvr_message_write(uint32_t message_type, uint32_t transaction, uint32_t word, uint8_t *out,
+                              size_t room);
+
+/* Cuts a message into fragments of `size` bytes, the last one as short as it comes, and writes them one
+ * after another; the number at byte 4 of each is its length. Service, CID and status are taken as they
+ * are. CVR_MOST_CUT is room enough.
+ * Refuses: WRONG_TRANSFER_SIZE at 0; UNKNOWN at 0 (not a type that comes in fragments); OUTSIDE_TABLE
+ * at 8 (the transaction), 40 (a command's type); TOO_LONG at 0; OUTPUT_TOO_SMALL. */
 cvr_cut_answer cvr_message_cut(cvr_message_header message, size_t size,
                                const uint8_t *information, size_t length, uint8_t *out, size_t room);
 
-/* Judges the message type, the service and the CID, and says which payload the message's information
- * is. A failed reply, and a command other than VERSION, show none. */
+/* Which payload the message's information is. A failed reply, and a command other than VERSION, show
+ * none.
+ * Refuses: UNKNOWN at 0 (not a type that comes in fragments), 20, 36. */
 cvr_kind_answer cvr_payload_kind(cvr_message_header message);
 
 /* The transaction number after this one: 0 is left out. */
 uint32_t cvr_transaction_next(uint32_t transaction);
 
-/* ---- the assembly ------------------------------------------------------------------------------
- * Memory: CVR_ASSEMBLY_SIZE bytes. All 0 is an empty assembly. Smaller memory is refused by
- * CVR_OUTPUT_TOO_SMALL at the bytes needed, and left as it was. Memory that no call can have left is
- * emptied and refused by CVR_OUTSIDE_TABLE or CVR_CONTRADICTION at an offset in the memory. */
+/* ---- receiving ---------------------------------------------------------------------------------
+ * An assembly holds one unfinished message. All 0 is an empty one. A program empties it when it sends
+ * or gets OPEN: the ends of the handshake don't touch it. Its memory is CVR_ASSEMBLY_SIZE bytes; these
+ * of its 32-bit numbers are judged: */
 
-typedef struct cvr_feed_answer {
+#define CVR_AT_ASSEMBLY_MESSAGE_TYPE 0
+#define CVR_AT_ASSEMBLY_TOTAL 32
+#define CVR_AT_ASSEMBLY_NEXT 36               /* the fragment expected */
+#define CVR_AT_ASSEMBLY_INFORMATION_LENGTH 40 /* as the first fragment declared it */
+#define CVR_AT_ASSEMBLY_GATHERED 44           /* bytes of it that came */
+
+/* What a piece was. */
+enum cvr_received {
+    CVR_RECEIVED_WHOLE = 1,   /* a whole message */
+    CVR_RECEIVED_PENDING = 2, /* a fragment, and more are to come */
+    CVR_RECEIVED_COMPLETE = 3 /* the last fragment of a message */
+};
+
+typedef struct cvr_receive_answer {
     cvr_refusal refusal;
-    uint32_t complete;          /* 1 the message is complete; 0 more fragments are to come */
-    uint32_t dropped;           /* 1 an unfinished message was dropped for this one */
-    cvr_message_header message; /* where complete */
-    size_t length;              /* where complete: bytes of information in the output */
-} cvr_feed_answer;
+    uint32_t received;          /* enum cvr_received */
+    uint32_t dropped;           /* 1: an unfinished message was dropped for this one */
+    cvr_message_header message; /* type and transaction always; word where whole or complete; service
+                                   and CID where complete; the others 0 */
+    uint64_t length;            /* where complete: bytes of information in the output */
+} cvr_receive_answer;
 
+/* Empties it. Refuses: OUTPUT_TOO_SMALL. */
 cvr_refusal cvr_assembly_empty(uint8_t *memory, size_t size);
 
-/* Judges one fragment and adds it to the message that is pending. Only where it completes the message
- * is the output written: CVR_MOST_INFORMATION is room enough. A complete message, and any refusal,
- * leave an empty assembly. */
-cvr_feed_answer cvr_assembly_feed(uint8_t *memory, size_t size, const uint8_t *piece, size_t length,
-                                  uint8_t *out, size_t room);
+/* Takes any piece that came. The output is written where a message is complete, and not before:
+ * CVR_MOST_INFORMATION is room enough. The transaction of a first fragment is not judged. In this order:
+ *
+ *   memory too small    OUTPUT_TOO_SMALL; the memory stays as it was.
+ *   a whole type at 0   Judged as by cvr_message_judge; the memory stays as it was, refused or not.
+ *   anything else       A fragment; refused, it leaves an empty assembly, and so does a complete message.
+ *     Refuses: for the memory, where no call can have left it: CONTRADICTION at 32 (no total, but other
+ *     numbers); OUTSIDE_TABLE at 0, 32, 36, 40, 44. For the piece: TOO_SHORT (under 20); WRONG_LENGTH at
+ *     4; WRONG_TRANSFER_SIZE at 4; UNKNOWN at 0; WRONG_FRAGMENT at 12, 16. A first fragment: TOO_SHORT;
+ *     OUTSIDE_TABLE at 40 (a command's type); TOO_LONG, then WRONG_LENGTH, at 44, in an indication at
+ *     40. A later one: WRONG_FRAGMENT at 16 (not the one expected); WRONG_LENGTH at 4 (more or fewer
+ *     bytes than declared). The last: OUTPUT_TOO_SMALL. */
+cvr_receive_answer cvr_receive(uint8_t *memory, size_t size, const uint8_t *piece, size_t length,
+                               uint8_t *out, size_t room);
 
 /* ---- the host's end of the handshake -----------------------------------------------------------
- * Memory: CVR_HOST_SIZE bytes, three little-endian 16-bit numbers: native version, enum
- * cvr_host_stage, and the stage's version (advertised, or settled; 0 when closed). Memory that is too
- * small, or that no call can have left, is refused as an assembly's is, and left as it was.
- * Feed it replies only (COMMAND_DONE), with their status and information. */
+ * Its memory is CVR_HOST_SIZE bytes, three 16-bit numbers. Every function but make judges it first.
+ * Refuses: OUTPUT_TOO_SMALL; OUTSIDE_TABLE at 0, 2, 4, where no call can have left it. */
+
+#define CVR_AT_HOST_NATIVE 0
+#define CVR_AT_HOST_STAGE 2   /* enum cvr_host_stage */
+#define CVR_AT_HOST_VERSION 4 /* advertised; once settled, the settled one; 0 when closed */
+
+enum cvr_host_stage {
+    CVR_HOST_CLOSED = 0,
+    CVR_HOST_OPEN = 1,
+    CVR_HOST_AWAITS_VERSION = 2,
+    CVR_HOST_SETTLED = 3
+};
+
+/* What a call did to the host's end. */
+enum cvr_event {
+    CVR_EVENT_UNCHANGED = 0,
+    CVR_EVENT_OPENED = 1,
+    CVR_EVENT_ASKS_VERSION = 2, /* the next command is VERSION */
+    CVR_EVENT_SETTLED = 3       /* the handshake is over */
+};
+
+/* The host's next command. */
+enum cvr_command {
+    CVR_COMMAND_NOTHING = 0,         /* closed */
+    CVR_COMMAND_DEVICE_SERVICES = 1, /* open: a query of CVR_CID_DEVICE_SERVICES, no information */
+    CVR_COMMAND_VERSION = 2,         /* awaits VERSION: a query of CVR_CID_VERSION, the payload written */
+    CVR_COMMAND_FREE = 3             /* settled: any command */
+};
 
 typedef struct cvr_host_answer {
     cvr_refusal refusal;
     uint32_t event;   /* enum cvr_event */
-    uint16_t version; /* settled: the version of all payloads from now on */
+    uint16_t version; /* of all payloads from now on, where this very call settled; else 0 */
 } cvr_host_answer;
 
 typedef struct cvr_ask_answer {
     cvr_refusal refusal;
     uint32_t command; /* enum cvr_command */
-    uint16_t version; /* free: the settled version */
-    size_t length;    /* VERSION: bytes of its payload in the output */
+    uint16_t version; /* free: the settled version; else 0 */
+    uint64_t length;  /* VERSION: bytes of its payload in the output; else 0 */
 } cvr_ask_answer;
 
-/* Makes a closed host with its native version. */
+/* Makes a closed host with its native version. Refuses: WRONG_VERSION; OUTPUT_TOO_SMALL. */
 cvr_refusal cvr_host_make(uint8_t *memory, size_t size, uint16_t native);
 
-/* OPEN and CLOSE put the handshake back to its start. `advertised` is the modem's version from its
- * USB descriptor. */
+/* Starts the handshake: call it when OPEN_DONE with status 0 came. `advertised` is the modem's version
+ * from its USB descriptor. Refuses: last, WRONG_VERSION. */
 cvr_host_answer cvr_host_open(uint8_t *memory, size_t size, uint16_t advertised);
+
+/* Closes the host: call it when you send CLOSE. The event is UNCHANGED though it closes. */
 cvr_host_answer cvr_host_close(uint8_t *memory, size_t size);
 
-/* What to send next. VERSION's payload is written to the output: CVR_VERSION_INFO_LENGTH is room
- * enough. Asking changes nothing. */
+/* What to send next. Asking changes nothing. CVR_VERSION_INFO_LENGTH is room enough.
+ * Refuses: last, for VERSION's payload, OUTPUT_TOO_SMALL. */
 cvr_ask_answer cvr_host_next_command(const uint8_t *memory, size_t size, uint8_t *out, size_t room);
 
-/* The reply to DEVICE_SERVICES: judges the list, then CVR_ABOVE_HOST and CVR_VERSION_NOT_LISTED. A
- * failed reply changes nothing. */
-cvr_host_answer cvr_host_services_reply(uint8_t *memory, size_t size, uint32_t status,
-                                        const uint8_t *payload, size_t length);
-
-/* The reply to VERSION: judges the payload. A failed one settles the host at the advertised version. */
-cvr_host_answer cvr_host_version_reply(uint8_t *memory, size_t size, uint32_t status,
-                                       const uint8_t *payload, size_t length);
+/* Takes any message that came; the transaction is not looked at, so compare it with your command's. The
+ * first row that fits holds:
+ *
+ *   stage            what comes                           status  answer                    next stage
+ *   any              no reply, or one of another CID      any     UNCHANGED                 the same
+ *   any              DEVICE_SERVICES                      not 0   UNCHANGED                 the same
+ *   any              DEVICE_SERVICES, the list refused    0       the list's refusal        the same
+ *   OPEN             .. advertised above native           0       ABOVE_HOST at 0           OPEN
+ *   OPEN             .. advertised 2.00, VERSION not in   0       VERSION_NOT_LISTED at 0   OPEN
+ *   OPEN             .. native 2.00, VERSION in it        0       ASKS_VERSION              AWAITS_VERSION
+ *   OPEN             .. any other list                    0       SETTLED at 1.00           SETTLED
+ *   any other        .. a good list                       0       UNCHANGED                 the same
+ *   AWAITS_VERSION   VERSION                              not 0   SETTLED at advertised     SETTLED
+ *   any              VERSION, the payload refused         0       the payload's refusal     the same
+ *   AWAITS_VERSION   VERSION                              0       SETTLED, at the larger of SETTLED
+ *                                                                 advertised and answered
+ *   any other        VERSION                              any     UNCHANGED                 the same
+ *
+ * After ABOVE_HOST and VERSION_NOT_LISTED the next command is DEVICE_SERVICES again, and the answer
+ * will be the same: close. A modem answers one VERSION in a session, and a second one with status 9,
+ * which would settle the host at another version than the modem's: if the reply to VERSION is lost,
+ * close and open instead of sending it again. */
+cvr_host_answer cvr_host_receive(uint8_t *memory, size_t size, cvr_message_header message,
+                                 const uint8_t *information, size_t length);
 
 /* ---- the modem's end of the handshake ----------------------------------------------------------
- * Memory: CVR_MODEM_SIZE bytes, five little-endian 16-bit numbers: native version, advertised version,
- * whether VERSION is listed (0 or 1), enum cvr_modem_stage, and the settled version (else 0). Memory
- * is refused as a host's is. */
+ * Its memory is CVR_MODEM_SIZE bytes, five 16-bit numbers. Every function but make judges it first.
+ * Refuses: OUTPUT_TOO_SMALL; OUTSIDE_TABLE at 0, 2, 4, 6, 8, where no call can have left it;
+ * CONTRADICTION at 2 (advertised above native). */
+
+#define CVR_AT_MODEM_NATIVE 0
+#define CVR_AT_MODEM_ADVERTISED 2
+#define CVR_AT_MODEM_LISTS_VERSION 4 /* 0 or 1 */
+#define CVR_AT_MODEM_STAGE 6         /* enum cvr_modem_stage */
+#define CVR_AT_MODEM_VERSION 8       /* the settled one, else 0 */
+
+/* There is no closed stage: that no command is served before OPEN or after CLOSE is the program's. */
+enum cvr_modem_stage {
+    CVR_MODEM_START = 0,
+    CVR_MODEM_LISTED = 1, /* the services list was asked for */
+    CVR_MODEM_SETTLED = 2
+};
+
+/* What the modem is to do with a command. */
+enum cvr_action {
+    CVR_ACTION_SERVE = 1,   /* answer it: the payload of the kind, with status 0, or a status of yours */
+    CVR_ACTION_VERSION = 2, /* send the VERSION payload written, with status 0 */
+    CVR_ACTION_FAILED = 3,  /* the handshake doesn't allow it: send the status, without information */
+    CVR_ACTION_UNKNOWN = 4  /* service or CID is not known: the same, unless you serve it yourself */
+};
 
 typedef struct cvr_modem_answer {
     cvr_refusal refusal;
-    uint32_t action; /* enum cvr_action */
-    uint32_t status; /* failed: the status to send */
-    uint32_t kind;   /* serve: enum cvr_kind; CVR_KIND_NONE where service or CID is not known */
-    size_t place;    /* serve, kind none: 20 or 36, where the service or the CID stands */
-    size_t length;   /* VERSION: bytes of its payload in the output */
+    uint32_t action;  /* enum cvr_action */
+    uint32_t status;  /* failed, unknown: the status to send */
+    uint32_t kind;    /* serve: enum cvr_kind, never none */
+    uint16_t version; /* the version that the modem is settled at after this call, 0 while it isn't */
+    uint64_t place;   /* unknown: 20 or 36, where the service or the CID stands */
+    uint64_t length;  /* VERSION: bytes of its payload in the output */
 } cvr_modem_answer;
 
-/* Makes a modem at its start. `advertised` is at most `native`; `lists_version` is 0 for no. */
+/* Makes a modem at its start. `services` is the DEVICE_SERVICES payload that it will serve.
+ * Refuses: WRONG_VERSION for native, advertised, and advertised above native; the list, as
+ * cvr_device_services_listed does; OUTPUT_TOO_SMALL. */
 cvr_refusal cvr_modem_make(uint8_t *memory, size_t size, uint16_t native, uint16_t advertised,
-                           uint32_t lists_version);
+                           const uint8_t *services, size_t length);
 
-/* OPEN and CLOSE put the handshake back to its start. */
+/* Both put the handshake back to its start: call them when OPEN or CLOSE came. */
 cvr_refusal cvr_modem_open(uint8_t *memory, size_t size);
 cvr_refusal cvr_modem_close(uint8_t *memory, size_t size);
 
-/* A command: says what to do with it. VERSION's reply is written to the output:
- * CVR_VERSION_INFO_LENGTH is room enough. */
-cvr_modem_answer cvr_modem_command(uint8_t *memory, size_t size, cvr_service service, uint32_t cid,
-                                   uint32_t command_type, const uint8_t *payload, size_t length,
-                                   uint8_t *out, size_t room);
+/* Takes a command that came. CVR_VERSION_INFO_LENGTH is room enough.
+ * Refuses: after the memory, UNKNOWN at 0 (not a COMMAND); OUTSIDE_TABLE at 8 (transaction 0); last,
+ * for VERSION's payload, OUTPUT_TOO_SMALL. The first row that fits holds:
+ *
+ *   stage      what comes                                answer    status  next stage
+ *   START      DEVICE_SERVICES, query or set             SERVE     0       LISTED
+ *   START      any other                                 FAILED    9       START
+ *   LISTED     DEVICE_SERVICES, query or set             SERVE     0       LISTED
+ *   LISTED     VERSION, listed, a query, payload good    VERSION   0       SETTLED, at the larger of
+ *                                                                          advertised and the lower native
+ *   LISTED     any other VERSION                         FAILED    9       LISTED
+ *   LISTED     any other, advertised 2.00                FAILED    9       LISTED
+ *   LISTED     a CID not known, advertised 1.00          UNKNOWN   9       SETTLED at 1.00
+ *   LISTED     any other, advertised 1.00                SERVE     0       SETTLED at 1.00
+ *   SETTLED    VERSION                                   FAILED    9       SETTLED
+ *   SETTLED    a CID not known                           UNKNOWN   9       SETTLED
+ *   SETTLED    any other, query or set                   SERVE     0       SETTLED
+ */
+cvr_modem_answer cvr_modem_receive(uint8_t *memory, size_t size, cvr_message_header message,
+                                   const uint8_t *information, size_t length, uint8_t *out, size_t room);
 
-/* ---- the layout that the library was built for: size, and offset of the last member -------------- */
+/* ---- the layout that the library was built for: size, and the last member's offset and end --------
+ * Lengths and places in structs are uint64_t, so that it is the same with pointers of 32 bits. */
 
-#define CVR_LAYOUT(type, size, last, offset)                                                  \
+#define CVR_LAYOUT(type, size, last, offset, end)                                             \
     typedef char type##_has_the_library_s_layout                                              \
-        [sizeof(type) == (size) && offsetof(type, last) == (offset) ? 1 : -1]
+        [sizeof(type) == (size) && offsetof(type, last) == (offset)                           \
+         && (offset) + sizeof(((type *)0)->last) == (end) ? 1 : -1]
 
-CVR_LAYOUT(cvr_refusal, 16, place, 8);
-CVR_LAYOUT(cvr_written, 24, length, 16);
-CVR_LAYOUT(cvr_service, 16, word3, 12);
-CVR_LAYOUT(cvr_version_info, 4, bcd_mbim_extended_version, 2);
-CVR_LAYOUT(cvr_version_info_answer, 24, info, 16);
-CVR_LAYOUT(cvr_packet_service, 40, downlink_speed, 32);
-CVR_LAYOUT(cvr_packet_service_answer, 56, info, 16);
-CVR_LAYOUT(cvr_registration, 32, preferred_data_class, 28);
-CVR_LAYOUT(cvr_range, 8, length, 4);
-CVR_LAYOUT(cvr_registration_texts, 24, roaming_text, 16);
-CVR_LAYOUT(cvr_registration_answer, 72, texts, 48);
-CVR_LAYOUT(cvr_rsrp_snr, 20, system_type, 16);
-CVR_LAYOUT(cvr_signal_state, 348, entries, 28);
-CVR_LAYOUT(cvr_signal_state_answer, 368, info, 16);
-CVR_LAYOUT(cvr_reading_answer, 24, value, 20);
-CVR_LAYOUT(cvr_bars_answer, 24, bars, 20);
-CVR_LAYOUT(cvr_device_services, 8, max_dss_sessions, 4);
-CVR_LAYOUT(cvr_device_services_answer, 24, info, 16);
-CVR_LAYOUT(cvr_device_service, 28, cid_count, 24);
-CVR_LAYOUT(cvr_element_answer, 48, element, 20);
-CVR_LAYOUT(cvr_listed_answer, 24, listed, 16);
-CVR_LAYOUT(cvr_service_element, 540, cids, 28);
-CVR_LAYOUT(cvr_service_list, 17288, elements, 8);
-CVR_LAYOUT(cvr_whole_answer, 24, transaction, 20);
-CVR_LAYOUT(cvr_message_header, 32, word, 28);
-CVR_LAYOUT(cvr_cut_answer, 32, length, 24);
-CVR_LAYOUT(cvr_kind_answer, 24, kind, 16);
-CVR_LAYOUT(cvr_feed_answer, 64, length, 56);
-CVR_LAYOUT(cvr_host_answer, 24, version, 20);
-CVR_LAYOUT(cvr_ask_answer, 32, length, 24);
-CVR_LAYOUT(cvr_modem_answer, 48, length, 40);
+CVR_LAYOUT(cvr_refusal, 16, place, 8, 16);
+CVR_LAYOUT(cvr_written, 24, length, 16, 24);
+CVR_LAYOUT(cvr_service, 16, word3, 12, 16);
+CVR_LAYOUT(cvr_version_info, 4, bcd_mbim_extended_version, 2, 4);
+CVR_LAYOUT(cvr_version_info_answer, 24, info, 16, 20);
+CVR_LAYOUT(cvr_packet_service, 40, downlink_speed, 32, 40);
+CVR_LAYOUT(cvr_packet_service_answer, 56, info, 16, 56);
+CVR_LAYOUT(cvr_registration, 32, preferred_data_class, 28, 32);
+CVR_LAYOUT(cvr_range, 8, length, 4, 8);
+CVR_LAYOUT(cvr_registration_texts, 24, roaming_text, 16, 24);
+CVR_LAYOUT(cvr_registration_answer, 72, texts, 48, 72);
+CVR_LAYOUT(cvr_rsrp_snr, 20, system_type, 16, 20);
+CVR_LAYOUT(cvr_signal_state, 348, entries, 28, 348);
+CVR_LAYOUT(cvr_signal_state_answer, 368, info, 16, 364);
+CVR_LAYOUT(cvr_reading_answer, 24, value, 20, 24);
+CVR_LAYOUT(cvr_bars_answer, 24, bars, 20, 24);
+CVR_LAYOUT(cvr_device_services, 8, max_dss_sessions, 4, 8);
+CVR_LAYOUT(cvr_device_services_answer, 24, info, 16, 24);
+CVR_LAYOUT(cvr_device_service, 28, cid_count, 24, 28);
+CVR_LAYOUT(cvr_element_answer, 48, element, 20, 48);
+CVR_LAYOUT(cvr_listed_answer, 24, listed, 16, 20);
+CVR_LAYOUT(cvr_service_element, 540, cids, 28, 540);
+CVR_LAYOUT(cvr_service_list, 17288, elements, 8, 17288);
+CVR_LAYOUT(cvr_message_header, 32, word, 28, 32);
+CVR_LAYOUT(cvr_whole_answer, 32, word, 24, 28);
+CVR_LAYOUT(cvr_cut_answer, 32, length, 24, 32);
+CVR_LAYOUT(cvr_kind_answer, 24, kind, 16, 20);
+CVR_LAYOUT(cvr_receive_answer, 64, length, 56, 64);
+CVR_LAYOUT(cvr_host_answer, 24, version, 20, 22);
+CVR_LAYOUT(cvr_ask_answer, 32, length, 24, 32);
+CVR_LAYOUT(cvr_modem_answer, 48, length, 40, 48);
 
 #undef CVR_LAYOUT
 

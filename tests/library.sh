@@ -1,54 +1,71 @@
 #!/bin/sh
-# The static library as its users see it: the header, the C example, the Rust example, and the
-# comparison with the second program. One line a step; the first that fails ends the test.
+# The static library as its users see it: the header and what its tables say, null pointers, the C
+# example, an install, the Rust example, and the comparison with the second program.
 set -u
 cd "$(dirname "$0")/.." || exit 2
-archive=target/staticlib/libculvertroost.a
+name=library
 work=target/library
 expected=examples/host_and_modem.expected
-warnings='-Wall -Wextra -Werror -pedantic'
-sanitizers='-g -fsanitize=address,undefined -fno-sanitize-recover=all'
+. tests/common.sh
+need gcc g++ cargo valgrind pkg-config nm
 CARGO_TARGET_DIR=target/cargo
 export CARGO_TARGET_DIR
 mkdir -p "$work" || exit 2
 
-# step NAME COMMAND...: what the command says is shown if it fails
-step() {
-    name=$1
-    shift
-    if "$@" >"$work/log" 2>&1; then
-        echo "library: $name: ok"
-    else
-        cat "$work/log"
-        echo "library: $name: FAILED"
-        exit 1
-    fi
-}
-
-# The folders of the library's sources, as crates.txt has them.
-sources() {
-    for crate in culvertroost $(sed -n 's/^culvertroost: //p' crates.txt); do
-        echo "crates/$crate/src"
-    done
-}
-
-# The archive, built where it is missing or older than a source.
-build_archive() {
-    if [ -f "$archive" ] && [ -z "$(find $(sources) -name '*.rt' -newer "$archive")" ]; then
-        return
-    fi
-    rt staticlib culvertroost
-}
+# ---- the header
 
 # header COMPILER...: the header alone
 header() {
     echo '#include "culvertroost.h"' | "$@" $warnings -Iinclude -fsyntax-only -
 }
 
-# example NAME FLAGS: compiled from C with these flags
-example() {
-    gcc -std=c99 $warnings $2 -Iinclude -o "$work/$1" examples/host_and_modem.c "$archive"
+big_endian() {
+    ! header gcc -std=c99 -x c -U__BYTE_ORDER__ -D__BYTE_ORDER__=__ORDER_BIG_ENDIAN__ &&
+        grep -q 'is for little-endian machines' "$work/log"
 }
+
+# The example in the header's first comment, as a program's part.
+header_example() {
+    {
+        printf '#include "culvertroost.h"\n#include <stdio.h>\n#include <unistd.h>\n'
+        sed -n '/^ \*   void receive/,/^ \*   }/s/^ \*//p' include/culvertroost.h
+    } >"$work/example.c"
+    grep -q 'cvr_receive(' "$work/example.c" &&
+        gcc -std=c99 $warnings -Iinclude -fsyntax-only "$work/example.c"
+}
+
+# functions: those that the header declares, with their parameters, one a line
+functions() {
+    sed 's|^ \*.*||; s|/\*.*\*/||' include/culvertroost.h | tr '\n' ' ' | grep -o 'cvr_[a-z_]*([^()]*);' | tr -s ' '
+}
+
+# The archive exports what the header declares, and nothing else.
+exported() {
+    functions | sed 's/(.*//' | sort >"$work/declared"
+    nm -g --defined-only "$archive" | sed -n 's/.* T \(cvr_\)/\1/p' | sort >"$work/exported"
+    [ -s "$work/declared" ] && diff "$work/declared" "$work/exported"
+}
+
+# ---- null pointers, and the header's tables
+
+# Every function with a pointer is tried.
+all_tried() {
+    for function in $(functions | grep '\*' | sed 's/(.*//'); do
+        grep -q "$function(NULL\|$function([^;]*NULL" tests/null.c || { echo "null.c doesn't try $function"; return 1; }
+    done
+}
+
+# tried NAME: a program of tests/, under valgrind and with sanitizers
+tried() {
+    compile -O2 "$work/$1" "tests/$1.c" && valgrind -q --error-exitcode=9 "$work/$1" &&
+        compile "$sanitizers" "$work/$1.sanitized" "tests/$1.c" && "$work/$1.sanitized"
+}
+
+null() {
+    all_tried && tried null
+}
+
+# ---- the example
 
 # same COMMAND...: the command writes the expected text
 same() {
@@ -56,7 +73,7 @@ same() {
 }
 
 plain() {
-    example plain -O2 && same "$work/plain"
+    compile -O2 "$work/plain" examples/host_and_modem.c && same "$work/plain"
 }
 
 under_valgrind() {
@@ -64,8 +81,29 @@ under_valgrind() {
 }
 
 sanitized() {
-    example sanitized "$sanitizers" && same "$work/sanitized"
+    compile "$sanitizers" "$work/sanitized" examples/host_and_modem.c && same "$work/sanitized"
 }
+
+# ---- the install
+
+# Installed below a prefix, found by pkg-config alone, at the header's version.
+installed() {
+    rm -rf "$work/prefix"
+    ./install "$work/prefix" || return 1
+    PKG_CONFIG_PATH=$work/prefix/lib/pkgconfig
+    export PKG_CONFIG_PATH
+    cp examples/host_and_modem.c "$work/installed.c" &&
+        gcc -std=c99 $warnings -o "$work/installed" "$work/installed.c" \
+            $(pkg-config --cflags --libs culvertroost) && same "$work/installed" && version
+}
+
+version() {
+    printf '#include "culvertroost.h"\n%s CVR_LIBRARY_VERSION_MAJOR.CVR_LIBRARY_VERSION_MINOR.CVR_LIBRARY_VERSION_PATCH\n' in_numbers |
+        gcc -std=c99 -E -P $(pkg-config --cflags culvertroost) - | sed -n 's/^in_numbers //p' | tr -d ' ' >"$work/version"
+    pkg-config --modversion culvertroost | diff - "$work/version"
+}
+
+# ---- Rust and the second program
 
 rust() {
     same cargo run -q --offline --release --manifest-path bindings/Cargo.toml --example host_and_modem
@@ -79,12 +117,18 @@ compare_under_valgrind() {
     valgrind -q --error-exitcode=9 target/cargo/release/compare 5000
 }
 
-step 'archive' build_archive
+step 'archive' tests/archive.sh
 step 'header in C' header gcc -std=c99 -x c
 step 'header in C++' header g++ -std=c++11 -x c++
+step 'header on a big-endian machine' big_endian
+step 'example in the header' header_example
+step 'what is exported' exported
+step 'null pointers' null
+step 'the tables of the header' tried tables
 step 'C example' plain
 step 'C example under valgrind' under_valgrind
 step 'C example with sanitizers' sanitized
+step 'install' installed
 step 'Rust example' rust
 step 'compare' compare
 cp "$work/log" "$work/compare"

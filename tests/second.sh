@@ -2,6 +2,9 @@
 # The second program: its own tests, and that the stored samples are the ones that it writes.
 set -eu
 cd "$(dirname "$0")/.."
+name=second
+. tests/common.sh
+need cargo
 CARGO_TARGET_DIR=target/cargo
 export CARGO_TARGET_DIR
 mkdir -p target/second

@@ -1,0 +1,330 @@
+/*
+ * The tables of the header, row by row: what each end answers at each stage, and where lent memory is
+ * refused. An 'any' of the header is tried at every stage.
+ */
+#include "culvertroost.h"
+
+#include <inttypes.h>
+#include <stdio.h>
+#include <string.h>
+
+#define V1 CVR_VERSION_1_00
+#define V2 CVR_VERSION_2_00
+
+typedef struct payload {
+    uint8_t bytes[128];
+    size_t length;
+} payload;
+
+static const cvr_service basic_connect = CVR_BASIC_CONNECT, extensions = CVR_EXTENSIONS;
+static payload listed, unlisted, version_1, version_2, broken;
+static int failed;
+
+static void check(const char *table, int row, const char *what, uint64_t got, uint64_t expected)
+{
+    if (got != expected) {
+        printf("tables: %s, row %d: %s is %" PRIu64 ", not %" PRIu64 "\n", table, row, what, got,
+               expected);
+        failed = 1;
+    }
+}
+
+/* ---- payloads */
+
+static void write_list(payload *out, uint32_t services)
+{
+    static cvr_service_list list;
+    memset(&list, 0, sizeof list);
+    list.device_services_count = services;
+    list.elements[0].fields.device_service_id = basic_connect;
+    list.elements[1].fields.device_service_id = extensions;
+    list.elements[1].fields.cid_count = 1;
+    list.elements[1].cids[0] = CVR_CID_VERSION;
+    out->length = cvr_device_services_write(list, out->bytes, sizeof out->bytes).length;
+}
+
+static void write_payloads(void)
+{
+    cvr_version_info info = {CVR_MBIM_1_00, V1};
+    write_list(&listed, 2);
+    write_list(&unlisted, 1);
+    version_1.length = cvr_version_info_write(info, version_1.bytes, 4).length;
+    info.bcd_mbim_extended_version = V2;
+    version_2.length = cvr_version_info_write(info, version_2.bytes, 4).length;
+    broken.length = 1;
+}
+
+static cvr_message_header header(uint32_t type, const cvr_service *service, uint32_t cid, uint32_t word)
+{
+    cvr_message_header message = {0, 1, {0, 0, 0, 0}, 0, 0};
+    message.message_type = type;
+    message.service = *service;
+    message.cid = cid;
+    message.word = word;
+    return message;
+}
+
+/* ---- the host's table */
+
+enum { ANY = 100, OTHER = 101, SAME = 102 }; /* of stages: any; any but AWAITS_VERSION; the same */
+
+typedef struct host_row {
+    int stage;
+    uint16_t native, advertised;
+    uint32_t cid, status;
+    const payload *information;
+    uint32_t refusal, event;
+    uint16_t version;
+    int next;
+} host_row;
+
+static const host_row host_rows[] = {
+    {ANY, V2, V1, CVR_CID_REGISTER_STATE, 0, &broken, 0, CVR_EVENT_UNCHANGED, 0, SAME},
+    {ANY, V2, V1, CVR_CID_DEVICE_SERVICES, 9, &listed, 0, CVR_EVENT_UNCHANGED, 0, SAME},
+    {ANY, V2, V1, CVR_CID_DEVICE_SERVICES, 0, &broken, CVR_TOO_SHORT, 0, 0, SAME},
+    {CVR_HOST_OPEN, V1, V2, CVR_CID_DEVICE_SERVICES, 0, &listed, CVR_ABOVE_HOST, 0, 0, SAME},
+    {CVR_HOST_OPEN, V1, V2, CVR_CID_DEVICE_SERVICES, 0, &unlisted, CVR_ABOVE_HOST, 0, 0, SAME},
+    {CVR_HOST_OPEN, V2, V2, CVR_CID_DEVICE_SERVICES, 0, &unlisted, CVR_VERSION_NOT_LISTED, 0, 0, SAME},
+    {CVR_HOST_OPEN, V2, V1, CVR_CID_DEVICE_SERVICES, 0, &listed, 0, CVR_EVENT_ASKS_VERSION, 0,
+     CVR_HOST_AWAITS_VERSION},
+    {CVR_HOST_OPEN, V2, V2, CVR_CID_DEVICE_SERVICES, 0, &listed, 0, CVR_EVENT_ASKS_VERSION, 0,
+     CVR_HOST_AWAITS_VERSION},
+    {CVR_HOST_OPEN, V1, V1, CVR_CID_DEVICE_SERVICES, 0, &listed, 0, CVR_EVENT_SETTLED, V1,
+     CVR_HOST_SETTLED},
+    {CVR_HOST_OPEN, V2, V1, CVR_CID_DEVICE_SERVICES, 0, &unlisted, 0, CVR_EVENT_SETTLED, V1,
+     CVR_HOST_SETTLED},
+    {CVR_HOST_CLOSED, V1, V2, CVR_CID_DEVICE_SERVICES, 0, &listed, 0, CVR_EVENT_UNCHANGED, 0, SAME},
+    {CVR_HOST_AWAITS_VERSION, V2, V2, CVR_CID_DEVICE_SERVICES, 0, &unlisted, 0, CVR_EVENT_UNCHANGED, 0,
+     SAME},
+    {CVR_HOST_SETTLED, V2, V2, CVR_CID_DEVICE_SERVICES, 0, &unlisted, 0, CVR_EVENT_UNCHANGED, 0, SAME},
+    {CVR_HOST_AWAITS_VERSION, V2, V1, CVR_CID_VERSION, 9, &broken, 0, CVR_EVENT_SETTLED, V1,
+     CVR_HOST_SETTLED},
+    {CVR_HOST_AWAITS_VERSION, V2, V2, CVR_CID_VERSION, 9, &broken, 0, CVR_EVENT_SETTLED, V2,
+     CVR_HOST_SETTLED},
+    {ANY, V2, V1, CVR_CID_VERSION, 0, &broken, CVR_TOO_SHORT, 0, 0, SAME},
+    {CVR_HOST_AWAITS_VERSION, V2, V1, CVR_CID_VERSION, 0, &version_2, 0, CVR_EVENT_SETTLED, V2,
+     CVR_HOST_SETTLED},
+    {CVR_HOST_AWAITS_VERSION, V2, V2, CVR_CID_VERSION, 0, &version_1, 0, CVR_EVENT_SETTLED, V2,
+     CVR_HOST_SETTLED},
+    {CVR_HOST_AWAITS_VERSION, V2, V1, CVR_CID_VERSION, 0, &version_1, 0, CVR_EVENT_SETTLED, V1,
+     CVR_HOST_SETTLED},
+    {OTHER, V2, V1, CVR_CID_VERSION, 0, &version_2, 0, CVR_EVENT_UNCHANGED, 0, SAME},
+    {OTHER, V2, V1, CVR_CID_VERSION, 9, &broken, 0, CVR_EVENT_UNCHANGED, 0, SAME},
+};
+
+static cvr_host_answer reply(uint8_t *host, uint32_t cid, uint32_t status, const payload *information)
+{
+    const cvr_service *service = cid == CVR_CID_VERSION ? &extensions : &basic_connect;
+    return cvr_host_receive(host, CVR_HOST_SIZE, header(CVR_MESSAGE_COMMAND_DONE, service, cid, status),
+                            information->bytes, information->length);
+}
+
+static void host_at(uint8_t *host, int stage, uint16_t native, uint16_t advertised)
+{
+    cvr_host_make(host, CVR_HOST_SIZE, native);
+    if (stage >= CVR_HOST_OPEN)
+        cvr_host_open(host, CVR_HOST_SIZE, advertised);
+    if (stage >= CVR_HOST_AWAITS_VERSION)
+        reply(host, CVR_CID_DEVICE_SERVICES, 0, &listed);
+    if (stage == CVR_HOST_SETTLED)
+        reply(host, CVR_CID_VERSION, 0, &version_2);
+}
+
+static void try_host(int i, const host_row *row, int stage)
+{
+    uint8_t host[CVR_HOST_SIZE];
+    cvr_host_answer answer;
+    host_at(host, stage, row->native, row->advertised);
+    check("host", i, "the stage before", host[CVR_AT_HOST_STAGE], (uint64_t)stage);
+    answer = reply(host, row->cid, row->status, row->information);
+    check("host", i, "the refusal", answer.refusal.number, row->refusal);
+    check("host", i, "the event", answer.event, row->event);
+    check("host", i, "the version", answer.version, row->version);
+    check("host", i, "the next stage", host[CVR_AT_HOST_STAGE],
+          (uint64_t)(row->next == SAME ? stage : row->next));
+}
+
+static void host_table(void)
+{
+    int i, stage;
+    for (i = 0; i < (int)(sizeof host_rows / sizeof host_rows[0]); i++)
+        for (stage = CVR_HOST_CLOSED; stage <= CVR_HOST_SETTLED; stage++)
+            if (host_rows[i].stage == stage || host_rows[i].stage == ANY
+                || (host_rows[i].stage == OTHER && stage != CVR_HOST_AWAITS_VERSION))
+                try_host(i, &host_rows[i], stage);
+}
+
+/* ---- the modem's table */
+
+#define NOT_KNOWN 77 /* a CID */
+
+typedef struct modem_row {
+    int stage;
+    uint16_t advertised;
+    const payload *services;
+    uint32_t cid, type;
+    const payload *information;
+    uint32_t action, status;
+    int next;
+    uint16_t version;
+} modem_row;
+
+static const modem_row modem_rows[] = {
+    {0, V1, &listed, CVR_CID_DEVICE_SERVICES, CVR_QUERY, &broken, CVR_ACTION_SERVE, 0, 1, 0},
+    {0, V1, &listed, CVR_CID_DEVICE_SERVICES, CVR_SET, &broken, CVR_ACTION_SERVE, 0, 1, 0},
+    {0, V1, &listed, CVR_CID_VERSION, CVR_QUERY, &version_2, CVR_ACTION_FAILED, 9, 0, 0},
+    {0, V1, &listed, CVR_CID_SIGNAL_STATE, CVR_QUERY, &broken, CVR_ACTION_FAILED, 9, 0, 0},
+    {0, V1, &listed, NOT_KNOWN, CVR_QUERY, &broken, CVR_ACTION_FAILED, 9, 0, 0},
+    {1, V1, &listed, CVR_CID_DEVICE_SERVICES, CVR_SET, &broken, CVR_ACTION_SERVE, 0, 1, 0},
+    {1, V1, &listed, CVR_CID_VERSION, CVR_QUERY, &version_2, CVR_ACTION_VERSION, 0, 2, V2},
+    {1, V1, &listed, CVR_CID_VERSION, CVR_QUERY, &version_1, CVR_ACTION_VERSION, 0, 2, V1},
+    {1, V2, &listed, CVR_CID_VERSION, CVR_QUERY, &version_1, CVR_ACTION_VERSION, 0, 2, V2},
+    {1, V1, &unlisted, CVR_CID_VERSION, CVR_QUERY, &version_2, CVR_ACTION_FAILED, 9, 1, 0},
+    {1, V1, &listed, CVR_CID_VERSION, CVR_SET, &version_2, CVR_ACTION_FAILED, 9, 1, 0},
+    {1, V1, &listed, CVR_CID_VERSION, CVR_QUERY, &broken, CVR_ACTION_FAILED, 9, 1, 0},
+    {1, V2, &listed, CVR_CID_SIGNAL_STATE, CVR_QUERY, &broken, CVR_ACTION_FAILED, 9, 1, 0},
+    {1, V2, &listed, NOT_KNOWN, CVR_QUERY, &broken, CVR_ACTION_FAILED, 9, 1, 0},
+    {1, V1, &listed, NOT_KNOWN, CVR_QUERY, &broken, CVR_ACTION_UNKNOWN, 9, 2, V1},
+    {1, V1, &listed, CVR_CID_SIGNAL_STATE, CVR_SET, &broken, CVR_ACTION_SERVE, 0, 2, V1},
+    {2, V1, &listed, CVR_CID_VERSION, CVR_QUERY, &version_2, CVR_ACTION_FAILED, 9, 2, V2},
+    {2, V1, &listed, NOT_KNOWN, CVR_SET, &broken, CVR_ACTION_UNKNOWN, 9, 2, V2},
+    {2, V1, &listed, CVR_CID_SIGNAL_STATE, CVR_SET, &broken, CVR_ACTION_SERVE, 0, 2, V2},
+    {2, V1, &listed, CVR_CID_DEVICE_SERVICES, CVR_QUERY, &broken, CVR_ACTION_SERVE, 0, 2, V2},
+};
+
+static cvr_modem_answer command(uint8_t *modem, uint32_t cid, uint32_t type, const payload *information)
+{
+    const cvr_service *service = cid == CVR_CID_VERSION ? &extensions : &basic_connect;
+    uint8_t out[CVR_VERSION_INFO_LENGTH];
+    return cvr_modem_receive(modem, CVR_MODEM_SIZE, header(CVR_MESSAGE_COMMAND, service, cid, type),
+                             information->bytes, information->length, out, sizeof out);
+}
+
+static void modem_table(void)
+{
+    int i;
+    for (i = 0; i < (int)(sizeof modem_rows / sizeof modem_rows[0]); i++) {
+        const modem_row *row = &modem_rows[i];
+        uint8_t modem[CVR_MODEM_SIZE];
+        cvr_modem_answer answer;
+        cvr_modem_make(modem, sizeof modem, V2, row->advertised, row->services->bytes,
+                       row->services->length);
+        if (row->stage >= CVR_MODEM_LISTED)
+            command(modem, CVR_CID_DEVICE_SERVICES, CVR_QUERY, &broken);
+        if (row->stage == CVR_MODEM_SETTLED)
+            command(modem, CVR_CID_VERSION, CVR_QUERY, &version_2);
+        check("modem", i, "the stage before", modem[CVR_AT_MODEM_STAGE], (uint64_t)row->stage);
+        answer = command(modem, row->cid, row->type, row->information);
+        check("modem", i, "the refusal", answer.refusal.number, CVR_NO_REFUSAL);
+        check("modem", i, "the action", answer.action, row->action);
+        check("modem", i, "the status", answer.status, row->status);
+        check("modem", i, "the version", answer.version, row->version);
+        check("modem", i, "the place", answer.place, row->action == CVR_ACTION_UNKNOWN ? 36 : 0);
+        check("modem", i, "the next stage", modem[CVR_AT_MODEM_STAGE], (uint64_t)row->next);
+    }
+}
+
+/* ---- lent memory that no call can have left: a byte of it changed */
+
+typedef struct fault {
+    char memory; /* assembly, host or modem */
+    int at;
+    uint8_t byte;
+    uint32_t refusal;
+    uint64_t place;
+} fault;
+
+static const fault faults[] = {
+    {'a', CVR_AT_ASSEMBLY_MESSAGE_TYPE, 1, CVR_OUTSIDE_TABLE, 0},
+    {'a', CVR_AT_ASSEMBLY_TOTAL, 129, CVR_OUTSIDE_TABLE, 32},
+    {'a', CVR_AT_ASSEMBLY_TOTAL, 0, CVR_CONTRADICTION, 32},
+    {'a', CVR_AT_ASSEMBLY_NEXT, 0, CVR_OUTSIDE_TABLE, 36},
+    {'a', CVR_AT_ASSEMBLY_NEXT, 2, CVR_OUTSIDE_TABLE, 36},
+    {'a', CVR_AT_ASSEMBLY_INFORMATION_LENGTH + 1, 17, CVR_OUTSIDE_TABLE, 40},
+    {'a', CVR_AT_ASSEMBLY_GATHERED, 51, CVR_OUTSIDE_TABLE, 44},
+    {'h', CVR_AT_HOST_NATIVE, 1, CVR_OUTSIDE_TABLE, 0},
+    {'h', CVR_AT_HOST_STAGE, 4, CVR_OUTSIDE_TABLE, 2},
+    {'h', CVR_AT_HOST_VERSION, 1, CVR_OUTSIDE_TABLE, 4},
+    {'m', CVR_AT_MODEM_NATIVE, 1, CVR_OUTSIDE_TABLE, 0},
+    {'m', CVR_AT_MODEM_ADVERTISED, 1, CVR_OUTSIDE_TABLE, 2},
+    {'m', CVR_AT_MODEM_LISTS_VERSION, 2, CVR_OUTSIDE_TABLE, 4},
+    {'m', CVR_AT_MODEM_STAGE, 3, CVR_OUTSIDE_TABLE, 6},
+    {'m', CVR_AT_MODEM_VERSION, 1, CVR_OUTSIDE_TABLE, 8},
+    {'m', CVR_AT_MODEM_NATIVE + 1, 1, CVR_CONTRADICTION, 2},
+};
+
+/* An assembly with the first of two fragments, whose second is left in `piece`. */
+static size_t pending(uint8_t *assembly, uint8_t *piece)
+{
+    static const uint8_t information[50] = {0};
+    uint8_t cut[CVR_MOST_CUT];
+    cvr_message_header message = header(CVR_MESSAGE_COMMAND, &basic_connect, CVR_CID_SIGNAL_STATE, 0);
+    size_t length = cvr_message_cut(message, 64, information, 50, cut, sizeof cut).length;
+    memset(assembly, 0, CVR_ASSEMBLY_SIZE);
+    check("receive", 0, "the first", cvr_receive(assembly, CVR_ASSEMBLY_SIZE, cut, 64, NULL, 0).received,
+          CVR_RECEIVED_PENDING);
+    memcpy(piece, cut + 64, length - 64);
+    return length - 64;
+}
+
+static void memory_table(void)
+{
+    uint8_t memory[CVR_ASSEMBLY_SIZE], before[CVR_ASSEMBLY_SIZE], piece[64];
+    int i;
+    for (i = 0; i < (int)(sizeof faults / sizeof faults[0]); i++) {
+        const fault *f = &faults[i];
+        size_t length = pending(memory, piece);
+        cvr_refusal refusal;
+        if (f->memory == 'h')
+            host_at(memory, CVR_HOST_SETTLED, V2, V1);
+        if (f->memory == 'm')
+            cvr_modem_make(memory, CVR_MODEM_SIZE, V2, V2, listed.bytes, listed.length);
+        memory[f->at] = f->byte;
+        memcpy(before, memory, sizeof before);
+        refusal = f->memory == 'a' ? cvr_receive(memory, sizeof memory, piece, length, NULL, 0).refusal
+                  : f->memory == 'h' ? cvr_host_close(memory, CVR_HOST_SIZE).refusal
+                                     : cvr_modem_close(memory, CVR_MODEM_SIZE);
+        check("memory", i, "the refusal", refusal.number, f->refusal);
+        check("memory", i, "the place", refusal.place, f->place);
+        if (f->memory == 'a')
+            memset(before, 0, sizeof before);
+        check("memory", i, "a byte that is not as it must be", memcmp(memory, before, sizeof memory) != 0,
+              0);
+    }
+}
+
+/* ---- what becomes of an assembly */
+
+static void assembly_table(void)
+{
+    uint8_t memory[CVR_ASSEMBLY_SIZE], before[CVR_ASSEMBLY_SIZE], piece[64];
+    uint8_t whole[CVR_MOST_WHOLE];
+    size_t length = pending(memory, piece);
+    memcpy(before, memory, sizeof before);
+    cvr_message_write(CVR_MESSAGE_OPEN, 1, 4096, whole, sizeof whole);
+    check("assembly", 0, "small memory", cvr_receive(memory, CVR_ASSEMBLY_SIZE - 1, piece, length, NULL,
+                                                     0).refusal.place, CVR_ASSEMBLY_SIZE);
+    check("assembly", 1, "a whole message", cvr_receive(memory, sizeof memory, whole, 16, NULL,
+                                                        0).message.word, 4096);
+    check("assembly", 2, "a short one", cvr_receive(memory, sizeof memory, whole, 4, NULL,
+                                                    0).refusal.number, CVR_TOO_SHORT);
+    check("assembly", 3, "as it was", memcmp(memory, before, sizeof memory) == 0, 1);
+    check("assembly", 4, "no room", cvr_receive(memory, sizeof memory, piece, length, NULL,
+                                                0).refusal.place, 50);
+    memset(before, 0, sizeof before);
+    check("assembly", 5, "emptied", memcmp(memory, before, sizeof memory) == 0, 1);
+    pending(memory, piece);
+    check("assembly", 6, "no type", cvr_receive(memory, sizeof memory, whole, 3, NULL,
+                                                0).refusal.number, CVR_TOO_SHORT);
+    check("assembly", 7, "emptied", memcmp(memory, before, sizeof memory) == 0, 1);
+}
+
+int main(void)
+{
+    write_payloads();
+    host_table();
+    modem_table();
+    memory_table();
+    assembly_table();
+    return failed;
+}
