@@ -32,22 +32,22 @@ typedef struct program {
 
 typedef struct way {
     char to;
+    uint64_t state; /* of its own chances */
     int from_fd, to_fd;
     size_t filled;
     uint8_t bytes[2 * MOST_PIECE];
 } way;
 
-static uint64_t state;
 static unsigned noise;
 static FILE *passed;
 static program programs[2];
 
-static unsigned chance(unsigned below)
+static unsigned chance(way *w, unsigned below)
 {
-    state ^= state << 13;
-    state ^= state >> 7;
-    state ^= state << 17;
-    return (unsigned)((state >> 11) % below);
+    w->state ^= w->state << 13;
+    w->state ^= w->state >> 7;
+    w->state ^= w->state << 17;
+    return (unsigned)((w->state >> 11) % below);
 }
 
 static void fail(const char *what, int status)
@@ -71,26 +71,28 @@ static void pass(const way *w, const char *how, const uint8_t *piece, size_t len
         fail("write", 4);
 }
 
-static void flip(uint8_t *piece, size_t length)
+static void flip(way *w, uint8_t *piece, size_t length)
 {
-    unsigned flips = 1 + chance(3);
-    while (flips-- > 0)
-        piece[chance((unsigned)length)] ^= (uint8_t)(1u << chance(8));
+    unsigned flips = 1 + chance(w, 3);
+    while (flips-- > 0) {
+        unsigned at = chance(w, (unsigned)length);
+        piece[at] ^= (uint8_t)(1u << chance(w, 8));
+    }
 }
 
-static void damage(const way *w, uint8_t *piece, size_t length)
+static void damage(way *w, uint8_t *piece, size_t length)
 {
-    unsigned fate = chance(1000);
+    unsigned fate = chance(w, 1000);
     if (fate < noise) {
         pass(w, "drop", piece, length);
     } else if (fate < 2 * noise) {
         pass(w, "good", piece, length);
         pass(w, "again", piece, length);
     } else if (fate < 3 * noise) {
-        flip(piece, length);
+        flip(w, piece, length);
         pass(w, "flip", piece, length);
     } else if (fate < 4 * noise) {
-        pass(w, "cut", piece, chance((unsigned)length));
+        pass(w, "cut", piece, chance(w, (unsigned)length));
     } else {
         pass(w, "good", piece, length);
     }
@@ -194,7 +196,8 @@ int main(int argc, char **argv)
     if (second + 1 >= argc)
         return 2;
     argv[second] = NULL;
-    state = strtoull(argv[1], NULL, 10) * UINT64_C(0x9E3779B97F4A7C15) + 1;
+    to_modem.state = 2 * strtoull(argv[1], NULL, 10) * UINT64_C(0x9E3779B97F4A7C15) + 1;
+    to_host.state = to_modem.state + UINT64_C(0x9E3779B97F4A7C15);
     noise = (unsigned)strtoul(argv[2], NULL, 10);
     until = time(NULL) + strtol(argv[3], NULL, 10);
     passed = fopen(argv[4], "w");
