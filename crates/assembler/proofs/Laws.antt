@@ -17,15 +17,13 @@ use Rattle.protocol.specs.declared.Refusal.{Refusal}
 use Rattle.protocol.specs.declared.Verdict.{Verdict}
 use Rattle.protocol.specs.declared.Verdict.the-variants.{Fits, Fault}
 use Rattle.protocol.proofs.Verdicts.{fits-kept}
-use Rattle.message.specs.Message.{mostInformation, headerAt, fragmentOf, firstLength, firstHeaderOf}
+use Rattle.message.specs.Message.{mostInformation, headerAt, fragmentOf, firstLength}
 use Rattle.message.specs.declared.FragmentHeader.{FragmentHeader}
 use Rattle.message.specs.declared.FirstHeader.{FirstHeader}
 use Rattle.message.specs.declared.Fragment.{Fragment}
 use Rattle.message.specs.declared.Fragment.the-variants as fragment
-use Rattle.message.specs.declared.First.{First}
-use Rattle.message.specs.declared.First.the-variants as first
-use Rattle.message.proofs.Headers.{amount-right, fragment-accepted, first-accepted}
-use Rattle.assembler.specs.Assembly.{isPending, begunProgress, startOf, continues, joinRules, joinOf, judgedBy, judgedOf}
+use Rattle.message.proofs.Headers.{amount-right, Opened, FragmentView, refuses as no-fragment, opens, follows, fragment-view}
+use Rattle.assembler.specs.Assembly.{isPending, begunProgress, continues, joinRules, joinOf, judgedBy, judgedOf}
 use Rattle.assembler.specs.declared.Judged.{Judged}
 use Rattle.assembler.specs.declared.Judged.the-variants as judged
 use Rattle.assembler.specs.declared.Progress.{Progress}
@@ -38,6 +36,11 @@ rest n s = take-all (length s - n) (drop n s) (simp length-drop (omega arith))
 pub delivered : (b xs s : List ℕ) (n : ℕ) {s₁ s₂ : List ℕ} → length b ≡ n → n + length xs ≤ length s → s₁ ≡ sets s 0 b → s₂ ≡ sets s₁ n xs → s₂ ≡ over (b ++ xs) s
 delivered b xs s n {s₁} e room p q =
     sets-then b xs 0 n s e p (q ∙ ap (λ (k : ℕ). sets s₁ k xs) (omega arith)) ∙ sets-over (b ++ xs) s (omega (arith, length-append b xs))
+
+-- what is left at the front of a longer buffer
+pub front-over : (x s : List ℕ) {b : List ℕ} → b ≡ x → length x ≡ 4096 → b ++ drop 4096 s ≡ over x s
+unfolding over
+front-over x s e l = rw (e, l)
 
 -- a buffer with zeros up to its end
 pub filled : (i : ℕ) (s : List ℕ) → i ≡ length s → replicate i 0 ++ drop i s ≡ replicate (length s) 0
@@ -84,10 +87,9 @@ join-fits p h s less e =
     simp length-drop
     ((a .0, c .small, omega (arith, c .number, c .total)), λ q. a .1 (eq-eqb (h .number + 1) (h .total) (omega (arith, q, c .number, c .total))))
 
-start-fits : (h : FragmentHeader) (f : FirstHeader) (s : List ℕ) → headerAt s ≡ h → 0 < h .total → firstHeaderOf s ≡ first.Header f
+start-fits : (h : FragmentHeader) (f : FirstHeader) (s : List ℕ) → headerAt s ≡ h → 0 < h .total → Opened s f
     → (firstLength (h .«message_type») ≤ length s) × Gathers (begunProgress h f) (drop (firstLength (h .«message_type»)) s)
-start-fits h f s is some e =
-    let o = first-accepted s f e in
+start-fits h f s is some o =
     rw (← is) (
       o .long,
       simp length-drop
@@ -107,28 +109,17 @@ pub data JudgedView (p : Progress) (s : List ℕ) (j : Judged) : Type 0 where
   joins : (n : ℕ) → j ≡ judged.Gathers p n false → n ≤ length s → Gathers p (drop n s) → JudgedView p s j
 
 pub judged-view : (p : Progress) (s : List ℕ) → JudgedView p s (judgedOf p s)
-unfolding judgedOf judgedBy startOf joinOf
-judged-view p s = go (fragmentOf s) refl
+unfolding judgedOf judgedBy joinOf
+judged-view p s = go (fragment-view s)
   where
-    opened : (h : FragmentHeader) → fragmentOf s ≡ fragment.Header h → (o : First) → firstHeaderOf s ≡ o → JudgedView p s (startOf (isPending p) h o)
-    opened h e (first.Refused r) eo = refuses r refl
-    opened h e (first.Header f) eo =
-        let k = fragment-accepted s h e in
-        let g = start-fits h f s (k .is) (k .some) eo in
-        starts h f _ refl (g .0) (g .1)
+    joined : (h : FragmentHeader) → 20 ≤ length s → h .number < h .total → (v : Verdict) → judge (joinRules p h (length s)) ≡ v → JudgedView p s (joinOf v p)
+    joined h long within Fits ev = joins 20 refl long (join-fits p h s within ev)
+    joined h long within (Fault r) ev = refuses r refl
 
-    joined : (h : FragmentHeader) → fragmentOf s ≡ fragment.Header h → (v : Verdict) → judge (joinRules p h (length s)) ≡ v → JudgedView p s (joinOf v p)
-    joined h e Fits ev = let k = fragment-accepted s h e in joins 20 refl (k .long) (join-fits p h s (k .within) ev)
-    joined h e (Fault r) ev = refuses r refl
-
-    numbered : (h : FragmentHeader) → fragmentOf s ≡ fragment.Header h → (zero : Bool)
-        → JudgedView p s (cond zero (startOf (isPending p) h (firstHeaderOf s)) (joinOf (judge (joinRules p h (length s))) p))
-    numbered h e true = opened h e (firstHeaderOf s) refl
-    numbered h e false = joined h e (judge (joinRules p h (length s))) refl
-
-    go : (f : Fragment) → fragmentOf s ≡ f → JudgedView p s (judgedBy p s f)
-    go (fragment.Refused r) e = refuses r refl
-    go (fragment.Header h) e = numbered h e (eqb (h .number) 0)
+    go : {f : Fragment} → FragmentView s f → JudgedView p s (judgedBy p (length s) f)
+    go (no-fragment r) = refuses r refl
+    go (opens h f a z o) = let g = start-fits h f s (a .is) (a .some) o in starts h f _ refl (g .0) (g .1)
+    go (follows h a z) = joined h (a .long) (a .within) (judge (joinRules p h (length s))) refl
 
 -- what a piece brings that is not refused
 pub brings : (p q : Progress) (s : List ℕ) (n : ℕ) (d : Bool) → judgedOf p s ≡ judged.Gathers q n d → (n ≤ length s) × Gathers q (drop n s)

@@ -15,16 +15,13 @@ use Rattle.protocol.specs.Verdict.{judge}
 use Rattle.protocol.specs.declared.Verdict.{Verdict}
 use Rattle.protocol.specs.declared.Verdict.the-variants.{Fits, Fault}
 use Rattle.protocol.proofs.Verdicts.{fits-kept}
-use Rattle.message.specs.Message.{mostInformation, messageAt, fragmentOf, firstHeaderOf}
+use Rattle.message.specs.Message.{mostInformation, messageAt, fragmentOf}
 use Rattle.message.specs.declared.MessageHeader.{MessageHeader}
 use Rattle.message.specs.declared.FragmentHeader.{FragmentHeader}
 use Rattle.message.specs.declared.FirstHeader.{FirstHeader}
 use Rattle.message.specs.declared.Fragment.{Fragment}
-use Rattle.message.specs.declared.Fragment.the-variants as fragment
-use Rattle.message.specs.declared.First.{First}
-use Rattle.message.specs.declared.First.the-variants as first
-use Rattle.message.proofs.Headers.{Accepted, fragment-accepted, Opened, first-accepted}
-use Rattle.assembler.specs.Assembly.{assemblyOf, empty, isPending, refused, waiting, completed, grown, gatherOf, begunProgress, begunBytes, startOf, continues, joinRules, joinOf, judgedBy, judgedOf, stepBy, stepOf}
+use Rattle.message.proofs.Headers.{Accepted, Opened, FragmentView, refuses as no-fragment, opens, follows, fragment-view}
+use Rattle.assembler.specs.Assembly.{assemblyOf, empty, isPending, refused, waiting, completed, grown, gatherOf, begunProgress, begunBytes, continues, joinRules, joinOf, judgedBy, judgedOf, stepBy, stepOf}
 use Rattle.assembler.specs.declared.Progress.{Progress}
 use Rattle.assembler.specs.declared.Assembly.{Assembly}
 use Rattle.assembler.specs.declared.Judged.{Judged}
@@ -90,15 +87,11 @@ joined-ready a s h A later C = record {
 }
 
 ready : (a : Assembly) (s : List ℕ) (q : Progress) (n : ℕ) (d : Bool) → judgedOf (a .progress) s ≡ judged.Gathers q n d → Ready a s q
-unfolding judgedOf judgedBy startOf joinOf
-ready a s q n d = go (fragmentOf s) refl
+unfolding judgedOf judgedBy joinOf
+ready a s q n d = go (fragment-view s)
   where
     p : Progress
     p = a .progress
-
-    opened : (h : FragmentHeader) → Accepted s h → (o : First) → firstHeaderOf s ≡ o → startOf (isPending p) h o ≡ judged.Gathers q n d → Ready a s q
-    opened h A (first.Refused r) eo k = let z : _≡_ {A = ℕ} 0 1 = cc in absurd (omega arith)
-    opened h A (first.Header f) eo k = let e : begunProgress h f ≡ q = cc in rw (← e) (begun-ready a s h f A (first-accepted s f eo))
 
     joins : (h : FragmentHeader) → Accepted s h → (h .number ≡ 0 → ⊥) → (v : Verdict) → judge (joinRules p h (length s)) ≡ v → joinOf v p ≡ judged.Gathers q n d → Ready a s q
     joins h A later Fits ev k =
@@ -106,14 +99,10 @@ ready a s q n d = go (fragmentOf s) refl
         rw (← e) (joined-ready a s h A later (continues-says p h (not-false (continues p h) (fits-kept (joinRules p h (length s)) ev .0))))
     joins h A later (Fault r) ev k = let z : _≡_ {A = ℕ} 0 1 = cc in absurd (omega arith)
 
-    numbered : (h : FragmentHeader) → Accepted s h → (zero : Bool) → eqb (h .number) 0 ≡ zero
-        → cond zero (startOf (isPending p) h (firstHeaderOf s)) (joinOf (judge (joinRules p h (length s))) p) ≡ judged.Gathers q n d → Ready a s q
-    numbered h A true z k = opened h A (firstHeaderOf s) refl k
-    numbered h A false z k = joins h A (eqb-false _ _ z) (judge (joinRules p h (length s))) refl k
-
-    go : (f : Fragment) → fragmentOf s ≡ f → judgedBy p s f ≡ judged.Gathers q n d → Ready a s q
-    go (fragment.Refused r) e k = let z : _≡_ {A = ℕ} 0 1 = cc in absurd (omega arith)
-    go (fragment.Header h) e k = numbered h (fragment-accepted s h e) (eqb (h .number) 0) refl k
+    go : {f : Fragment} → FragmentView s f → judgedBy p (length s) f ≡ judged.Gathers q n d → Ready a s q
+    go (no-fragment r) k = let z : _≡_ {A = ℕ} 0 1 = cc in absurd (omega arith)
+    go (opens h f A z o) k = let e : begunProgress h f ≡ q = cc in rw (← e) (begun-ready a s h f A o)
+    go (follows h A z) k = joins h A z (judge (joinRules p h (length s))) refl k
 
 pub left : (a : Assembly) (s : List ℕ) (room : ℕ) → Left a s (stepOf a s room .assembly .progress)
 unfolding stepOf stepBy refused

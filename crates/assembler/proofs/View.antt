@@ -11,8 +11,6 @@ use Rattle.protocol.specs.Verdict.{judge}
 use Rattle.protocol.specs.declared.Refusal.{Refusal}
 use Rattle.message.specs.declared.FragmentHeader.{FragmentHeader}
 use Rattle.message.specs.declared.FirstHeader.{FirstHeader}
-use Rattle.message.specs.declared.Fragment.the-variants as fragment
-use Rattle.message.specs.declared.First.the-variants as first
 use Rattle.assembler.specs.Assembly.{Step, assemblyOf, isPending, refused, waiting, completed, grown, gatherOf, begunProgress, begunBytes, stepBy, stepOf}
 use Rattle.assembler.specs.declared.Assembly.{Assembly}
 use Rattle.assembler.specs.declared.Judged.{Judged}

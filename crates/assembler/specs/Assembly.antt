@@ -12,13 +12,11 @@ use Rattle.protocol.specs.Verdict.{Rule, rule, judge}
 use Rattle.protocol.specs.declared.Refusal.{Refusal}
 use Rattle.protocol.specs.declared.Verdict.{Verdict}
 use Rattle.protocol.specs.declared.Verdict.the-variants.{Fits, Fault}
-use Rattle.message.specs.Message.{mostInformation, firstLength, wrongAmount, fragmentOf, firstHeaderOf}
+use Rattle.message.specs.Message.{mostInformation, firstLength, wrongAmount, fragmentOf}
 use Rattle.message.specs.declared.FragmentHeader.{FragmentHeader}
 use Rattle.message.specs.declared.FirstHeader.{FirstHeader}
 use Rattle.message.specs.declared.Fragment.{Fragment}
 use Rattle.message.specs.declared.Fragment.the-variants as fragment
-use Rattle.message.specs.declared.First.{First}
-use Rattle.message.specs.declared.First.the-variants as first
 use Rattle.assembler.specs.declared.Progress.{Progress}
 use Rattle.assembler.specs.declared.Assembly.{Assembly}
 use Rattle.assembler.specs.declared.Fed.{Fed}
@@ -113,10 +111,6 @@ begunProgress h f = record {
   gathered = 0;
 }
 
-unfoldable pub startOf : Bool → FragmentHeader → First → Judged
-startOf dropped h (first.Refused r) = judged.Refused r
-startOf dropped h (first.Header f) = judged.Gathers (begunProgress h f) (firstLength (h .«message_type»)) dropped
-
 -- ---- a later piece
 
 -- "type, transaction, total and expected number must all match a pending message"; no message has more than 4,096 bytes of information
@@ -138,13 +132,13 @@ joinOf (Fault r) p = judged.Refused r
 
 -- ---- any piece s: refused, or its information from a place on joins a message
 
-unfoldable pub judgedBy : Progress → List ℕ → Fragment → Judged
-judgedBy p s (fragment.Refused r) = judged.Refused r
-judgedBy p s (fragment.Header h) =
-    cond (eqb (h .number) 0) (startOf (isPending p) h (firstHeaderOf s)) (joinOf (judge (joinRules p h (length s))) p)
+unfoldable pub judgedBy : Progress → ℕ → Fragment → Judged
+judgedBy p n (fragment.Refused r) = judged.Refused r
+judgedBy p n (fragment.First h f) = judged.Gathers (begunProgress h f) (firstLength (h .«message_type»)) (isPending p)
+judgedBy p n (fragment.Later h) = joinOf (judge (joinRules p h n)) p
 
 unfoldable pub judgedOf : Progress → List ℕ → Judged
-judgedOf p s = judgedBy p s (fragmentOf s)
+judgedOf p s = judgedBy p (length s) (fragmentOf s)
 
 -- ---- what feeding the piece s does, with room for so many bytes in the output
 
@@ -159,11 +153,11 @@ stepBy bytes s room (judged.Gathers p from dropped) = gatherOf (assemblyOf p (be
 unfoldable pub stepOf : Assembly → List ℕ → ℕ → Step
 stepOf a s room = stepBy (a .bytes) s room (judgedOf (a .progress) s)
 
--- with a buffer whose length only its caller knows: one that is not of 4,096 bytes is refused and stays as it was
+-- with a buffer whose length only its caller knows: one of fewer than 4,096 bytes is refused and stays as it was, of a longer one the first 4,096 are used
 unfoldable pub lentStepOf : Progress → List ℕ → List ℕ → ℕ → Step
 lentStepOf p bytes s room =
-    cond (eqb (length bytes) mostInformation) (stepOf (assemblyOf p bytes) s room) record {
-      assembly = assemblyOf (empty .progress) bytes;
+    cond (ltb (length bytes) mostInformation) record {
+      assembly = assemblyOf (empty .progress) [];
       answer = Refused (refusal outputTooSmall mostInformation);
       information = [];
-    }
+    } (stepOf (assemblyOf p (take mostInformation bytes)) s room)

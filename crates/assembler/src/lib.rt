@@ -1,12 +1,13 @@
 // Puts the fragments of one message together. `feed` takes and gives back the assembly by value;
 // `feed_in_place`, the core, works on a lent buffer and copies none of it. No payload is looked at.
-use message::First;
+// `door` takes any received piece.
+pub mod door;
+
 use message::FirstHeader;
 use message::Fragment;
 use message::FragmentHeader;
 use message::MessageHeader;
 use message::is_wrong_amount;
-use message::judge_first;
 use message::judge_fragment;
 use message::length_place;
 use protocol::MOST_INFORMATION;
@@ -24,8 +25,8 @@ ghost use Prim.Native.Nat.{_+_, _≤_, _<_};
 ghost use lib.ListN.{length, take, replicate};
 ghost use Rattle.wire.specs.Runs.{over};
 ghost use Rattle.protocol.specs.Verdict.{judge};
-ghost use Rattle.message.specs.Message.{firstHeaderOf};
-ghost use Rattle.assembler.specs.Assembly.{assemblyOf, empty, byValue, inPlace, refused, grownProgress, gatherOf, begunProgress, begunBytes, startOf, continues, joinRules, joinOf, judgedOf, stepOf, lentStepOf};
+ghost use Rattle.message.specs.Message.{firstLength};
+ghost use Rattle.assembler.specs.Assembly.{assemblyOf, empty, byValue, inPlace, refused, grownProgress, gatherOf, begunProgress, begunBytes, continues, joinRules, joinOf, judgedOf, stepOf, lentStepOf};
 
 // How far the pending message has come: 01's assembly without its buffer. Total 0 is no message.
 pub struct Progress {
@@ -141,16 +142,17 @@ pub fn feed_in_place(
     ensures { λ _. ⌜ now (bytes .exit) ≡ stepOf (assemblyOf progress (now (bytes .entry))) (now (piece .entry)) (length (now (out .entry))) .assembly .bytes ⌝ }
     ensures { λ _. ⌜ now (out .exit) ≡ over (stepOf (assemblyOf progress (now (bytes .entry))) (now (piece .entry)) (length (now (out .entry))) .information) (now (out .entry)) ⌝ }
 {
-    feed_lent(progress, &mut bytes[..], piece, out)
+    feed_whole(progress, &mut bytes[..], piece, out)
 }
 
-// The same with a buffer whose length only its caller knows: another one than 4,096 is refused.
+// The same with a buffer whose length only its caller knows: a smaller one than 4,096 is refused, of a
+// larger one the first 4,096 bytes are used.
 pub fn feed_lent(progress: Progress, bytes: &mut [u8], piece: &[u8], out: &mut [u8]) -> FedInPlace
     ensures { λ r. ⌜ r ≡ inPlace (lentStepOf progress (now (bytes .entry)) (now (piece .entry)) (length (now (out .entry)))) ⌝ }
-    ensures { λ _. ⌜ now (bytes .exit) ≡ lentStepOf progress (now (bytes .entry)) (now (piece .entry)) (length (now (out .entry))) .assembly .bytes ⌝ }
+    ensures { λ _. ⌜ now (bytes .exit) ≡ over (lentStepOf progress (now (bytes .entry)) (now (piece .entry)) (length (now (out .entry))) .assembly .bytes) (now (bytes .entry)) ⌝ }
     ensures { λ _. ⌜ now (out .exit) ≡ over (lentStepOf progress (now (bytes .entry)) (now (piece .entry)) (length (now (out .entry))) .information) (now (out .entry)) ⌝ }
 {
-    if bytes.len() != MOST_INFORMATION {
+    if bytes.len() < MOST_INFORMATION {
         let progress = Progress::none();
         let answer = Answer::Refused(Refusal {
             number: OUTPUT_TOO_SMALL,
@@ -158,7 +160,7 @@ pub fn feed_lent(progress: Progress, bytes: &mut [u8], piece: &[u8], out: &mut [
         });
         return FedInPlace { progress, answer };
     }
-    feed_whole(progress, bytes, piece, out)
+    feed_whole(progress, &mut bytes[..MOST_INFORMATION], piece, out)
 }
 
 // The core, on a buffer of 4,096 bytes.
@@ -187,32 +189,20 @@ fn judge_piece(progress: Progress, piece: &[u8]) -> Judged
 {
     match judge_fragment(piece) {
         Fragment::Refused(refusal) => Judged::Refused(refusal),
-        Fragment::Header(header) => {
-            let number = header.number;
-            if number == 0 {
-                return start(0 < progress.total, header, piece);
-            }
-            join(progress, header, piece.len())
-        }
+        Fragment::First { header, first } => Judged::Gathers {
+            progress: begin(header, first),
+            from: first_length(header.message_type),
+            dropped: 0 < progress.total,
+        },
+        Fragment::Later(header) => join(progress, header, piece.len()),
     }
 }
 
-// A first piece, with the header that every fragment has.
-fn start(dropped: bool, header: FragmentHeader, piece: &[u8]) -> Judged
-    ensures { λ r. ⌜ r ≡ startOf dropped header (firstHeaderOf (now (piece .entry))) ⌝ }
+// The bytes before a first fragment's information.
+fn first_length(message_type: u32) -> usize
+    ensures { λ r. ⌜ r ≡ firstLength «message_type» ⌝ }
 {
-    match judge_first(piece) {
-        First::Refused(refusal) => Judged::Refused(refusal),
-        First::Header(first) => {
-            let from = length_place(header.message_type) + 4;
-            let progress = begin(header, first);
-            Judged::Gathers {
-                progress,
-                from,
-                dropped,
-            }
-        }
-    }
+    length_place(message_type) + 4
 }
 
 // A later piece of n bytes, with the header that every fragment has.

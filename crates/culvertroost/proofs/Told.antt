@@ -21,7 +21,7 @@ use Rattle.pairs.specs.Pair.{rangeAt, unfit, rules as pairRules, verdictOf as p
 use Rattle.pairs.specs.declared.Range.{Range}
 use Rattle.pairs.specs.declared.PairKind.{PairKind}
 use Rattle.pairs.specs.declared.PairKind.the-variants.{Text, List as ListKind}
-use Rattle.handshake.specs.Versions.{numberVerdict, versionOf}
+use Rattle.handshake.specs.Versions.{numberVerdict, versionOf, numberedBy, numbered}
 use Rattle.version_info.specs.declared.VersionInfo.{VersionInfo}
 use Rattle.version_info.specs.VersionInfo as version
 use Rattle.packet_service.specs.declared.PacketForm.{PacketForm}
@@ -47,7 +47,7 @@ use Rattle.device_services.specs.DeviceServices as services
 use Rattle.services_query.specs.ServicesQuery as query
 use Rattle.services_writer.specs.declared.ServiceList.{ServiceList}
 use Rattle.services_writer.specs.ServicesWriter as writer
-use Rattle.flat.specs.Answers.{numberedBy, numbered, goOn, atVersion}
+use Rattle.flat.specs.Answers.{goOn, atVersion}
 use Rattle.flat.specs.declared.packets.PacketServiceInfo.{PacketServiceInfo}
 use Rattle.flat.specs.declared.registrations.RegistrationInfo.{RegistrationInfo}
 use Rattle.flat.specs.declared.signals.SignalStateInfo.{SignalStateInfo}

@@ -1,5 +1,5 @@
 pub mod Packets
 pub mod Registrations
 pub mod Signals
-pub mod Ends
+pub mod Modems
 pub mod Claims

@@ -1,34 +1,30 @@
-// The assembly, for C, in memory that the caller lends.
-use flat::messages::FeedInfo;
-use flat::messages::feed_info;
-use flat::no_refusal;
+// The assembly, for C, in memory that the caller lends: the door for a received piece.
+use flat::messages::ReceiveInfo;
+use flat::messages::receive_info;
+use flat::refusal_of;
 use lent::assembly::empty;
-use lent::assembly::feed;
+use lent::assembly::receive;
 use protocol::Refusal;
-use protocol::Verdict;
 ghost use mathlib.Core.Path.{_≡_};
 ghost use lib.ListN.{length};
 ghost use Rattle.wire.specs.Runs.{over};
-ghost use Rattle.lent.specs.LentAssembly.{emptied, feedIn};
-ghost use Rattle.flat.specs.Messages.{feedInfo};
-ghost use Rattle.culvertroost.specs.Ends.{refusalOf};
+ghost use Rattle.lent.specs.LentAssembly.{emptied, receiveIn};
+ghost use Rattle.flat.specs.Answers.{refusalOf};
+ghost use Rattle.flat.specs.Messages.{receiveInfo};
 
 #[no_mangle]
 pub extern "C" fn cvr_assembly_empty(memory: &mut [u8]) -> Refusal
     ensures { λ r. ⌜ r ≡ refusalOf (emptied (now (memory .entry)) .verdict) ⌝ }
     ensures { λ _. ⌜ now (memory .exit) ≡ emptied (now (memory .entry)) .memory ⌝ }
 {
-    match empty(memory) {
-        Verdict::Fits => no_refusal(),
-        Verdict::Fault(refusal) => refusal,
-    }
+    refusal_of(empty(memory))
 }
 
 #[no_mangle]
-pub extern "C" fn cvr_assembly_feed(memory: &mut [u8], piece: &[u8], out: &mut [u8]) -> FeedInfo
-    ensures { λ r. ⌜ r ≡ feedInfo (feedIn (now (memory .entry)) (now (piece .entry)) (length (now (out .entry))) .answer) ⌝ }
-    ensures { λ _. ⌜ now (memory .exit) ≡ feedIn (now (memory .entry)) (now (piece .entry)) (length (now (out .entry))) .memory ⌝ }
-    ensures { λ _. ⌜ now (out .exit) ≡ over (feedIn (now (memory .entry)) (now (piece .entry)) (length (now (out .entry))) .information) (now (out .entry)) ⌝ }
+pub extern "C" fn cvr_receive(memory: &mut [u8], piece: &[u8], out: &mut [u8]) -> ReceiveInfo
+    ensures { λ r. ⌜ r ≡ receiveInfo (receiveIn (now (memory .entry)) (now (piece .entry)) (length (now (out .entry))) .received) ⌝ }
+    ensures { λ _. ⌜ now (memory .exit) ≡ receiveIn (now (memory .entry)) (now (piece .entry)) (length (now (out .entry))) .memory ⌝ }
+    ensures { λ _. ⌜ now (out .exit) ≡ over (receiveIn (now (memory .entry)) (now (piece .entry)) (length (now (out .entry))) .information) (now (out .entry)) ⌝ }
 {
-    feed_info(feed(memory, piece, out))
+    receive_info(receive(memory, piece, out))
 }

@@ -3,68 +3,41 @@ use flat::ends::AskInfo;
 use flat::ends::HostInfo;
 use flat::ends::ask_info;
 use flat::ends::host_info;
-use flat::no_refusal;
-use handshake::host::Ask;
-use handshake::host::Host;
-use handshake::host::HostAnswer;
-use handshake::host::HostMade;
-use handshake::host::HostStep;
-use handshake::host::close;
-use handshake::host::make;
-use handshake::host::next_command;
-use handshake::host::open;
-use handshake::host::services_reply;
-use handshake::host::version_reply;
-use lent::host::HOST_SIZE;
-use lent::host::HostHeld;
-use lent::host::host_at;
-use lent::host::put_host;
-use protocol::OUTPUT_TOO_SMALL;
+use flat::refusal_of;
+use lent::host::close;
+use lent::host::make;
+use lent::host::next_command;
+use lent::host::open;
+use lent::host::receive;
+use message::MessageHeader;
 use protocol::Refusal;
 ghost use mathlib.Core.Path.{_≡_};
-ghost use lib.Seq.{sets};
-ghost use Rattle.lent.specs.LentHost.{hostBytes};
-ghost use Rattle.handshake.specs.Host.{madeOf, openedOf, servicesReplyOf, versionReplyOf};
+ghost use Rattle.lent.specs.LentHost.{makeIn, openIn, closeIn, receiveIn, askIn};
+ghost use Rattle.flat.specs.Answers.{refusalOf};
 ghost use Rattle.flat.specs.Ends.{hostInfo, askInfo};
-ghost use Rattle.culvertroost.specs.Ends.{storeHost, makeHost, onHost, closing, askIn};
 
 #[no_mangle]
 pub extern "C" fn cvr_host_make(memory: &mut [u8], native: u16) -> Refusal
-    ensures { λ r. ⌜ r ≡ makeHost (now (memory .entry)) (madeOf native) .refusal ⌝ }
-    ensures { λ _. ⌜ now (memory .exit) ≡ makeHost (now (memory .entry)) (madeOf native) .memory ⌝ }
+    ensures { λ r. ⌜ r ≡ refusalOf (makeIn (now (memory .entry)) native .verdict) ⌝ }
+    ensures { λ _. ⌜ now (memory .exit) ≡ makeIn (now (memory .entry)) native .memory ⌝ }
 {
-    match make(native) {
-        HostMade::Made(host) => store(memory, host),
-        HostMade::Refused(refusal) => refusal,
-    }
+    refusal_of(make(memory, native))
 }
 
 #[no_mangle]
 pub extern "C" fn cvr_host_open(memory: &mut [u8], advertised: u16) -> HostInfo
-    ensures { λ r. ⌜ r ≡ hostInfo (onHost (now (memory .entry)) (λ h. openedOf h advertised) .answer) ⌝ }
-    ensures { λ _. ⌜ now (memory .exit) ≡ onHost (now (memory .entry)) (λ h. openedOf h advertised) .memory ⌝ }
+    ensures { λ r. ⌜ r ≡ hostInfo (openIn (now (memory .entry)) advertised .answer) ⌝ }
+    ensures { λ _. ⌜ now (memory .exit) ≡ openIn (now (memory .entry)) advertised .memory ⌝ }
 {
-    match host_at(memory) {
-        HostHeld::Held(host) => keep(memory, open(host, advertised)),
-        HostHeld::Refused(refusal) => host_info(HostAnswer::Refused(refusal)),
-    }
+    host_info(open(memory, advertised))
 }
 
 #[no_mangle]
 pub extern "C" fn cvr_host_close(memory: &mut [u8]) -> HostInfo
-    ensures { λ r. ⌜ r ≡ hostInfo (onHost (now (memory .entry)) closing .answer) ⌝ }
-    ensures { λ _. ⌜ now (memory .exit) ≡ onHost (now (memory .entry)) closing .memory ⌝ }
+    ensures { λ r. ⌜ r ≡ hostInfo (closeIn (now (memory .entry)) .answer) ⌝ }
+    ensures { λ _. ⌜ now (memory .exit) ≡ closeIn (now (memory .entry)) .memory ⌝ }
 {
-    match host_at(memory) {
-        HostHeld::Held(host) => {
-            let step = HostStep {
-                host: close(host),
-                answer: HostAnswer::Unchanged,
-            };
-            keep(memory, step)
-        }
-        HostHeld::Refused(refusal) => host_info(HostAnswer::Refused(refusal)),
-    }
+    host_info(close(memory))
 }
 
 #[no_mangle]
@@ -72,59 +45,17 @@ pub extern "C" fn cvr_host_next_command(memory: &[u8], out: &mut [u8]) -> AskInf
     ensures { λ r. ⌜ r ≡ askInfo (askIn (now (memory .entry)) (now (out .entry)) .answer) ⌝ }
     ensures { λ _. ⌜ now (out .exit) ≡ askIn (now (memory .entry)) (now (out .entry)) .output ⌝ }
 {
-    match host_at(memory) {
-        HostHeld::Held(host) => ask_info(next_command(host, out)),
-        HostHeld::Refused(refusal) => ask_info(Ask::Refused(refusal)),
-    }
+    ask_info(next_command(memory, out))
 }
 
 #[no_mangle]
-pub extern "C" fn cvr_host_services_reply(
+pub extern "C" fn cvr_host_receive(
     memory: &mut [u8],
-    status: u32,
-    payload: &[u8],
+    message: MessageHeader,
+    information: &[u8],
 ) -> HostInfo
-    ensures { λ r. ⌜ r ≡ hostInfo (onHost (now (memory .entry)) (λ h. servicesReplyOf h status (now (payload .entry))) .answer) ⌝ }
-    ensures { λ _. ⌜ now (memory .exit) ≡ onHost (now (memory .entry)) (λ h. servicesReplyOf h status (now (payload .entry))) .memory ⌝ }
+    ensures { λ r. ⌜ r ≡ hostInfo (receiveIn (now (memory .entry)) message (now (information .entry)) .answer) ⌝ }
+    ensures { λ _. ⌜ now (memory .exit) ≡ receiveIn (now (memory .entry)) message (now (information .entry)) .memory ⌝ }
 {
-    match host_at(memory) {
-        HostHeld::Held(host) => keep(memory, services_reply(host, status, payload)),
-        HostHeld::Refused(refusal) => host_info(HostAnswer::Refused(refusal)),
-    }
-}
-
-#[no_mangle]
-pub extern "C" fn cvr_host_version_reply(memory: &mut [u8], status: u32, payload: &[u8]) -> HostInfo
-    ensures { λ r. ⌜ r ≡ hostInfo (onHost (now (memory .entry)) (λ h. versionReplyOf h status (now (payload .entry))) .answer) ⌝ }
-    ensures { λ _. ⌜ now (memory .exit) ≡ onHost (now (memory .entry)) (λ h. versionReplyOf h status (now (payload .entry))) .memory ⌝ }
-{
-    match host_at(memory) {
-        HostHeld::Held(host) => keep(memory, version_reply(host, status, payload)),
-        HostHeld::Refused(refusal) => host_info(HostAnswer::Refused(refusal)),
-    }
-}
-
-// The end after a call, put back, and the call's answer.
-fn keep(memory: &mut [u8], step: HostStep) -> HostInfo
-    ensures { λ r. ⌜ r ≡ hostInfo (step .answer) ⌝ }
-    ensures { λ _. ⌜ now (memory .exit) ≡ sets (now (memory .entry)) 0 (hostBytes (step .host)) ⌝ }
-{
-    let host = step.host;
-    let answer = step.answer;
-    put_host(memory, host);
-    host_info(answer)
-}
-
-fn store(memory: &mut [u8], host: Host) -> Refusal
-    ensures { λ r. ⌜ r ≡ storeHost (now (memory .entry)) host .refusal ⌝ }
-    ensures { λ _. ⌜ now (memory .exit) ≡ storeHost (now (memory .entry)) host .memory ⌝ }
-{
-    if memory.len() < HOST_SIZE {
-        return Refusal {
-            number: OUTPUT_TOO_SMALL,
-            place: HOST_SIZE,
-        };
-    }
-    put_host(memory, host);
-    no_refusal()
+    host_info(receive(memory, message, information))
 }

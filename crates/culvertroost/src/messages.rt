@@ -1,20 +1,24 @@
 // Messages, for C: judged whole, cut, and what one shows.
 use cutter::cut;
 use cutter::next_transaction;
+use flat::WrittenAnswer;
 use flat::messages::CutInfo;
 use flat::messages::KindInfo;
 use flat::messages::WholeInfo;
 use flat::messages::cut_info;
 use flat::messages::kind_info;
 use flat::messages::whole_info;
+use flat::written_answer;
 use message::MessageHeader;
 use message::judge_whole;
+use message::write_whole;
 use payload::payload_of;
 ghost use mathlib.Core.Path.{_≡_};
-ghost use Rattle.message.specs.Message.{wholeOf};
+ghost use Rattle.message.specs.Message.{wholeOf, writeWholeOf};
 ghost use Rattle.cutter.specs.Cut.{cutOf};
 ghost use Rattle.cutter.specs.Transaction.{nextTransaction};
 ghost use Rattle.payload.specs.Payload.{shownOf};
+ghost use Rattle.flat.specs.Answers.{writtenAnswer};
 ghost use Rattle.flat.specs.Messages.{wholeInfo, cutInfo, kindInfo};
 
 #[no_mangle]
@@ -22,6 +26,19 @@ pub extern "C" fn cvr_message_judge(message: &[u8]) -> WholeInfo
     ensures { λ r. ⌜ r ≡ wholeInfo (wholeOf (now (message .entry))) ⌝ }
 {
     whole_info(judge_whole(message))
+}
+
+#[no_mangle]
+pub extern "C" fn cvr_message_write(
+    message_type: u32,
+    transaction: u32,
+    word: u32,
+    out: &mut [u8],
+) -> WrittenAnswer
+    ensures { λ r. ⌜ r ≡ writtenAnswer (writeWholeOf «message_type» transaction word (now (out .entry)) .answer) ⌝ }
+    ensures { λ _. ⌜ now (out .exit) ≡ writeWholeOf «message_type» transaction word (now (out .entry)) .output ⌝ }
+{
+    written_answer(write_whole(message_type, transaction, word, out))
 }
 
 #[no_mangle]

@@ -1,12 +1,12 @@
 // PACKET_SERVICE, for C. The number of the version is judged before anything else.
-use flat::Numbered;
 use flat::WrittenAnswer;
 use flat::packets::PacketServiceAnswer;
 use flat::packets::PacketServiceInfo;
 use flat::packets::answer_of;
 use flat::packets::record_of;
-use flat::version_at;
 use flat::written_answer;
+use handshake::Numbered;
+use handshake::version_at;
 use packet_service::PacketServiceRead;
 use packet_service::read;
 use packet_service::write;

@@ -1,12 +1,12 @@
 // REGISTER_STATE, for C. The number of the version is judged before anything else.
-use flat::Numbered;
 use flat::WrittenAnswer;
 use flat::registrations::RegistrationAnswer;
 use flat::registrations::RegistrationInfo;
 use flat::registrations::answer_of;
 use flat::registrations::record_of;
-use flat::version_at;
 use flat::written_answer;
+use handshake::Numbered;
+use handshake::version_at;
 use protocol::Written;
 use registration::RegistrationRead;
 use registration::read;

@@ -1,13 +1,13 @@
 // SIGNAL_STATE, for C. The number of the version is judged before anything else.
-use flat::Numbered;
 use flat::WrittenAnswer;
 use flat::signals::SignalStateAnswer;
 use flat::signals::SignalStateInfo;
 use flat::signals::answer_of;
 use flat::signals::record_of;
 use flat::signals::refused;
-use flat::version_at;
 use flat::written_answer;
+use handshake::Numbered;
+use handshake::version_at;
 use protocol::Written;
 use signal_state::read;
 use signal_state::write;

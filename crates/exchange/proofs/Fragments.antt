@@ -12,16 +12,19 @@ use Rattle.wire.specs.Numbers.{u32At}
 use Rattle.wire.proofs.Laws.{num-digits}
 use Rattle.protocol.specs.MessageType.{COMMAND, INDICATE-STATUS, isFragmented}
 use Rattle.protocol.specs.Service.{idAt, idBytes}
-use Rattle.message.specs.Message.{mostInformation, mostTransfer, fragmentOf, lengthPlace, firstLength, wordAt, messageAt, declaredAt, carriedBy, wrongWord, wrongAmount, firstHeaderOf}
+use Rattle.message.specs.Message.{mostInformation, mostTransfer, fragmentOf, lengthPlace, firstLength, wordAt, messageAt, declaredAt, carriedBy, wrongWord, wrongAmount}
+use Rattle.message.specs.declared.FragmentHeader.{FragmentHeader}
 use Rattle.message.specs.declared.MessageHeader.{MessageHeader}
 use Rattle.message.specs.declared.Fragment.the-variants as fragment
-use Rattle.message.specs.declared.First.the-variants as first
-use Rattle.message.proofs.Headers.{accepted-fragment, accepted-first}
+use Rattle.message.proofs.Headers.{accepted-later, accepted-opening}
 use Rattle.cutter.specs.Cut.{headerBytes, fragmentBytes, wordBytes, openingBytes, firstBytes}
 use Rattle.cutter.proofs.Stored.{length-fragment, length-opening, length-first}
 use Rattle.exchange.specs.Messages.{Fits32, carried}
 
 -- ---- any fragment
+
+abbrev pub headerOf : MessageHeader → ℕ → ℕ → FragmentHeader
+headerOf m total number = record { «message_type» = m .«message_type»; transaction = m .transaction; total = total; number = number }
 
 module _ (m : MessageHeader) (F : Fits32 m) (total number : ℕ) (xs : List ℕ) (total32 : total < 2 ^ 32) (number32 : number < 2 ^ 32) (fits : 20 + length xs < 2 ^ 32) where
   at-0 : u32At (fragmentBytes m total number xs) 0 ≡ m .«message_type»
@@ -44,14 +47,13 @@ module _ (m : MessageHeader) (F : Fits32 m) (total number : ℕ) (xs : List ℕ)
   unfolding fragmentBytes headerBytes u32At
   at-16 = num-digits 4 number [] number32
 
-  -- it is accepted with its own header
-  pub fragment-judged : isFragmented (m .«message_type») ≡ true → total ≤ 128 → number < total → 20 + length xs ≤ mostTransfer
-      → fragmentOf (fragmentBytes m total number xs)
-      ≡ fragment.Header (record { «message_type» = m .«message_type»; transaction = m .transaction; total = total; number = number })
-  fragment-judged known few less short =
-      accepted-fragment (fragmentBytes m total number xs) (rw length-fragment (omega arith)) (at-4 ∙ sym (length-fragment m total number xs))
-      (rw length-fragment short) (ap isFragmented at-0 ∙ known) (rw at-12 (omega arith)) (rw at-12 few) (rw (at-16, at-12) less)
-      ∙ (λ i. fragment.Header (record { «message_type» = at-0 i; transaction = at-8 i; total = at-12 i; number = at-16 i }))
+  -- a later one is accepted with its own header
+  pub later-judged : isFragmented (m .«message_type») ≡ true → total ≤ 128 → number < total → 0 < number → 20 + length xs ≤ mostTransfer
+      → fragmentOf (fragmentBytes m total number xs) ≡ fragment.Later (headerOf m total number)
+  later-judged known few less later short =
+      accepted-later (fragmentBytes m total number xs) (rw length-fragment (omega arith)) (at-4 ∙ sym (length-fragment m total number xs))
+      (rw length-fragment short) (ap isFragmented at-0 ∙ known) (rw at-12 (omega arith)) (rw at-12 few) (rw (at-16, at-12) less) (rw at-16 later)
+      ∙ (λ i. fragment.Later (record { «message_type» = at-0 i; transaction = at-8 i; total = at-12 i; number = at-16 i }))
 
 pub drop-fragment : (m : MessageHeader) (total number : ℕ) (xs : List ℕ) → drop 20 (fragmentBytes m total number xs) ≡ xs
 unfolding fragmentBytes headerBytes
@@ -132,18 +134,21 @@ module _ (m : MessageHeader) (F : Fits32 m) (total n : ℕ) (xs : List ℕ) (few
   carried-read =
       (λ i. length-first m total n xs i - firstLength (first-0 i)) ∙ omega arith
 
-  pub first-fragment : isFragmented (m .«message_type») ≡ true → 0 < total
-      → fragmentOf (firstBytes m total n xs) ≡ fragment.Header (record { «message_type» = m .«message_type»; transaction = m .transaction; total = total; number = 0 })
+  first-4 : u32At (firstBytes m total n xs) 4 ≡ length (firstBytes m total n xs)
   unfolding firstBytes
-  first-fragment known some =
-      fragment-judged m F total 0 (openingBytes m n ++ xs) (omega arith) (omega arith) (omega (arith, fits)) known few some fits
+  first-4 = at-4 m F total 0 (openingBytes m n ++ xs) (omega arith) (omega arith) (omega (arith, fits)) ∙ sym (length-fragment m total 0 (openingBytes m n ++ xs))
 
-  pub first-judged : wrongWord m ≡ false → wrongAmount (eqb total 1) (length xs) n ≡ false
-      → firstHeaderOf (firstBytes m total n xs) ≡ first.Header (record { message = carried m; «information_length» = n })
-  first-judged word amount =
-      accepted-first (firstBytes m total n xs) (rw (first-0, length-first) (omega arith)) (ap wrongWord message-read ∙ carried-word m word) (rw declared-read small)
+  first-16 : u32At (firstBytes m total n xs) 16 ≡ 0
+  unfolding firstBytes
+  first-16 = at-16 m F total 0 (openingBytes m n ++ xs) (omega arith) (omega arith) (omega (arith, fits))
+
+  pub first-judged : isFragmented (m .«message_type») ≡ true → 0 < total → wrongWord m ≡ false → wrongAmount (eqb total 1) (length xs) n ≡ false
+      → fragmentOf (firstBytes m total n xs) ≡ fragment.First (headerOf m total 0) (record { message = carried m; «information_length» = n })
+  first-judged known some word amount =
+      accepted-opening (firstBytes m total n xs) first-4 (rw length-first short) (ap isFragmented first-0 ∙ known) (rw first-12 some) (rw first-12 few) first-16
+      (rw (first-0, length-first) (omega arith)) (ap wrongWord message-read ∙ carried-word m word) (rw declared-read small)
       ((λ i. wrongAmount (eqb (first-12 i) 1) (carried-read i) (declared-read i)) ∙ amount)
-      ∙ (λ i. first.Header (record { message = message-read i; «information_length» = declared-read i }))
+      ∙ (λ i. fragment.First (record { «message_type» = first-0 i; transaction = first-8 i; total = first-12 i; number = first-16 i }) (record { message = message-read i; «information_length» = declared-read i }))
 
 pub drop-first : (m : MessageHeader) (total n : ℕ) (xs : List ℕ) → drop (firstLength (m .«message_type»)) (firstBytes m total n xs) ≡ xs
 unfolding firstBytes

@@ -16,10 +16,9 @@ use Rattle.protocol.specs.Verdict.{judge}
 use Rattle.protocol.specs.declared.Verdict.the-variants.{Fits}
 use Rattle.protocol.proofs.Verdicts.{kept-fits}
 use Rattle.message.specs.Message.{mostInformation, mostTransfer, firstLength, wrongWord, wrongAmount}
-use Rattle.message.specs.declared.FragmentHeader.{FragmentHeader}
 use Rattle.message.specs.declared.MessageHeader.{MessageHeader}
 use Rattle.message.proofs.Headers.{right-all, right-less}
-use Rattle.assembler.specs.Assembly.{Step, assemblyOf, empty, isPending, refused, waiting, completed, grown, gatherOf, startOf, continues, joinRules, joinOf, judgedBy, judgedOf, begunBytes, stepBy, stepOf}
+use Rattle.assembler.specs.Assembly.{Step, assemblyOf, empty, isPending, refused, waiting, completed, grown, gatherOf, continues, joinRules, joinOf, judgedBy, judgedOf, begunBytes, stepBy, stepOf}
 use Rattle.assembler.specs.Run.{Seen, Run, seenOf, andThen, runOf}
 use Rattle.assembler.specs.declared.Assembly.{Assembly}
 use Rattle.assembler.specs.declared.Answer.the-variants.{Pending, Complete, Refused}
@@ -27,7 +26,7 @@ use Rattle.protocol.specs.Refusal.{refusal, outputTooSmall}
 use Rattle.cutter.specs.Cut.{fragmentBytes, firstBytes, laterFragments, fragmentsBy}
 use Rattle.cutter.proofs.Stored.{length-fragment}
 use Rattle.exchange.specs.Messages.{Fits32, carried, pieces, received}
-use Rattle.exchange.proofs.Fragments.{fragment-judged, drop-fragment, first-fragment, first-judged, drop-first}
+use Rattle.exchange.proofs.Fragments.{headerOf, later-judged, drop-fragment, first-judged, drop-first}
 
 -- an assembly in the middle of m: `number` comes next, and the first `gathered` of `bytes` are there
 abbrev held : MessageHeader → ℕ → ℕ → ℕ → ℕ → List ℕ → Assembly
@@ -41,13 +40,13 @@ module _ (m : MessageHeader) (F : Fits32 m) (known : isFragmented (m .«message_
   first-step : (a : Assembly) (room n : ℕ) (xs : List ℕ) → 0 < total → wrongWord m ≡ false → n ≤ mostInformation → firstLength (m .«message_type») + length xs ≤ mostTransfer
       → wrongAmount (eqb total 1) (length xs) n ≡ false
       → stepOf a (firstBytes m total n xs) room ≡ gatherOf (held m total n 0 0 (begunBytes (isPending (a .progress)) (a .bytes))) xs (isPending (a .progress)) room
-  unfolding stepOf stepBy judgedOf judgedBy startOf
+  unfolding stepOf stepBy judgedOf judgedBy
   first-step a room n xs some word small short amount =
-      rw (first-fragment m F total n xs few small short known some, first-judged m F total n xs few small short word amount, drop-first m total n xs)
+      rw (first-judged m F total n xs few small short known some word amount, drop-first m total n xs)
 
   continues-own : (declared number gathered : ℕ) (bytes : List ℕ) → declared ≤ mostInformation
       → continues (held m total declared number gathered bytes .progress)
-      (record { «message_type» = m .«message_type»; transaction = m .transaction; total = total; number = number }) ≡ true
+      (headerOf m total number) ≡ true
   unfolding continues carried
   continues-own declared number gathered bytes small =
       rw (eq-eqb (m .«message_type») (m .«message_type») refl, eq-eqb (m .transaction) (m .transaction) refl, eq-eqb total total refl, eq-eqb number number refl, le-leb declared 4096 small)
@@ -59,13 +58,12 @@ module _ (m : MessageHeader) (F : Fits32 m) (known : isFragmented (m .«message_
   unfolding stepOf stepBy judgedOf judgedBy joinOf begunBytes
   next-step declared number gathered bytes body room some less short small amount =
       let p = fragmentBytes m total number body in
-      let h : FragmentHeader = record { «message_type» = m .«message_type»; transaction = m .transaction; total = total; number = number } in
-      let some′ : number ≡ 0 → ⊥ = λ e. omega arith in
+      let h = headerOf m total number in
       let l : length p - 20 ≡ length body = omega (arith, length-fragment m total number body) in
       let fits : judge (joinRules (held m total declared number gathered bytes .progress) h (length p)) ≡ Fits =
       kept-fits (joinRules (held m total declared number gathered bytes .progress) h (length p))
       (rw (continues-own declared number gathered bytes small) refl, (ap (λ (k : ℕ). wrongAmount (eqb (number + 1) total) (gathered + k) declared) l ∙ amount, tt)) in
-      rw (fragment-judged m F total number body (omega arith) (omega arith) (omega arith) known few less short, ne-eqb number 0 some′, fits, drop-fragment m total number body)
+      rw (later-judged m F total number body (omega arith) (omega arith) (omega arith) known few less some short, fits, drop-fragment m total number body)
 
 gather-wait : (m : MessageHeader) (total declared number gathered : ℕ) (bytes xs : List ℕ) (d : Bool) (room : ℕ) → (number + 1 ≡ total → ⊥)
     → gatherOf (held m total declared number gathered bytes) xs d room ≡ waiting (held m total declared (number + 1) (gathered + length xs) (sets bytes gathered xs)) d

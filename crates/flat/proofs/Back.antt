@@ -5,7 +5,8 @@ use mathlib.Core.List.{List}
 use Rattle.protocol.specs.Verdict.{judgeFrom, firstOf, faultIf}
 use Rattle.protocol.specs.declared.Version.{Version}
 use Rattle.protocol.specs.declared.Version.the-variants.{V1, V2}
-use Rattle.handshake.specs.Versions.{numberOf, numberVerdict}
+use Rattle.handshake.specs.Versions.{numberOf, numberVerdict, numbered}
+use Rattle.handshake.specs.declared.Numbered.the-variants.{At}
 use Rattle.packet_service.specs.PacketService.{versionIn as packetIn, versionOf as packetVersion}
 use Rattle.packet_service.specs.declared.PacketForm.{PacketForm}
 use Rattle.packet_service.specs.declared.PacketForm.the-variants as packet
@@ -19,8 +20,6 @@ use Rattle.signal_state.specs.declared.RsrpSnr.{RsrpSnr}
 use Rattle.signal_state.specs.declared.SignalForm.{SignalForm}
 use Rattle.signal_state.specs.declared.SignalForm.the-variants as signal
 use Rattle.signal_state.specs.declared.SignalState.{SignalState}
-use Rattle.flat.specs.declared.Numbered.the-variants.{At}
-use Rattle.flat.specs.Answers.{numbered}
 use Rattle.flat.specs.Packets.{infoOf as packetInfo, recordOf as packetOf, formOf as packetForm, highestIn, currentIn, rangeIn}
 use Rattle.flat.specs.Registrations.{infoOf as registrationInfo, recordOf as registrationOf, formOf as registrationForm, preferredIn}
 use Rattle.flat.specs.Signals.{infoOf as signalInfo, recordOf as signalOf, formOf as signalForm, countIn}

@@ -9,9 +9,9 @@ use Rattle.protocol.specs.declared.Verdict.the-variants.{Fits, Fault}
 use Rattle.protocol.specs.declared.Version.{Version}
 use Rattle.protocol.specs.declared.Written.{Written}
 use Rattle.protocol.specs.declared.Written.the-variants.{Length, Refused as NotWritten}
-use Rattle.handshake.specs.Versions.{numberVerdict, versionOf}
-use Rattle.flat.specs.declared.Numbered.{Numbered}
-use Rattle.flat.specs.declared.Numbered.the-variants.{At, Refused}
+use Rattle.handshake.specs.Versions.{numbered}
+use Rattle.handshake.specs.declared.Numbered.{Numbered}
+use Rattle.handshake.specs.declared.Numbered.the-variants.{At, Refused}
 use Rattle.flat.specs.declared.WrittenAnswer.{WrittenAnswer}
 
 -- ---- no refusal
@@ -19,14 +19,11 @@ use Rattle.flat.specs.declared.WrittenAnswer.{WrittenAnswer}
 abbrev pub noRefusal : Refusal
 noRefusal = refusal 0 0
 
+abbrev pub refusalOf : Verdict → Refusal
+refusalOf Fits = noRefusal
+refusalOf (Fault r) = r
+
 -- ---- a version's number: "extension not 0100h or 0200h", 12 at 0
-
-abbrev pub numberedBy : Verdict → Version → Numbered
-numberedBy Fits v = At v
-numberedBy (Fault r) v = Refused r
-
-unfoldable pub numbered : ℕ → Numbered
-numbered n = numberedBy (numberVerdict n) (versionOf n)
 
 abbrev pub goOn : {A : Type 0} → Numbered → (Refusal → A) → (Version → A) → A
 goOn (At v) stop go = go v

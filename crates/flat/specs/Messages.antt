@@ -1,6 +1,7 @@
 -- Answers about messages as plain members: a refused one has all other members 0.
 use Prim.Native.Nat.{ℕ}
 use mathlib.Core.Bool.{Bool, cond}
+use Rattle.protocol.specs.declared.Refusal.{Refusal}
 use Rattle.protocol.specs.declared.service.Kind.{Kind}
 use Rattle.protocol.specs.declared.service.Kind.the-variants.{RegisterState, PacketService, SignalState, DeviceServices, VersionInfo}
 use Rattle.message.specs.declared.MessageHeader.{MessageHeader}
@@ -10,12 +11,12 @@ use Rattle.cutter.specs.declared.Cutting.{Cutting}
 use Rattle.cutter.specs.declared.Cutting.the-variants as cutting
 use Rattle.payload.specs.declared.Shown.{Shown}
 use Rattle.payload.specs.declared.Shown.the-variants as shown
-use Rattle.assembler.specs.declared.Answer.{Answer}
-use Rattle.assembler.specs.declared.Answer.the-variants.{Pending, Complete, Refused}
+use Rattle.assembler.specs.declared.door.Received.{Received}
+use Rattle.assembler.specs.declared.door.Received.the-variants.{Whole as WholeMessage, Pending, Complete, Refused}
 use Rattle.flat.specs.declared.messages.WholeInfo.{WholeInfo}
 use Rattle.flat.specs.declared.messages.CutInfo.{CutInfo}
 use Rattle.flat.specs.declared.messages.KindInfo.{KindInfo}
-use Rattle.flat.specs.declared.messages.FeedInfo.{FeedInfo}
+use Rattle.flat.specs.declared.messages.ReceiveInfo.{ReceiveInfo}
 use Rattle.flat.specs.Answers.{noRefusal}
 
 abbrev pub flagOf : Bool → ℕ
@@ -24,8 +25,8 @@ flagOf b = cond b 1 0
 -- ---- a whole message
 
 unfoldable pub wholeInfo : Whole → WholeInfo
-wholeInfo (whole.Message type transaction) = record { refusal = noRefusal; «message_type» = type; transaction = transaction }
-wholeInfo (whole.Refused r) = record { refusal = r; «message_type» = 0; transaction = 0 }
+wholeInfo (whole.Message type transaction word) = record { refusal = noRefusal; «message_type» = type; transaction = transaction; word = word }
+wholeInfo (whole.Refused r) = record { refusal = r; «message_type» = 0; transaction = 0; word = 0 }
 
 -- ---- a message cut
 
@@ -47,12 +48,23 @@ kindInfo (shown.Payload k) = record { refusal = noRefusal; kind = kindNumber k }
 kindInfo shown.NoPayload = record { refusal = noRefusal; kind = 0 }
 kindInfo (shown.Refused r) = record { refusal = r; kind = 0 }
 
--- ---- a piece fed
+-- ---- a piece received: 1 a whole message, 2 a fragment before others, 3 the last fragment of its message
 
-abbrev pub noMessage : MessageHeader
-noMessage = record { «message_type» = 0; transaction = 0; service = record { word0 = 0; word1 = 0; word2 = 0; word3 = 0 }; cid = 0; word = 0 }
+-- a message of which no more is known
+abbrev pub headOf : ℕ → ℕ → ℕ → MessageHeader
+headOf type transaction word = record {
+  «message_type» = type;
+  transaction = transaction;
+  service = record { word0 = 0; word1 = 0; word2 = 0; word3 = 0 };
+  cid = 0;
+  word = word;
+}
 
-unfoldable pub feedInfo : Answer → FeedInfo
-feedInfo (Pending d) = record { refusal = noRefusal; complete = 0; dropped = flagOf d; message = noMessage; length = 0 }
-feedInfo (Complete m n d) = record { refusal = noRefusal; complete = 1; dropped = flagOf d; message = m; length = n }
-feedInfo (Refused r) = record { refusal = r; complete = 0; dropped = 0; message = noMessage; length = 0 }
+abbrev pub receivedInfo : Refusal → ℕ → ℕ → MessageHeader → ℕ → ReceiveInfo
+receivedInfo r received dropped m n = record { refusal = r; received = received; dropped = dropped; message = m; length = n }
+
+unfoldable pub receiveInfo : Received → ReceiveInfo
+receiveInfo (WholeMessage type transaction word) = receivedInfo noRefusal 1 0 (headOf type transaction word) 0
+receiveInfo (Pending type transaction d) = receivedInfo noRefusal 2 (flagOf d) (headOf type transaction 0) 0
+receiveInfo (Complete m n d) = receivedInfo noRefusal 3 (flagOf d) m n
+receiveInfo (Refused r) = receivedInfo r 0 0 (headOf 0 0 0) 0

@@ -4,11 +4,13 @@ use crate::no_refusal;
 use handshake::host::Ask;
 use handshake::host::HostAnswer;
 use handshake::modem::ModemAnswer;
+use handshake::modem::ModemStage;
+use handshake::modem::NO_DEVICE_SUPPORT;
+use handshake::modem::settled_number;
 use handshake::number_of;
 use protocol::Refusal;
-use protocol::service::Carried;
 ghost use mathlib.Core.Path.{_≡_};
-ghost use Rattle.flat.specs.Ends.{eventInfo, hostInfo, askInfo, served, modemInfo};
+ghost use Rattle.flat.specs.Ends.{eventInfo, hostInfo, askInfo, failedInfo, modemInfo};
 
 // What a call did to the host's end: 0 nothing, 1 opened, 2 asks VERSION, 3 settled at the version.
 #[repr(C)]
@@ -28,15 +30,16 @@ pub struct AskInfo {
     pub length: usize,
 }
 
-// What the modem does with a command: 1 serves it, 2 answered VERSION with so many payload bytes, 3
-// failed it with the status. A command that is served and not known has kind 0 and the place of its
-// service or CID.
+// What the modem does with a command: 1 serves the kind, 2 answered VERSION with so many payload bytes,
+// 3 failed it with the status, 4 doesn't know its service or CID, which stands at the place. The version
+// is the one that it is settled at, or 0.
 #[repr(C)]
 pub struct ModemInfo {
     pub refusal: Refusal,
     pub action: u32,
     pub status: u32,
     pub kind: u32,
+    pub version: u16,
     pub place: usize,
     pub length: usize,
 }
@@ -95,36 +98,58 @@ pub fn ask_info(ask: Ask) -> AskInfo
     }
 }
 
-pub fn modem_info(answer: ModemAnswer) -> ModemInfo
-    ensures { λ r. ⌜ r ≡ modemInfo answer ⌝ }
+// What a message is answered, by an end that is then at the stage.
+pub fn modem_info(answer: ModemAnswer, stage: ModemStage) -> ModemInfo
+    ensures { λ r. ⌜ r ≡ modemInfo answer stage ⌝ }
 {
     let refusal = no_refusal();
+    let version = settled_number(stage);
     match answer {
-        ModemAnswer::Serve(carried) => serve_info(carried),
+        ModemAnswer::Serve(kind) => ModemInfo {
+            refusal,
+            action: 1,
+            status: 0,
+            kind: kind_number(kind),
+            version,
+            place: 0,
+            length: 0,
+        },
         ModemAnswer::Version(length) => ModemInfo {
             refusal,
             action: 2,
             status: 0,
             kind: 0,
+            version,
             place: 0,
             length,
         },
-        ModemAnswer::Failed(status) => ModemInfo {
-            refusal,
-            action: 3,
-            status,
-            kind: 0,
-            place: 0,
-            length: 0,
-        },
+        ModemAnswer::Failed(status) => failed_info(3, status, version, 0),
+        ModemAnswer::Unknown(place) => failed_info(4, NO_DEVICE_SUPPORT, version, place),
         ModemAnswer::Refused(refusal) => ModemInfo {
             refusal,
             action: 0,
             status: 0,
             kind: 0,
+            version: 0,
             place: 0,
             length: 0,
         },
+    }
+}
+
+// A command that is to be answered by a status alone.
+fn failed_info(action: u32, status: u32, version: u16, place: usize) -> ModemInfo
+    ensures { λ r. ⌜ r ≡ failedInfo action status version place ⌝ }
+{
+    let refusal = no_refusal();
+    ModemInfo {
+        refusal,
+        action,
+        status,
+        kind: 0,
+        version,
+        place,
+        length: 0,
     }
 }
 
@@ -136,29 +161,5 @@ fn event_info(event: u32, version: u16) -> HostInfo
         refusal,
         event,
         version,
-    }
-}
-
-fn serve_info(carried: Carried) -> ModemInfo
-    ensures { λ r. ⌜ r ≡ served carried ⌝ }
-{
-    let refusal = no_refusal();
-    match carried {
-        Carried::Payload(kind) => ModemInfo {
-            refusal,
-            action: 1,
-            status: 0,
-            kind: kind_number(kind),
-            place: 0,
-            length: 0,
-        },
-        Carried::Refused(unknown) => ModemInfo {
-            refusal,
-            action: 1,
-            status: 0,
-            kind: 0,
-            place: unknown.place,
-            length: 0,
-        },
     }
 }

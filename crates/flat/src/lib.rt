@@ -1,5 +1,5 @@
 // Plain structs in C's layout for records and answers, and the way from one to the other: one module
-// a payload or part. Nothing is judged here but the number of a version.
+// a payload or part. Nothing is judged here.
 pub mod ends;
 pub mod messages;
 pub mod packets;
@@ -9,36 +9,17 @@ pub mod services;
 pub mod signals;
 pub mod versions;
 
-use handshake::judge_number;
-use handshake::version_of;
 use protocol::Refusal;
 use protocol::Verdict;
-use protocol::Version;
 use protocol::Written;
 ghost use mathlib.Core.Path.{_≡_};
-ghost use Rattle.flat.specs.Answers.{noRefusal, numbered, writtenAnswer};
-
-// What a BCD number stands for.
-pub enum Numbered {
-    At(Version),
-    Refused(Refusal),
-}
+ghost use Rattle.flat.specs.Answers.{noRefusal, refusalOf, writtenAnswer};
 
 // What a writer answers: the length is 0 where it refuses.
 #[repr(C)]
 pub struct WrittenAnswer {
     pub refusal: Refusal,
     pub length: usize,
-}
-
-// The number is judged before anything else.
-pub fn version_at(number: u16) -> Numbered
-    ensures { λ r. ⌜ r ≡ numbered number ⌝ }
-{
-    match judge_number(number) {
-        Verdict::Fits => Numbered::At(version_of(number)),
-        Verdict::Fault(refusal) => Numbered::Refused(refusal),
-    }
 }
 
 // What stands beside an answer that is no refusal.
@@ -48,6 +29,15 @@ pub fn no_refusal() -> Refusal
     Refusal {
         number: 0,
         place: 0,
+    }
+}
+
+pub fn refusal_of(verdict: Verdict) -> Refusal
+    ensures { λ r. ⌜ r ≡ refusalOf verdict ⌝ }
+{
+    match verdict {
+        Verdict::Fits => no_refusal(),
+        Verdict::Fault(refusal) => refusal,
     }
 }
 

@@ -1,6 +1,6 @@
 // Answers about messages as plain members.
 use crate::no_refusal;
-use assembler::Answer;
+use assembler::door::Received;
 use cutter::Cutting;
 use message::MessageHeader;
 use message::Whole;
@@ -9,7 +9,7 @@ use protocol::Refusal;
 use protocol::service::Kind;
 use protocol::service::ServiceId;
 ghost use mathlib.Core.Path.{_≡_};
-ghost use Rattle.flat.specs.Messages.{flagOf, kindNumber, noMessage, wholeInfo, cutInfo, kindInfo, feedInfo};
+ghost use Rattle.flat.specs.Messages.{flagOf, kindNumber, wholeInfo, cutInfo, kindInfo, headOf, receiveInfo};
 
 // A whole message.
 #[repr(C)]
@@ -17,6 +17,7 @@ pub struct WholeInfo {
     pub refusal: Refusal,
     pub message_type: u32,
     pub transaction: u32,
+    pub word: u32,
 }
 
 // A message cut: how many fragments, and their length together.
@@ -34,11 +35,12 @@ pub struct KindInfo {
     pub kind: u32,
 }
 
-// A piece fed: the message and its information's length where it is complete.
+// A piece received: 1 a whole message, 2 a fragment before others, 3 the last fragment of a message with
+// so much information. What is not known yet of a message is 0.
 #[repr(C)]
-pub struct FeedInfo {
+pub struct ReceiveInfo {
     pub refusal: Refusal,
-    pub complete: u32,
+    pub received: u32,
     pub dropped: u32,
     pub message: MessageHeader,
     pub length: usize,
@@ -51,18 +53,21 @@ pub fn whole_info(whole: Whole) -> WholeInfo
         Whole::Message {
             message_type,
             transaction,
+            word,
         } => {
             let refusal = no_refusal();
             WholeInfo {
                 refusal,
                 message_type,
                 transaction,
+                word,
             }
         }
         Whole::Refused(refusal) => WholeInfo {
             refusal,
             message_type: 0,
             transaction: 0,
+            word: 0,
         },
     }
 }
@@ -106,45 +111,51 @@ pub fn kind_info(shown: Shown) -> KindInfo
     }
 }
 
-pub fn feed_info(answer: Answer) -> FeedInfo
-    ensures { λ r. ⌜ r ≡ feedInfo answer ⌝ }
+pub fn receive_info(received: Received) -> ReceiveInfo
+    ensures { λ r. ⌜ r ≡ receiveInfo received ⌝ }
 {
-    match answer {
-        Answer::Pending { dropped } => {
-            let refusal = no_refusal();
-            let message = no_message();
-            FeedInfo {
-                refusal,
-                complete: 0,
-                dropped: flag_of(dropped),
-                message,
-                length: 0,
-            }
-        }
-        Answer::Complete {
+    let refusal = no_refusal();
+    match received {
+        Received::Whole {
+            message_type,
+            transaction,
+            word,
+        } => ReceiveInfo {
+            refusal,
+            received: 1,
+            dropped: 0,
+            message: head_of(message_type, transaction, word),
+            length: 0,
+        },
+        Received::Pending {
+            message_type,
+            transaction,
+            dropped,
+        } => ReceiveInfo {
+            refusal,
+            received: 2,
+            dropped: flag_of(dropped),
+            message: head_of(message_type, transaction, 0),
+            length: 0,
+        },
+        Received::Complete {
             message,
             length,
             dropped,
-        } => {
-            let refusal = no_refusal();
-            FeedInfo {
-                refusal,
-                complete: 1,
-                dropped: flag_of(dropped),
-                message,
-                length,
-            }
-        }
-        Answer::Refused(refusal) => {
-            let message = no_message();
-            FeedInfo {
-                refusal,
-                complete: 0,
-                dropped: 0,
-                message,
-                length: 0,
-            }
-        }
+        } => ReceiveInfo {
+            refusal,
+            received: 3,
+            dropped: flag_of(dropped),
+            message,
+            length,
+        },
+        Received::Refused(refusal) => ReceiveInfo {
+            refusal,
+            received: 0,
+            dropped: 0,
+            message: head_of(0, 0, 0),
+            length: 0,
+        },
     }
 }
 
@@ -170,8 +181,9 @@ fn flag_of(b: bool) -> u32
     0
 }
 
-fn no_message() -> MessageHeader
-    ensures { λ r. ⌜ r ≡ noMessage ⌝ }
+// A message of which no more is known.
+fn head_of(message_type: u32, transaction: u32, word: u32) -> MessageHeader
+    ensures { λ r. ⌜ r ≡ headOf «message_type» transaction word ⌝ }
 {
     let service = ServiceId {
         word0: 0,
@@ -180,10 +192,10 @@ fn no_message() -> MessageHeader
         word3: 0,
     };
     MessageHeader {
-        message_type: 0,
-        transaction: 0,
+        message_type,
+        transaction,
         service,
         cid: 0,
-        word: 0,
+        word,
     }
 }

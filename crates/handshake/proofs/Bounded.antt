@@ -19,15 +19,17 @@ use Rattle.protocol.specs.declared.Written.the-variants as written
 use Rattle.protocol.specs.declared.service.Carried.{Carried}
 use Rattle.protocol.proofs.Tests.{or-cases, not-kept}
 use Rattle.protocol.proofs.Verdicts.{fits-kept}
+use Rattle.message.specs.declared.MessageHeader.{MessageHeader}
 use Rattle.version_info.specs.VersionInfo.{isExtension, readOf, writeOf}
 use Rattle.version_info.specs.declared.VersionInfoRead.{VersionInfoRead}
 use Rattle.version_info.specs.declared.VersionInfoRead.the-variants as read
 use Rattle.services_query.specs.declared.ListedAnswer.{ListedAnswer}
 use Rattle.services_query.specs.declared.ListedAnswer.the-variants as list
 use Rattle.handshake.specs.Versions.{numberVerdict, versionOf, infoOf, larger, lower, above}
-use Rattle.handshake.specs.Host.{end, openedBy, openedOf, versionListed, listRules, acceptedList, judgedList, listAt, listReply, servicesReplyOf, answeredAt, failedAt, answeredBy, versionReplyOf, madeBy, madeOf}
-use Rattle.handshake.specs.Modem.{end as modemEnd, plain, failed, listedStage, servicesOf, answerOf, gaveBy, gave, giveOf, answerBy, canAnswer, versionOfCommand, firstOther, otherAt, roleOf, commandBy, commandOf, madeRules, madeBy as modemMadeBy, madeOf as modemMadeOf}
-use Rattle.handshake.specs.Calls.{HostCall, host-opens, host-closes, services-reply, version-reply, hostAfter, hostAfterAll, HostSound, ModemCall, modem-opens, modem-closes, command, modemAfter, modemAfterAll, ModemSoundAt, ModemSound}
+use Rattle.handshake.specs.Commands.{roleOf, versionListed}
+use Rattle.handshake.specs.Host.{end, openedBy, openedOf, listRules, acceptedList, judgedList, listAt, listReply, servicesReplyOf, answeredAt, failedAt, answeredBy, versionReplyOf, replyRole, receiveBy, receiveOf, madeBy, madeOf}
+use Rattle.handshake.specs.Modem.{end as modemEnd, plain, failed, listedStage, servicesOf, answerOf, gaveBy, gave, giveOf, answerBy, canAnswer, versionOfCommand, firstOther, otherAt, commandBy, commandOf, commandRules, receiveBy as commandedBy, receiveOf as modemReceives, madeRules, listedBy, madeBy as modemMadeBy, madeOf as modemMadeOf}
+use Rattle.handshake.specs.Calls.{HostCall, host-opens, host-closes, host-receives, hostAfter, hostAfterAll, HostSound, ModemCall, modem-opens, modem-closes, modem-receives, modemAfter, modemAfterAll, ModemSoundAt, ModemSound}
 use Rattle.handshake.specs.declared.host.HostStage.{HostStage}
 use Rattle.handshake.specs.declared.host.HostStage.the-variants as host
 use Rattle.handshake.specs.declared.host.Host.{Host}
@@ -37,8 +39,8 @@ use Rattle.handshake.specs.declared.modem.ModemStage.{ModemStage}
 use Rattle.handshake.specs.declared.modem.ModemStage.the-variants as modem
 use Rattle.handshake.specs.declared.modem.Modem.{Modem}
 use Rattle.handshake.specs.declared.modem.ModemMade.the-variants as modemMade
-use Rattle.handshake.specs.declared.modem.Role.{Role}
-use Rattle.handshake.specs.declared.modem.Role.the-variants as role
+use Rattle.handshake.specs.declared.Role.{Role}
+use Rattle.handshake.specs.declared.Role.the-variants as role
 
 -- ---- the host
 
@@ -99,12 +101,17 @@ unfolding answeredBy
 payload-kept (read.Info i) h k = answered-kept (h .stage) h (versionOf (i .«bcd_mbim_extended_version»)) k k
 payload-kept (read.Refused r) h k = (refl, k)
 
+message-kept : (x : Role) (h : Host) (status : ℕ) (s : List ℕ) → HostSound (h .native) (h .stage) → HostKept (h .native) (receiveBy x h status s .host)
+unfolding receiveBy servicesReplyOf versionReplyOf
+message-kept role.Services h status s k = either (h .native) (eqb status 0) _ _ (reply-kept (versionListed s) h k) (refl, k)
+message-kept role.Version h status s k = either (h .native) (eqb status 0) _ _ (payload-kept (readOf s) h k) (failed-kept (h .stage) h k k)
+message-kept role.Other h status s k = (refl, k)
+
 host-kept : (h : Host) (c : HostCall) → HostSound (h .native) (h .stage) → HostKept (h .native) (hostAfter h c)
-unfolding hostAfter openedOf servicesReplyOf versionReplyOf
+unfolding hostAfter openedOf receiveOf
 host-kept h (host-opens a) k = opened-kept (numberVerdict a) h (versionOf a) k
 host-kept h host-closes k = (refl, tt)
-host-kept h (services-reply status s) k = either (h .native) (eqb status 0) _ _ (reply-kept (versionListed s) h k) (refl, k)
-host-kept h (version-reply status s) k = either (h .native) (eqb status 0) _ _ (payload-kept (readOf s) h k) (failed-kept (h .stage) h k k)
+host-kept h (host-receives m s) k = message-kept (replyRole m) h (m .word) s k
 
 sound-again : (n : Version) (h : Host) → HostKept n h → HostSound (h .native) (h .stage)
 sound-again n h k = rw (k .0) (k .1)
@@ -168,11 +175,16 @@ role-kept role.Services m c type s out k = (refl, (k .0, stage-sound (m .native)
 role-kept role.Version m c type s out k = version-kept (canAnswer m type) m (readOf s) out k
 role-kept role.Other m c type s out k = other-kept (m .stage) m c k
 
+verdict-kept : (d : Verdict) (m : Modem) (h : MessageHeader) (s out : List ℕ) → ModemSound m → ModemKept m (commandedBy d m h s out .step .modem)
+unfolding commandedBy commandOf
+verdict-kept Fits m h s out k = role-kept (roleOf (kindOf (h .service) (h .cid))) m (kindOf (h .service) (h .cid)) (h .word) s out k
+verdict-kept (Fault r) m h s out k = (refl, k)
+
 modem-kept : (m : Modem) (c : ModemCall) → ModemSound m → ModemKept m (modemAfter m c)
-unfolding modemAfter commandOf
+unfolding modemAfter modemReceives
 modem-kept m modem-opens k = (refl, (k .0, tt))
 modem-kept m modem-closes k = (refl, (k .0, tt))
-modem-kept m (command service cid type s out) k = role-kept (roleOf (kindOf service cid)) m (kindOf service cid) type s out k
+modem-kept m (modem-receives h s out) k = verdict-kept (judge (commandRules h)) m h s out k
 
 pub modem-bounded : (m : Modem) (cs : List ModemCall) → ModemSound m → ModemKept m (modemAfterAll m cs)
 unfolding modemAfterAll
@@ -200,9 +212,18 @@ host-never-above native h e cs v q =
     let w : hostAfterAll (end (versionOf native) host.Closed) cs .stage ≡ host.Settled v = rw p at q in
     host-below (versionOf native) (hostAfterAll (end (versionOf native) host.Closed) cs .stage) v (k .1) w
 
-made-modem : (d : Verdict) (a m : Modem) → modemMadeBy d a ≡ modemMade.Made m → (d ≡ Fits) × (m ≡ a)
-made-modem Fits a m e = (refl, cc)
-made-modem (Fault r) a m e = let z : _≡_ {A = ℕ} 0 1 = cc in absurd (omega arith)
+-- a modem that is made has its numbers judged, and is at its start
+abbrev Started : ℕ → ℕ → Modem → Type 0
+Started native advertised m = (listed : Bool) × (m ≡ modemEnd (versionOf native) (versionOf advertised) listed modem.Start)
+
+listed-modem : (l : ListedAnswer) (n a : ℕ) (m : Modem) → listedBy l (versionOf n) (versionOf a) ≡ modemMade.Made m → Started n a m
+listed-modem list.Listed n a m e = (true, cc)
+listed-modem list.NotListed n a m e = (false, cc)
+listed-modem (list.Refused r) n a m e = let z : _≡_ {A = ℕ} 0 1 = cc in absurd (omega arith)
+
+made-modem : (d : Verdict) (n a : ℕ) (s : List ℕ) (m : Modem) → modemMadeBy d n a s ≡ modemMade.Made m → (d ≡ Fits) × Started n a m
+made-modem Fits n a s m e = (refl, listed-modem (versionListed s) n a m e)
+made-modem (Fault r) n a s m e = let z : _≡_ {A = ℕ} 0 1 = cc in absurd (omega arith)
 
 -- a number of the table
 known : (n : ℕ) → isExtension n ≡ true → (n ≡ 0x0100) ⊎ (n ≡ 0x0200)
@@ -228,11 +249,11 @@ made-sound native advertised listed e =
 settled-below : (n : Version) (g : ModemStage) (v : Version) → ModemSoundAt n g → g ≡ modem.Settled v → above v n ≡ false
 settled-below n g v k e = rw e at k
 
-pub modem-never-above : (native advertised : ℕ) (listed : Bool) (m : Modem) → modemMadeOf native advertised listed ≡ modemMade.Made m
+pub modem-never-above : (native advertised : ℕ) (s : List ℕ) (m : Modem) → modemMadeOf native advertised s ≡ modemMade.Made m
     → (cs : List ModemCall) (v : Version) → modemAfterAll m cs .stage ≡ modem.Settled v → above v (m .native) ≡ false
 unfolding modemMadeOf
-modem-never-above native advertised listed m e cs v q =
-    let p = made-modem (judge (madeRules native advertised)) _ m e in
-    let s : ModemSound m = rw (p .1) (made-sound native advertised listed (p .0)) in
-    let b = modem-bounded m cs s in
+modem-never-above native advertised s m e cs v q =
+    let p = made-modem (judge (madeRules native advertised)) native advertised s m e in
+    let k : ModemSound m = rw (p .1 .1) (made-sound native advertised (p .1 .0) (p .0)) in
+    let b = modem-bounded m cs k in
     rw (b .0) at (settled-below (modemAfterAll m cs .native) (modemAfterAll m cs .stage) v (b .1 .1) q)

@@ -9,7 +9,8 @@ use Rattle.protocol.specs.Verdict.{judgeFrom, firstOf, faultIf}
 use Rattle.protocol.specs.declared.Version.{Version}
 use Rattle.protocol.specs.declared.Version.the-variants.{V1, V2}
 use Rattle.handshake.specs.Versions.{above, isLater}
-use Rattle.handshake.specs.Host.{end, versionListed, listRules, listAt, listReply, servicesReplyOf, refusedWith}
+use Rattle.handshake.specs.Host.{end, listRules, listAt, listReply, servicesReplyOf, refusedWith}
+use Rattle.handshake.specs.Commands.{versionListed}
 use Rattle.handshake.specs.Run.{listedAs}
 use Rattle.handshake.specs.declared.host.HostStage.the-variants.{Open}
 

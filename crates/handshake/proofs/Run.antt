@@ -1,36 +1,43 @@
 -- The run of demand 3 on the level of the ends: from ends just opened both settle on the rule's version, never above either native version,
 -- or the host refuses, exactly in the two cases and before its next command. Assumes nothing.
-use Prim.Native.Nat.{ℕ, _≤_}
+use Prim.Native.Nat.{ℕ, _≤_, _<_}
 use mathlib.Core.Path.{_≡_, refl}
 use mathlib.Core.Bool.{Bool, true, false}
-use mathlib.Core.List.{List}
+use mathlib.Core.List.{List, [], _∷_}
 use native.Mathlib.Omega.{arith}
+use borrow.Author.Tests.{ne-eqb}
+use lib.Dec.{eqb}
 use lib.ListN.{length, take}
 use Rattle.wire.specs.Numbers.{u32At}
 use Rattle.protocol.specs.Service.{basicConnect, extensions, idAt, sameId, among, kindOf}
-use Rattle.protocol.specs.Verdict.{judgeFrom, firstOf, faultIf}
+use Rattle.protocol.specs.Verdict.{judge, judgeFrom, firstOf, faultIf}
 use Rattle.protocol.specs.declared.Verdict.the-variants.{Fits}
 use Rattle.protocol.specs.declared.Version.{Version}
 use Rattle.protocol.specs.declared.Version.the-variants.{V1, V2}
 use Rattle.protocol.specs.declared.Written.the-variants.{Length}
 use Rattle.protocol.specs.declared.service.Kind.the-variants.{DeviceServices, VersionInfo}
-use Rattle.protocol.specs.declared.service.Carried.the-variants.{Payload}
-use Rattle.protocol.proofs.Verdicts.{both-written}
+use Rattle.protocol.specs.declared.service.Carried.{Carried}
+use Rattle.protocol.specs.declared.service.Carried.the-variants.{Payload, Refused}
+use Rattle.protocol.specs.MessageType.{COMMAND, COMMAND-DONE}
+use Rattle.protocol.proofs.Verdicts.{both-written, written-front, kept-fits}
 use Rattle.version_info.specs.VersionInfo.{rules, verdictOf, readOf, bytesOf, writeOf}
 use Rattle.version_info.specs.declared.VersionInfoRead.the-variants.{Info}
 use Rattle.version_info.proofs.RoundTrip.{round-trip}
 use Rattle.handshake.specs.Versions.{numberOf, numberVerdict, versionOf, infoOf, larger, lower, above}
-use Rattle.handshake.specs.Host.{end, settledAt, madeOf, openedOf, askOf, versionCid, versionListed, listRules, listAt, answeredAt, answeredBy, versionReplyOf}
-use Rattle.handshake.specs.Modem.{end as modemEnd, madeRules, madeOf as modemMadeOf, startOf, roleOfKind, roleOf, servicesOf, gave, giveOf, answerBy, canAnswer, versionOfCommand, otherAt, commandBy, commandOf}
-use Rattle.handshake.specs.Run.{Command, both, servicesCid, heardBy, answered, delivered, Rooms, turn, run, expected, Outcome, listedAs, Ready}
+use Rattle.message.specs.declared.MessageHeader.{MessageHeader}
+use Rattle.handshake.specs.Commands.{servicesCid, versionCid, roleOfKind, roleOf, versionListed}
+use Rattle.handshake.specs.Host.{end, unchanged, settledAt, madeOf, openedOf, askOf, listRules, listAt, answeredAt, answeredBy, servicesReplyOf, versionReplyOf, replyRole, receiveBy, receiveOf}
+use Rattle.handshake.specs.Modem.{end as modemEnd, madeRules, madeOf as modemMadeOf, startOf, servedAs, servicesOf, gave, giveOf, answerBy, canAnswer, versionOfCommand, otherAt, commandBy, commandOf, commandRules, receiveBy as commandedBy, receiveOf as modemReceives}
+use Rattle.handshake.specs.Run.{Message, headed, asksServices, asksVersion, sends, replyBy, both, heard, answered, delivered, Rooms, turn, run, expected, Outcome, listedAs, OtherCommand, Ready}
 use Rattle.handshake.specs.declared.host.HostStage.{HostStage}
 use Rattle.handshake.specs.declared.host.HostStage.the-variants as host
+use Rattle.handshake.specs.declared.host.Host.{Host}
 use Rattle.handshake.specs.declared.host.HostMade.the-variants as hostMade
 use Rattle.handshake.specs.declared.modem.ModemMade.the-variants as modemMade
 use Rattle.handshake.specs.declared.host.HostAnswer.the-variants as answer
 use Rattle.handshake.specs.declared.modem.ModemStage.{ModemStage}
 use Rattle.handshake.specs.declared.modem.ModemStage.the-variants as modem
-use Rattle.handshake.specs.declared.modem.Role.the-variants as role
+use Rattle.handshake.specs.declared.Role.the-variants as role
 use Rattle.handshake.proofs.Refusing.{list-judged}
 
 -- ---- the two commands of the handshake
@@ -62,6 +69,10 @@ written v out h = both-written (verdictOf (infoOf v)) (bytesOf (infoOf v)) out (
 read-back : (v : Version) (out : List ℕ) → 4 ≤ length out → readOf (take 4 (writeOf (infoOf v) out .output)) ≡ Info (infoOf v)
 read-back v out h = round-trip (infoOf v) out 4 (written v out h)
 
+front : (v : Version) (out : List ℕ) → 4 ≤ length out → take 4 (writeOf (infoOf v) out .output) ≡ bytesOf (infoOf v)
+unfolding writeOf
+front v out h = written-front (verdictOf (infoOf v)) (bytesOf (infoOf v)) out 4 (written v out h)
+
 -- ---- the ends, made from numbers and opened
 
 pub just-opened : (n : Version) (g : HostStage) (a : Version) → openedOf (end n g) (numberOf a) .host ≡ end n (host.Open a)
@@ -74,64 +85,91 @@ unfolding madeOf numberVerdict judgeFrom firstOf faultIf
 host-made V1 = refl
 host-made V2 = refl
 
-pub modem-made : (k a : Version) (listed : Bool) → above a k ≡ false → modemMadeOf (numberOf k) (numberOf a) listed ≡ modemMade.Made (modemEnd k a listed modem.Start)
+-- a modem lists VERSION exactly where its list does
+pub modem-made : (k a : Version) (listed : Bool) (s : List ℕ) → above a k ≡ false → versionListed s ≡ listedAs listed
+    → modemMadeOf (numberOf k) (numberOf a) s ≡ modemMade.Made (modemEnd k a listed modem.Start)
 unfolding modemMadeOf madeRules judgeFrom firstOf faultIf
-modem-made V1 V1 listed e = refl
-modem-made V1 V2 listed e = let z : _≡_ {A = ℕ} 0 1 = cc in absurd (omega arith)
-modem-made V2 V1 listed e = refl
-modem-made V2 V2 listed e = refl
+modem-made V1 V1 true s e l = rw l
+modem-made V1 V1 false s e l = rw l
+modem-made V1 V2 listed s e l = let z : _≡_ {A = ℕ} 0 1 = cc in absurd (omega arith)
+modem-made V2 V1 true s e l = rw l
+modem-made V2 V1 false s e l = rw l
+modem-made V2 V2 true s e l = rw l
+modem-made V2 V2 false s e l = rw l
 
 -- ---- each turn
 
-module _ (w : Rooms) (given : Command) (s : List ℕ) where
+-- a COMMAND of a transaction is taken
+commanded : (h : MessageHeader) → h .«message_type» ≡ COMMAND → 0 < h .transaction → judge (commandRules h) ≡ Fits
+commanded h e n = let z : h .transaction ≡ 0 → ⊥ = λ q. omega arith in kept-fits (commandRules h) (rw e refl, (ne-eqb _ _ z, tt))
+
+-- a reply is taken for what its service and CID say
+services-heard : (h : Host) (t status : ℕ) (s : List ℕ) → receiveOf h (headed COMMAND-DONE t (idAt basicConnect 0) servicesCid status) s ≡ servicesReplyOf h status s
+unfolding receiveOf receiveBy replyRole roleOf roleOfKind
+services-heard h t status s = rw kind-services
+
+version-heard : (h : Host) (t status : ℕ) (s : List ℕ) → receiveOf h (headed COMMAND-DONE t (idAt extensions 0) versionCid status) s ≡ versionReplyOf h status s
+unfolding receiveOf receiveBy replyRole roleOf roleOfKind
+version-heard h t status s = rw kind-version
+
+other-heard : (h : Host) (c : Carried) (x : MessageHeader) (out services : List ℕ) → roleOf (kindOf (x .service) (x .cid)) ≡ role.Other
+    → heard h (replyBy (servedAs c) x out services) ≡ unchanged h
+unfolding heard receiveOf receiveBy replyRole
+other-heard h (Payload k) x out services o = rw o
+other-heard h (Refused r) x out services o = rw o
+
+module _ (w : Rooms) (t : ℕ) (numbered : 0 < t) (given : Message) (s : List ℕ) where
   -- DEVICE_SERVICES and its reply
   list-turn : (n k a : Version) (listed : Bool) → versionListed s ≡ listedAs listed
-      → turn w given s (end n (host.Open a)) (modemEnd k a listed modem.Start)
-      ≡ both (listAt (host.Open a) (end n (host.Open a)) listed) (modemEnd k a listed modem.Listed)
-  unfolding turn askOf delivered answered heardBy commandOf commandBy servicesOf roleOf roleOfKind
-  list-turn n k a listed e = rw (kind-services, list-judged n a listed s e)
+      → turn w t given s (end n (host.Open a)) (modemEnd k a listed modem.Start)
+      ≡ both (listAt (host.Open a) (end n (host.Open a)) listed) (modemEnd k a listed modem.Listed) (sends (asksServices t))
+  unfolding turn askOf delivered answered heard modemReceives commandedBy commandOf commandBy servicesOf roleOf roleOfKind
+  list-turn n k a listed e = rw (commanded (asksServices t .header) refl numbered, kind-services, services-heard (end n (host.Open a)) t 0 s, list-judged n a listed s e)
 
   -- VERSION and its reply
   version-turn : (n k a : Version) → 4 ≤ length (w .host) → 4 ≤ length (w .modem)
-      → turn w given s (end n (host.AwaitsVersion a)) (modemEnd k a true modem.Listed)
-      ≡ both (settledAt (end n (host.AwaitsVersion a)) (larger a (larger a (lower n k)))) (modemEnd k a true (modem.Settled (larger a (lower n k))))
-  unfolding turn askOf delivered answered heardBy commandOf commandBy versionOfCommand canAnswer roleOf roleOfKind answerBy giveOf gave versionReplyOf answeredBy answeredAt infoOf
+      → turn w t given s (end n (host.AwaitsVersion a)) (modemEnd k a true modem.Listed)
+      ≡ both (settledAt (end n (host.AwaitsVersion a)) (larger a (larger a (lower n k)))) (modemEnd k a true (modem.Settled (larger a (lower n k)))) (sends (asksVersion t (bytesOf (infoOf n))))
+  unfolding turn askOf delivered answered heard modemReceives commandedBy commandOf commandBy versionOfCommand canAnswer roleOf roleOfKind answerBy giveOf gave versionReplyOf answeredBy answeredAt infoOf
   version-turn n k a p q =
-      rw (written n (w .host) p, kind-version, read-back n (w .host) p, number-back n, written (larger a (lower n k)) (w .modem) q, read-back (larger a (lower n k)) (w .modem) q, number-back (larger a (lower n k)))
+      let v = larger a (lower n k) in
+      rw (written n (w .host) p, commanded (asksVersion t [] .header) refl numbered, kind-version, read-back n (w .host) p, number-back n, written v (w .modem) q, version-heard (end n (host.AwaitsVersion a)) t 0 (take 4 (writeOf (infoOf v) (w .modem) .output)), read-back v (w .modem) q, number-back v, front n (w .host) p)
 
   -- another command, to ends that run 1.00
-  other-turn : (n k : Version) (listed : Bool) → roleOf (kindOf (given .service) (given .cid)) ≡ role.Other
-      → turn w given s (end n (host.Settled V1)) (modemEnd k V1 listed modem.Listed)
-      ≡ record { host = end n (host.Settled V1); modem = modemEnd k V1 listed (modem.Settled V1); answer = answer.Unchanged }
-  unfolding turn askOf delivered answered heardBy commandOf commandBy otherAt
-  other-turn n k listed o = rw o
+  other-turn : (n k : Version) (listed : Bool) → OtherCommand given
+      → turn w t given s (end n (host.Settled V1)) (modemEnd k V1 listed modem.Listed)
+      ≡ record { host = end n (host.Settled V1); modem = modemEnd k V1 listed (modem.Settled V1); answer = answer.Unchanged; sent = sends given }
+  unfolding turn askOf delivered answered modemReceives commandedBy commandOf commandBy otherAt
+  other-turn n k listed o =
+      let x = given .header in
+      rw (commanded x (o .commands) (o .numbered), o .other, other-heard (end n (host.Settled V1)) (kindOf (x .service) (x .cid)) x (w .modem) s (o .other))
 
 -- ---- the run
 
-module _ (w₁ w₂ : Rooms) (given : Command) (s : List ℕ) where
-  from-start : (n k a : Version) (listed : Bool) → Ready k a listed w₂ given s
-      → Outcome (expected n k a listed) n k a (run w₁ w₂ given s (end n (host.Open a)) (modemEnd k a listed modem.Start))
+module _ (w₁ w₂ : Rooms) (t₁ t₂ : ℕ) (given : Message) (s : List ℕ) where
+  from-start : (n k a : Version) (listed : Bool) → Ready k a listed w₂ t₁ t₂ given s
+      → Outcome (expected n k a listed) n k a listed t₁ t₂ given (run w₁ w₂ t₁ t₂ given s (end n (host.Open a)) (modemEnd k a listed modem.Start))
   unfolding run listAt listRules judgeFrom firstOf faultIf
   from-start V1 k V1 l r =
-      rw (list-turn w₁ given s V1 k V1 l (r .list), other-turn w₂ given s V1 k l (r .other))
-      (record { host = refl; modem = refl; below-host = refl; below-modem = refl })
-  from-start V1 k V2 l r = rw (list-turn w₁ given s V1 k V2 l (r .list)) (record { answer = refl; host = refl; modem = refl })
+      rw (list-turn w₁ t₁ (r .first-numbered) given s V1 k V1 l (r .list), other-turn w₂ t₂ (r .second-numbered) given s V1 k l (r .other))
+      (record { sent = refl; host = refl; modem = refl; below-host = refl; below-modem = refl })
+  from-start V1 k V2 l r = rw (list-turn w₁ t₁ (r .first-numbered) given s V1 k V2 l (r .list)) (record { sent = refl; answer = refl; host = refl; modem = refl })
   from-start V2 k V1 false r =
-      rw (list-turn w₁ given s V2 k V1 false (r .list), other-turn w₂ given s V2 k false (r .other))
-      (record { host = refl; modem = refl; below-host = refl; below-modem = refl })
+      rw (list-turn w₁ t₁ (r .first-numbered) given s V2 k V1 false (r .list), other-turn w₂ t₂ (r .second-numbered) given s V2 k false (r .other))
+      (record { sent = refl; host = refl; modem = refl; below-host = refl; below-modem = refl })
   from-start V2 V1 V1 true r =
-      rw (list-turn w₁ given s V2 V1 V1 true (r .list), version-turn w₂ given s V2 V1 V1 (r .room-host) (r .room-modem))
-      (record { host = refl; modem = refl; below-host = refl; below-modem = refl })
+      rw (list-turn w₁ t₁ (r .first-numbered) given s V2 V1 V1 true (r .list), version-turn w₂ t₂ (r .second-numbered) given s V2 V1 V1 (r .room-host) (r .room-modem))
+      (record { sent = refl; host = refl; modem = refl; below-host = refl; below-modem = refl })
   from-start V2 V2 V1 true r =
-      rw (list-turn w₁ given s V2 V2 V1 true (r .list), version-turn w₂ given s V2 V2 V1 (r .room-host) (r .room-modem))
-      (record { host = refl; modem = refl; below-host = refl; below-modem = refl })
-  from-start V2 k V2 false r = rw (list-turn w₁ given s V2 k V2 false (r .list)) (record { answer = refl; host = refl; modem = refl })
+      rw (list-turn w₁ t₁ (r .first-numbered) given s V2 V2 V1 true (r .list), version-turn w₂ t₂ (r .second-numbered) given s V2 V2 V1 (r .room-host) (r .room-modem))
+      (record { sent = refl; host = refl; modem = refl; below-host = refl; below-modem = refl })
+  from-start V2 k V2 false r = rw (list-turn w₁ t₁ (r .first-numbered) given s V2 k V2 false (r .list)) (record { sent = refl; answer = refl; host = refl; modem = refl })
   from-start V2 V1 V2 true r = let z : _≡_ {A = ℕ} 0 1 = cc (r .below) in absurd (omega arith)
   from-start V2 V2 V2 true r =
-      rw (list-turn w₁ given s V2 V2 V2 true (r .list), version-turn w₂ given s V2 V2 V2 (r .room-host) (r .room-modem))
-      (record { host = refl; modem = refl; below-host = refl; below-modem = refl })
+      rw (list-turn w₁ t₁ (r .first-numbered) given s V2 V2 V2 true (r .list), version-turn w₂ t₂ (r .second-numbered) given s V2 V2 V2 (r .room-host) (r .room-modem))
+      (record { sent = refl; host = refl; modem = refl; below-host = refl; below-modem = refl })
 
   -- from ends just opened, whatever they were before
-  pub both-settle : (n k a : Version) (listed : Bool) (g : HostStage) (f : ModemStage) → Ready k a listed w₂ given s
-      → Outcome (expected n k a listed) n k a (run w₁ w₂ given s (openedOf (end n g) (numberOf a) .host) (startOf (modemEnd k a listed f)))
+  pub both-settle : (n k a : Version) (listed : Bool) (g : HostStage) (f : ModemStage) → Ready k a listed w₂ t₁ t₂ given s
+      → Outcome (expected n k a listed) n k a listed t₁ t₂ given (run w₁ w₂ t₁ t₂ given s (openedOf (end n g) (numberOf a) .host) (startOf (modemEnd k a listed f)))
   both-settle n k a listed g f r = rw (just-opened n g a) (from-start n k a listed r)

@@ -6,23 +6,28 @@ use mathlib.Core.Bool.{Bool, true, false, cond}
 use mathlib.Core.List.{List, [], _∷_}
 use lib.Dec.{eqb}
 use Rattle.protocol.specs.Service.{kindOf}
+use Rattle.protocol.specs.Verdict.{judge}
+use Rattle.protocol.specs.declared.Verdict.{Verdict}
+use Rattle.protocol.specs.declared.Verdict.the-variants.{Fits, Fault}
 use Rattle.protocol.specs.declared.Version.{Version}
 use Rattle.protocol.specs.declared.service.Carried.{Carried}
+use Rattle.message.specs.declared.MessageHeader.{MessageHeader}
 use Rattle.version_info.specs.VersionInfo.{readOf}
 use Rattle.version_info.specs.declared.VersionInfoRead.{VersionInfoRead}
 use Rattle.version_info.specs.declared.VersionInfoRead.the-variants as read
 use Rattle.services_query.specs.declared.ListedAnswer.{ListedAnswer}
 use Rattle.services_query.specs.declared.ListedAnswer.the-variants as list
-use Rattle.handshake.specs.Host.{versionListed, listAt, listReply, servicesReplyOf, answeredAt, failedAt, answeredBy, versionReplyOf}
-use Rattle.handshake.specs.Modem.{at, listedStage, servicesOf, canAnswer, versionOfCommand, otherAt, roleOf, commandBy, commandOf}
-use Rattle.handshake.specs.Calls.{HostCall, host-opens, host-closes, services-reply, version-reply, hostAfter, hostAfterAll, HostQuiet, ModemCall, modem-opens, modem-closes, command, modemAfter, modemAfterAll, ModemQuiet}
+use Rattle.handshake.specs.Commands.{roleOf, versionListed}
+use Rattle.handshake.specs.Host.{listAt, listReply, servicesReplyOf, answeredAt, failedAt, answeredBy, versionReplyOf, replyRole, receiveBy, receiveOf}
+use Rattle.handshake.specs.Modem.{at, listedStage, servicesOf, canAnswer, versionOfCommand, otherAt, commandBy, commandOf, commandRules, receiveBy as commandedBy, receiveOf as modemReceives}
+use Rattle.handshake.specs.Calls.{HostCall, host-opens, host-closes, host-receives, hostAfter, hostAfterAll, HostQuiet, ModemCall, modem-opens, modem-closes, modem-receives, modemAfter, modemAfterAll, ModemQuiet}
 use Rattle.handshake.specs.declared.host.HostStage.the-variants as host
 use Rattle.handshake.specs.declared.host.Host.{Host}
 use Rattle.handshake.specs.declared.host.HostStep.{HostStep}
 use Rattle.handshake.specs.declared.modem.ModemStage.the-variants as modem
 use Rattle.handshake.specs.declared.modem.Modem.{Modem}
-use Rattle.handshake.specs.declared.modem.Role.{Role}
-use Rattle.handshake.specs.declared.modem.Role.the-variants as role
+use Rattle.handshake.specs.declared.Role.{Role}
+use Rattle.handshake.specs.declared.Role.the-variants as role
 
 -- ---- the host
 
@@ -54,13 +59,18 @@ module _ (h : Host) (v : Version) (e : h .stage ≡ host.Settled v) where
   unfolding versionReplyOf
   keeps-version status s = either h (eqb status 0) _ _ (by-payload (readOf s)) by-failure
 
+  keeps-message : (k : Role) (status : ℕ) (s : List ℕ) → receiveBy k h status s .host ≡ h
+  unfolding receiveBy
+  keeps-message role.Services status s = keeps-list status s
+  keeps-message role.Version status s = keeps-version status s
+  keeps-message role.Other status s = refl
+
 pub host-stays : (h : Host) (v : Version) → h .stage ≡ host.Settled v → (cs : List HostCall) → HostQuiet cs → hostAfterAll h cs ≡ h
-unfolding hostAfterAll hostAfter
+unfolding hostAfterAll hostAfter receiveOf
 host-stays h v e [] q = refl
 host-stays h v e (host-opens a ∷ cs) q = absurd q
 host-stays h v e (host-closes ∷ cs) q = absurd q
-host-stays h v e (services-reply status s ∷ cs) q = rw (keeps-list h v e status s) (host-stays h v e cs q)
-host-stays h v e (version-reply status s ∷ cs) q = rw (keeps-version h v e status s) (host-stays h v e cs q)
+host-stays h v e (host-receives m s ∷ cs) q = rw (keeps-message h v e (replyRole m) (m .word) s) (host-stays h v e cs q)
 
 -- ---- the modem
 
@@ -79,10 +89,14 @@ module _ (m : Modem) (v : Version) (e : m .stage ≡ modem.Settled v) where
   by-role role.Version c type s out = rw (refuses-version type)
   by-role role.Other c type s out = rw e
 
+  by-verdict : (d : Verdict) (h : MessageHeader) (s out : List ℕ) → commandedBy d m h s out .step .modem ≡ m
+  unfolding commandedBy commandOf
+  by-verdict Fits h s out = by-role (roleOf (kindOf (h .service) (h .cid))) (kindOf (h .service) (h .cid)) (h .word) s out
+  by-verdict (Fault r) h s out = refl
+
 pub modem-stays : (m : Modem) (v : Version) → m .stage ≡ modem.Settled v → (cs : List ModemCall) → ModemQuiet cs → modemAfterAll m cs ≡ m
-unfolding modemAfterAll modemAfter commandOf
+unfolding modemAfterAll modemAfter modemReceives
 modem-stays m v e [] q = refl
 modem-stays m v e (modem-opens ∷ cs) q = absurd q
 modem-stays m v e (modem-closes ∷ cs) q = absurd q
-modem-stays m v e (command service cid type s out ∷ cs) q =
-    rw (by-role m v e (roleOf (kindOf service cid)) (kindOf service cid) type s out) (modem-stays m v e cs q)
+modem-stays m v e (modem-receives h s out ∷ cs) q = rw (by-verdict m v e (judge (commandRules h)) h s out) (modem-stays m v e cs q)

@@ -5,10 +5,10 @@ use mathlib.Core.Bool.{false}
 use mathlib.Core.List.{List, [], _∷_}
 use Rattle.protocol.specs.declared.Version.{Version}
 use Rattle.protocol.specs.declared.Version.the-variants.{V2}
-use Rattle.protocol.specs.declared.service.ServiceId.{ServiceId}
+use Rattle.message.specs.declared.MessageHeader.{MessageHeader}
 use Rattle.handshake.specs.Versions.{above}
-use Rattle.handshake.specs.Host.{openedOf, closedOf, servicesReplyOf, versionReplyOf}
-use Rattle.handshake.specs.Modem.{startOf, commandOf}
+use Rattle.handshake.specs.Host.{openedOf, closedOf, receiveOf}
+use Rattle.handshake.specs.Modem.{startOf, receiveOf as modemReceives}
 use Rattle.handshake.specs.declared.host.HostStage.{HostStage}
 use Rattle.handshake.specs.declared.host.HostStage.the-variants as host
 use Rattle.handshake.specs.declared.host.Host.{Host}
@@ -18,18 +18,16 @@ use Rattle.handshake.specs.declared.modem.Modem.{Modem}
 
 -- ---- the host's
 
--- a reply is a status and a payload
+-- a message is a header and its information
 pub data HostCall : Type 0 where
   host-opens : ℕ → HostCall
   host-closes : HostCall
-  services-reply : ℕ → List ℕ → HostCall
-  version-reply : ℕ → List ℕ → HostCall
+  host-receives : MessageHeader → List ℕ → HostCall
 
 unfoldable pub hostAfter : Host → HostCall → Host
 hostAfter h (host-opens advertised) = openedOf h advertised .host
 hostAfter h host-closes = closedOf h
-hostAfter h (services-reply status s) = servicesReplyOf h status s .host
-hostAfter h (version-reply status s) = versionReplyOf h status s .host
+hostAfter h (host-receives m s) = receiveOf h m s .host
 
 unfoldable pub hostAfterAll : Host → List HostCall → Host
 hostAfterAll h [] = h
@@ -40,8 +38,7 @@ abbrev pub HostQuiet : List HostCall → Type 0
 HostQuiet [] = Unit
 HostQuiet (host-opens advertised ∷ cs) = ⊥
 HostQuiet (host-closes ∷ cs) = ⊥
-HostQuiet (services-reply status s ∷ cs) = HostQuiet cs
-HostQuiet (version-reply status s ∷ cs) = HostQuiet cs
+HostQuiet (host-receives m s ∷ cs) = HostQuiet cs
 
 -- what holds of a host at each stage: only one of 2.00 asks VERSION, and none settles above its native version
 abbrev pub HostSound : Version → HostStage → Type 0
@@ -52,16 +49,16 @@ HostSound native (host.Settled v) = above v native ≡ false
 
 -- ---- the modem's
 
--- a command is a service, a CID, a type and a payload; the last list is the lent output
+-- a header, its information and the lent output
 pub data ModemCall : Type 0 where
   modem-opens : ModemCall
   modem-closes : ModemCall
-  command : ServiceId → ℕ → ℕ → List ℕ → List ℕ → ModemCall
+  modem-receives : MessageHeader → List ℕ → List ℕ → ModemCall
 
 unfoldable pub modemAfter : Modem → ModemCall → Modem
 modemAfter m modem-opens = startOf m
 modemAfter m modem-closes = startOf m
-modemAfter m (command service cid type s out) = commandOf m service cid type s out .step .modem
+modemAfter m (modem-receives h s out) = modemReceives m h s out .step .modem
 
 unfoldable pub modemAfterAll : Modem → List ModemCall → Modem
 modemAfterAll m [] = m
@@ -71,7 +68,7 @@ abbrev pub ModemQuiet : List ModemCall → Type 0
 ModemQuiet [] = Unit
 ModemQuiet (modem-opens ∷ cs) = ⊥
 ModemQuiet (modem-closes ∷ cs) = ⊥
-ModemQuiet (command service cid type s out ∷ cs) = ModemQuiet cs
+ModemQuiet (modem-receives h s out ∷ cs) = ModemQuiet cs
 
 abbrev pub ModemSoundAt : Version → ModemStage → Type 0
 ModemSoundAt native modem.Start = Unit

@@ -1,5 +1,5 @@
 -- The host's end of the handshake (document 01, "The handshake").
--- In this order: the end made, opened and closed; what it asks; a reply to DEVICE_SERVICES; a reply to VERSION.
+-- In this order: the end made, opened and closed; what it asks; a reply to DEVICE_SERVICES; a reply to VERSION; any message.
 -- One value gives the answer and the next end, or the answer and the output.
 use Prim.Native.Nat.{ℕ}
 use mathlib.Core.Bool.{Bool, true, false, not, cond, _&&_}
@@ -7,7 +7,8 @@ use mathlib.Core.List.{List, [], _∷_}
 use lib.Dec.{eqb}
 use Rattle.protocol.specs.Refusal.{aboveHost, versionNotListed}
 use Rattle.protocol.specs.Verdict.{Rule, rule, judge, Writing}
-use Rattle.protocol.specs.Service.{idAt, extensions}
+use Rattle.protocol.specs.MessageType.{COMMAND-DONE}
+use Rattle.protocol.specs.Service.{kindOf}
 use Rattle.protocol.specs.declared.Refusal.{Refusal}
 use Rattle.protocol.specs.declared.Verdict.{Verdict}
 use Rattle.protocol.specs.declared.Verdict.the-variants.{Fits, Fault}
@@ -18,10 +19,13 @@ use Rattle.protocol.specs.declared.Written.the-variants as written
 use Rattle.version_info.specs.VersionInfo.{readOf, writeOf}
 use Rattle.version_info.specs.declared.VersionInfoRead.{VersionInfoRead}
 use Rattle.version_info.specs.declared.VersionInfoRead.the-variants as read
-use Rattle.services_query.specs.ServicesQuery.{listedOf}
 use Rattle.services_query.specs.declared.ListedAnswer.{ListedAnswer}
 use Rattle.services_query.specs.declared.ListedAnswer.the-variants as list
+use Rattle.message.specs.declared.MessageHeader.{MessageHeader}
 use Rattle.handshake.specs.Versions.{numberVerdict, versionOf, infoOf, larger, above, isLater}
+use Rattle.handshake.specs.Commands.{roleOf, versionListed}
+use Rattle.handshake.specs.declared.Role.{Role}
+use Rattle.handshake.specs.declared.Role.the-variants as role
 use Rattle.handshake.specs.declared.host.HostStage.{HostStage}
 use Rattle.handshake.specs.declared.host.HostStage.the-variants.{Closed, Open, AwaitsVersion, Settled}
 use Rattle.handshake.specs.declared.host.Host.{Host}
@@ -101,13 +105,6 @@ askOf h out = askAt (h .stage) (h .native) out
 
 -- ---- a reply to DEVICE_SERVICES
 
--- Extensions, CID 15
-abbrev pub versionCid : ℕ
-versionCid = 15
-
-abbrev pub versionListed : List ℕ → ListedAnswer
-versionListed s = listedOf s (idAt extensions 0) versionCid
-
 -- "advertised above the host's native: 13; if not, advertised 2.00 with CID 15 not listed: 14"
 unfoldable pub listRules : Version → Version → Bool → List Rule
 listRules native advertised listed =
@@ -165,6 +162,21 @@ answeredBy h (read.Refused r) = refused h r
 
 unfoldable pub versionReplyOf : Host → ℕ → List ℕ → HostStep
 versionReplyOf h status s = cond (eqb status 0) (answeredBy h (readOf s)) (failedAt (h .stage) h)
+
+-- ---- any message
+
+-- only a COMMAND_DONE is a reply
+unfoldable pub replyRole : MessageHeader → Role
+replyRole m = cond (eqb (m .«message_type») COMMAND-DONE) (roleOf (kindOf (m .service) (m .cid))) role.Other
+
+-- with its status and information; what is no reply to DEVICE_SERVICES or VERSION changes nothing
+unfoldable pub receiveBy : Role → Host → ℕ → List ℕ → HostStep
+receiveBy role.Services h status s = servicesReplyOf h status s
+receiveBy role.Version h status s = versionReplyOf h status s
+receiveBy role.Other h status s = unchanged h
+
+unfoldable pub receiveOf : Host → MessageHeader → List ℕ → HostStep
+receiveOf h m s = receiveBy (replyRole m) h (m .word) s
 
 -- ---- when it refuses
 

@@ -1,4 +1,5 @@
 pub mod Versions
+pub mod Commands
 pub mod Host
 pub mod Modem
 pub mod Calls

@@ -1,12 +1,13 @@
 -- The modem's end of the handshake (document 01, "The handshake").
--- In this order: the end made, opened and closed; the kinds of commands; each of them; any command.
+-- In this order: the end made, opened and closed; answers; each kind of command; any command; any message.
 -- One value gives the answer, the next end and the output.
 use Prim.Native.Nat.{ℕ}
 use mathlib.Core.Bool.{Bool, true, false, not, cond, _&&_}
 use mathlib.Core.List.{List, [], _∷_}
 use lib.Dec.{eqb, ltb}
-use Rattle.protocol.specs.Refusal.{wrongVersion}
+use Rattle.protocol.specs.Refusal.{wrongVersion, unknown, outsideTable}
 use Rattle.protocol.specs.Verdict.{Rule, rule, judge, Writing}
+use Rattle.protocol.specs.MessageType.{COMMAND}
 use Rattle.protocol.specs.Service.{kindOf}
 use Rattle.protocol.specs.declared.Verdict.{Verdict}
 use Rattle.protocol.specs.declared.Verdict.the-variants.{Fits, Fault}
@@ -15,14 +16,16 @@ use Rattle.protocol.specs.declared.Version.the-variants.{V1, V2}
 use Rattle.protocol.specs.declared.Written.{Written}
 use Rattle.protocol.specs.declared.Written.the-variants as written
 use Rattle.protocol.specs.declared.service.ServiceId.{ServiceId}
-use Rattle.protocol.specs.declared.service.Kind.{Kind}
-use Rattle.protocol.specs.declared.service.Kind.the-variants as kind
 use Rattle.protocol.specs.declared.service.Carried.{Carried}
 use Rattle.protocol.specs.declared.service.Carried.the-variants as carried
 use Rattle.version_info.specs.VersionInfo.{isExtension, readOf, writeOf}
 use Rattle.version_info.specs.declared.VersionInfoRead.{VersionInfoRead}
 use Rattle.version_info.specs.declared.VersionInfoRead.the-variants as read
-use Rattle.handshake.specs.Versions.{versionOf, infoOf, larger, lower}
+use Rattle.services_query.specs.declared.ListedAnswer.{ListedAnswer}
+use Rattle.services_query.specs.declared.ListedAnswer.the-variants as list
+use Rattle.message.specs.declared.MessageHeader.{MessageHeader}
+use Rattle.handshake.specs.Versions.{numberOf, versionOf, infoOf, larger, lower}
+use Rattle.handshake.specs.Commands.{roleOf, versionListed}
 use Rattle.handshake.specs.declared.modem.ModemStage.{ModemStage}
 use Rattle.handshake.specs.declared.modem.ModemStage.the-variants.{Start, Listed, Settled}
 use Rattle.handshake.specs.declared.modem.Modem.{Modem}
@@ -31,8 +34,8 @@ use Rattle.handshake.specs.declared.modem.ModemMade.the-variants as made
 use Rattle.handshake.specs.declared.modem.ModemAnswer.{ModemAnswer}
 use Rattle.handshake.specs.declared.modem.ModemAnswer.the-variants as answer
 use Rattle.handshake.specs.declared.modem.ModemStep.{ModemStep}
-use Rattle.handshake.specs.declared.modem.Role.{Role}
-use Rattle.handshake.specs.declared.modem.Role.the-variants as role
+use Rattle.handshake.specs.declared.Role.{Role}
+use Rattle.handshake.specs.declared.Role.the-variants as role
 
 -- ---- made, opened, closed
 
@@ -50,31 +53,29 @@ madeRules native advertised =
     ∷ rule (ltb native advertised) wrongVersion 0
     ∷ []
 
-abbrev pub madeBy : Verdict → Modem → ModemMade
-madeBy Fits m = made.Made m
-madeBy (Fault r) m = made.Refused r
+-- by what its own list of services says of VERSION
+abbrev pub listedBy : ListedAnswer → Version → Version → ModemMade
+listedBy list.Listed native advertised = made.Made (end native advertised true Start)
+listedBy list.NotListed native advertised = made.Made (end native advertised false Start)
+listedBy (list.Refused r) native advertised = made.Refused r
 
--- listed: VERSION is in the modem's own list of services
-unfoldable pub madeOf : ℕ → ℕ → Bool → ModemMade
-madeOf native advertised listed = madeBy (judge (madeRules native advertised)) (end (versionOf native) (versionOf advertised) listed Start)
+abbrev pub madeBy : Verdict → ℕ → ℕ → List ℕ → ModemMade
+madeBy Fits native advertised s = listedBy (versionListed s) (versionOf native) (versionOf advertised)
+madeBy (Fault r) native advertised s = made.Refused r
+
+-- from the numbers of its versions and the list s that it serves: 12, then the list's own refusal
+unfoldable pub madeOf : ℕ → ℕ → List ℕ → ModemMade
+madeOf native advertised s = madeBy (judge (madeRules native advertised)) native advertised s
 
 -- "OPEN or CLOSE puts either end's handshake back to its start"
 abbrev pub startOf : Modem → Modem
 startOf m = at m Start
 
--- ---- the kinds of commands
-
--- DEVICE_SERVICES, VERSION, and any other, of a known CID or not
-unfoldable pub roleOfKind : Kind → Role
-roleOfKind kind.RegisterState = role.Other
-roleOfKind kind.PacketService = role.Other
-roleOfKind kind.SignalState = role.Other
-roleOfKind kind.DeviceServices = role.Services
-roleOfKind kind.VersionInfo = role.Version
-
-unfoldable pub roleOf : Carried → Role
-roleOf (carried.Payload k) = roleOfKind k
-roleOf (carried.Refused r) = role.Other
+-- the number of the version that it is settled at, 0 where it isn't
+abbrev pub settledNumber : ModemStage → ℕ
+settledNumber Start = 0
+settledNumber Listed = 0
+settledNumber (Settled v) = numberOf v
 
 -- ---- answers
 
@@ -93,9 +94,13 @@ step m a = record { modem = m; answer = a }
 abbrev pub failed : Modem → ModemStep
 failed m = step m (answer.Failed noDeviceSupport)
 
--- status 0, and what is to be served
+-- what is to be served; a command of no known service or CID is told apart, with the place of that
+abbrev pub servedAs : Carried → ModemAnswer
+servedAs (carried.Payload k) = answer.Serve k
+servedAs (carried.Refused r) = answer.Unknown (r .place)
+
 abbrev pub served : Modem → Carried → ModemStep
-served m c = step m (answer.Serve c)
+served m c = step m (servedAs c)
 
 pub record Commanding : Type 0 where
   pub step : ModemStep
@@ -168,3 +173,20 @@ commandBy role.Other m c type s out = plain (otherAt (m .stage) m c) out
 
 unfoldable pub commandOf : Modem → ServiceId → ℕ → ℕ → List ℕ → List ℕ → Commanding
 commandOf m service cid type s out = commandBy (roleOf (kindOf service cid)) m (kindOf service cid) type s out
+
+-- ---- any message
+
+-- a message that is no COMMAND, 3 at 0; a COMMAND of transaction 0, 9 at 8: "0 is for indications"
+abbrev pub commandRules : MessageHeader → List Rule
+commandRules h =
+    rule (not (eqb (h .«message_type») COMMAND)) unknown 0
+    ∷ rule (eqb (h .transaction) 0) outsideTable 8
+    ∷ []
+
+-- a refused one changes nothing
+unfoldable pub receiveBy : Verdict → Modem → MessageHeader → List ℕ → List ℕ → Commanding
+receiveBy Fits m h s out = commandOf m (h .service) (h .cid) (h .word) s out
+receiveBy (Fault r) m h s out = plain (step m (answer.Refused r)) out
+
+unfoldable pub receiveOf : Modem → MessageHeader → List ℕ → List ℕ → Commanding
+receiveOf m h s out = receiveBy (judge (commandRules h)) m h s out

@@ -1,21 +1,26 @@
 -- The run of demand 3 (document 01, "The handshake"): "from ends just opened and with room for each output, is that command and its reply,
 -- then, unless the host refuses, its first command of another known CID (VERSION exactly where the rule below says so) and the reply".
--- In this order: what is sent; one command and its reply; the run; what it comes to. Each call is given its end as the one before left it.
-use Prim.Native.Nat.{ℕ, _≤_}
+-- In this order: messages; what is sent; one command and its reply; the run; what it comes to. Each call is given its end as the one before left it.
+use Prim.Native.Nat.{ℕ, _≤_, _<_}
 use mathlib.Core.Path.{_≡_}
 use mathlib.Core.Bool.{Bool, false, not, cond, _&&_}
 use mathlib.Core.List.{List, []}
 use lib.ListN.{length, take}
 use Rattle.protocol.specs.Refusal.{refusal, aboveHost, versionNotListed}
+use Rattle.protocol.specs.MessageType.{COMMAND, COMMAND-DONE}
 use Rattle.protocol.specs.Service.{idAt, basicConnect, extensions, kindOf}
 use Rattle.protocol.specs.declared.Version.{Version}
 use Rattle.protocol.specs.declared.Version.the-variants.{V1}
 use Rattle.protocol.specs.declared.service.ServiceId.{ServiceId}
+use Rattle.version_info.specs.VersionInfo.{bytesOf}
 use Rattle.services_query.specs.declared.ListedAnswer.{ListedAnswer}
 use Rattle.services_query.specs.declared.ListedAnswer.the-variants as list
-use Rattle.handshake.specs.Versions.{larger, lower, above, isLater}
-use Rattle.handshake.specs.Host.{end, unchanged, Asking, askOf, versionCid, versionListed, servicesReplyOf, versionReplyOf}
-use Rattle.handshake.specs.Modem.{Commanding, roleOf, commandOf, noDeviceSupport, queryType}
+use Rattle.message.specs.declared.MessageHeader.{MessageHeader}
+use Rattle.handshake.specs.Versions.{infoOf, larger, lower, above, isLater}
+use Rattle.handshake.specs.Commands.{servicesCid, versionCid, roleOf, versionListed}
+use Rattle.handshake.specs.Host.{end, unchanged, Asking, askOf, receiveOf}
+use Rattle.handshake.specs.Modem.{Commanding, noDeviceSupport, queryType, receiveOf as modemReceives}
+use Rattle.handshake.specs.declared.Role.the-variants as role
 use Rattle.handshake.specs.declared.host.HostStage.the-variants as stage
 use Rattle.handshake.specs.declared.host.Host.{Host}
 use Rattle.handshake.specs.declared.host.HostAnswer.{HostAnswer}
@@ -27,86 +32,90 @@ use Rattle.handshake.specs.declared.modem.ModemStage.the-variants as mod
 use Rattle.handshake.specs.declared.modem.Modem.{Modem}
 use Rattle.handshake.specs.declared.modem.ModemAnswer.{ModemAnswer}
 use Rattle.handshake.specs.declared.modem.ModemAnswer.the-variants as modemAnswer
-use Rattle.handshake.specs.declared.modem.Role.{Role}
-use Rattle.handshake.specs.declared.modem.Role.the-variants as role
+
+-- ---- messages: a header and its information
+
+pub record Message : Type 0 where
+  pub header : MessageHeader
+  pub information : List ℕ
+
+abbrev pub headed : ℕ → ℕ → ServiceId → ℕ → ℕ → MessageHeader
+headed type transaction service cid word = record { «message_type» = type; transaction = transaction; service = service; cid = cid; word = word }
+
+-- a COMMAND that queries
+abbrev pub query : ℕ → ServiceId → ℕ → List ℕ → Message
+query transaction service cid s = record { header = headed COMMAND transaction service cid queryType; information = s }
+
+-- DEVICE_SERVICES, and VERSION with the payload of a version
+abbrev pub asksServices : ℕ → Message
+asksServices transaction = query transaction (idAt basicConnect 0) servicesCid []
+
+abbrev pub asksVersion : ℕ → List ℕ → Message
+asksVersion transaction s = query transaction (idAt extensions 0) versionCid s
+
+-- the COMMAND_DONE of a command
+abbrev pub replyTo : MessageHeader → ℕ → List ℕ → Message
+replyTo c status s = record { header = headed COMMAND-DONE (c .transaction) (c .service) (c .cid) status; information = s }
 
 -- ---- what is sent
 
-pub record Command : Type 0 where
-  pub service : ServiceId
-  pub cid : ℕ
-  pub type : ℕ
-  pub payload : List ℕ
-
-abbrev pub query : ServiceId → ℕ → List ℕ → Command
-query service cid s = record { service = service; cid = cid; type = queryType; payload = s }
-
 pub data Sent : Type 0 where
   nothing : Sent
-  sends : Command → Sent
+  sends : Message → Sent
 
--- CID 16 of Basic Connect
-abbrev pub servicesCid : ℕ
-servicesCid = 16
+-- the command that the host asks for, in a transaction, VERSION with the bytes that it wrote; where it is free, the given one
+abbrev pub sentBy : Ask → List ℕ → ℕ → Message → Sent
+sentBy ask.Nothing out transaction given = nothing
+sentBy ask.Services out transaction given = sends (asksServices transaction)
+sentBy (ask.Version n) out transaction given = sends (asksVersion transaction (take n out))
+sentBy (ask.Free v) out transaction given = sends given
+sentBy (ask.Refused r) out transaction given = nothing
 
--- the command that the host asks for, VERSION with the bytes that it wrote; where it is free, the given one
-abbrev pub sentBy : Ask → List ℕ → Command → Sent
-sentBy ask.Nothing out given = nothing
-sentBy ask.Services out given = sends (query (idAt basicConnect 0) servicesCid [])
-sentBy (ask.Version n) out given = sends (query (idAt extensions 0) versionCid (take n out))
-sentBy (ask.Free v) out given = sends given
-sentBy (ask.Refused r) out given = nothing
+abbrev pub sentOf : Asking → ℕ → Message → Sent
+sentOf a transaction given = sentBy (a .answer) (a .output) transaction given
 
-abbrev pub sentOf : Asking → Command → Sent
-sentOf a given = sentBy (a .answer) (a .output) given
+-- what the modem serves here is its list; of other replies the handshake reads no payload. A refused command, for want of room or of a transaction, has no reply
+abbrev pub replyBy : ModemAnswer → MessageHeader → List ℕ → List ℕ → Sent
+replyBy (modemAnswer.Serve k) c out services = sends (replyTo c 0 services)
+replyBy (modemAnswer.Version n) c out services = sends (replyTo c 0 (take n out))
+replyBy (modemAnswer.Unknown place) c out services = sends (replyTo c noDeviceSupport [])
+replyBy (modemAnswer.Failed status) c out services = sends (replyTo c status [])
+replyBy (modemAnswer.Refused r) c out services = nothing
 
-pub record Reply : Type 0 where
-  pub status : ℕ
-  pub payload : List ℕ
-
-abbrev pub reply : ℕ → List ℕ → Reply
-reply status s = record { status = status; payload = s }
-
--- what the modem serves here is its list; of other replies the handshake reads no payload. Refused for want of room comes up in no run with room
-abbrev pub replyBy : ModemAnswer → List ℕ → List ℕ → Reply
-replyBy (modemAnswer.Serve c) out services = reply 0 services
-replyBy (modemAnswer.Version n) out services = reply 0 (take n out)
-replyBy (modemAnswer.Failed status) out services = reply status []
-replyBy (modemAnswer.Refused r) out services = reply noDeviceSupport []
-
-abbrev pub replyOf : Commanding → List ℕ → Reply
-replyOf d services = replyBy (d .step .answer) (d .output) services
+abbrev pub replyOf : Commanding → MessageHeader → List ℕ → Sent
+replyOf d c services = replyBy (d .step .answer) c (d .output) services
 
 -- ---- one command and its reply
 
--- both ends, and the host's last answer
+-- both ends, the host's last answer, and the last command
 pub record Both : Type 0 where
   pub host : Host
   pub modem : Modem
   pub answer : HostAnswer
+  pub sent : Sent
 
-unfoldable pub heardBy : Role → Host → Reply → HostStep
-heardBy role.Services h r = servicesReplyOf h (r .status) (r .payload)
-heardBy role.Version h r = versionReplyOf h (r .status) (r .payload)
-heardBy role.Other h r = unchanged h
+abbrev pub both : HostStep → Modem → Sent → Both
+both s m c = record { host = s .host; modem = m; answer = s .answer; sent = c }
 
-abbrev pub both : HostStep → Modem → Both
-both s m = record { host = s .host; modem = m; answer = s .answer }
+unfoldable pub heard : Host → Sent → HostStep
+heard h nothing = unchanged h
+heard h (sends r) = receiveOf h (r .header) (r .information)
 
-unfoldable pub answered : Host → Command → Commanding → List ℕ → Both
-answered h c d services = both (heardBy (roleOf (kindOf (c .service) (c .cid))) h (replyOf d services)) (d .step .modem)
+unfoldable pub answered : Host → Message → Commanding → List ℕ → Both
+answered h c d services = both (heard h (replyOf d (c .header) services)) (d .step .modem) (sends c)
 
 unfoldable pub delivered : Sent → Host → Modem → List ℕ → List ℕ → Both
-delivered nothing h m room services = both (unchanged h) m
-delivered (sends c) h m room services = answered h c (commandOf m (c .service) (c .cid) (c .type) (c .payload) room) services
+delivered nothing h m room services = both (unchanged h) m nothing
+delivered (sends c) h m room services = answered h c (modemReceives m (c .header) (c .information) room) services
 
 -- the rooms of a turn: the host's and the modem's lent output
 pub record Rooms : Type 0 where
   pub host : List ℕ
   pub modem : List ℕ
 
-unfoldable pub turn : Rooms → Command → List ℕ → Host → Modem → Both
-turn w given services h m = delivered (sentOf (askOf h (w .host)) given) h m (w .modem) services
+-- in a transaction
+unfoldable pub turn : Rooms → ℕ → Message → List ℕ → Host → Modem → Both
+turn w transaction given services h m = delivered (sentOf (askOf h (w .host)) transaction given) h m (w .modem) services
 
 -- ---- the run
 
@@ -118,11 +127,12 @@ unlessRefused answer.AsksVersion before after = after
 unlessRefused (answer.Settled v) before after = after
 unlessRefused (answer.Refused r) before after = before
 
-abbrev pub andThen : Both → Rooms → Command → List ℕ → Both
-andThen b w given services = unlessRefused (b .answer) b (turn w given services (b .host) (b .modem))
+abbrev pub andThen : Both → Rooms → ℕ → Message → List ℕ → Both
+andThen b w transaction given services = unlessRefused (b .answer) b (turn w transaction given services (b .host) (b .modem))
 
-unfoldable pub run : Rooms → Rooms → Command → List ℕ → Host → Modem → Both
-run w₁ w₂ given services h m = andThen (turn w₁ given services h m) w₂ given services
+-- the two turns in two transactions
+unfoldable pub run : Rooms → Rooms → ℕ → ℕ → Message → List ℕ → Host → Modem → Both
+run w₁ w₂ t₁ t₂ given services h m = andThen (turn w₁ t₁ given services h m) w₂ t₂ given services
 
 -- ---- what it comes to
 
@@ -139,31 +149,46 @@ expected host modem advertised listed =
     (cond (isLater host && listed) (settles (larger advertised (lower host modem)))
     (settles V1)))
 
-pub record Settles (nativeHost nativeModem version : Version) (b : Both) : Type 0 where
+-- "its first command of another known CID (VERSION exactly where the rule below says so)": the last command of a run that settles
+abbrev pub firstCommand : Version → Bool → ℕ → Message → Message
+firstCommand host listed transaction given = cond (isLater host && listed) (asksVersion transaction (bytesOf (infoOf host))) given
+
+pub record Settles (nativeHost nativeModem version : Version) (command : Message) (b : Both) : Type 0 where
+  pub sent : b .sent ≡ sends command
   pub host : b .host .stage ≡ stage.Settled version
   pub modem : b .modem .stage ≡ modemStage.Settled version
   pub below-host : above version nativeHost ≡ false
   pub below-modem : above version nativeModem ≡ false
 
--- a host that refuses is as it was opened, and the modem still waits
-pub record Refuses (native advertised : Version) (number : ℕ) (b : Both) : Type 0 where
+-- a host that refuses is as it was opened, the modem still waits, and DEVICE_SERVICES was the last command
+pub record Refuses (native advertised : Version) (number transaction : ℕ) (b : Both) : Type 0 where
+  pub sent : b .sent ≡ sends (asksServices transaction)
   pub answer : b .answer ≡ answer.Refused (refusal number 0)
   pub host : b .host ≡ end native (stage.Open advertised)
   pub modem : b .modem .stage ≡ modemStage.Listed
 
-abbrev pub Outcome : Expected → Version → Version → Version → Both → Type 0
-Outcome (refuses n) host modem advertised b = Refuses host advertised n b
-Outcome (settles v) host modem advertised b = Settles host modem v b
+-- of a run in the transactions t₁ and t₂
+abbrev pub Outcome : Expected → Version → Version → Version → Bool → ℕ → ℕ → Message → Both → Type 0
+Outcome (refuses n) host modem advertised listed t₁ t₂ given b = Refuses host advertised n t₁ b
+Outcome (settles v) host modem advertised listed t₁ t₂ given b = Settles host modem v (firstCommand host listed t₂ given) b
 
 -- what a list says of VERSION
 abbrev pub listedAs : Bool → ListedAnswer
 listedAs listed = cond listed list.Listed list.NotListed
 
+-- another first command: a COMMAND of a transaction, neither DEVICE_SERVICES nor VERSION
+pub record OtherCommand (given : Message) : Type 0 where
+  pub commands : given .header .«message_type» ≡ COMMAND
+  pub numbered : 0 < given .header .transaction
+  pub other : roleOf (kindOf (given .header .service) (given .header .cid)) ≡ role.Other
+
 -- what a run is given: a modem that advertises nothing above its own, its services list as accepted bytes that list VERSION or not,
--- another command that is neither DEVICE_SERVICES nor VERSION, and room
-pub record Ready (modem advertised : Version) (listed : Bool) (room : Rooms) (given : Command) (services : List ℕ) : Type 0 where
+-- another first command, transactions, and room
+pub record Ready (modem advertised : Version) (listed : Bool) (room : Rooms) (t₁ t₂ : ℕ) (given : Message) (services : List ℕ) : Type 0 where
   pub below : above advertised modem ≡ false
   pub list : versionListed services ≡ listedAs listed
-  pub other : roleOf (kindOf (given .service) (given .cid)) ≡ role.Other
+  pub other : OtherCommand given
+  pub first-numbered : 0 < t₁
+  pub second-numbered : 0 < t₂
   pub room-host : 4 ≤ length (room .host)
   pub room-modem : 4 ≤ length (room .modem)

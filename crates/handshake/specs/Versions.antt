@@ -6,10 +6,13 @@ use lib.Dec.{eqb}
 use Rattle.protocol.specs.Refusal.{wrongVersion}
 use Rattle.protocol.specs.Verdict.{rule, judge}
 use Rattle.protocol.specs.declared.Verdict.{Verdict}
+use Rattle.protocol.specs.declared.Verdict.the-variants.{Fits, Fault}
 use Rattle.protocol.specs.declared.Version.{Version}
 use Rattle.protocol.specs.declared.Version.the-variants.{V1, V2}
 use Rattle.version_info.specs.VersionInfo.{isExtension}
 use Rattle.version_info.specs.declared.VersionInfo.{VersionInfo}
+use Rattle.handshake.specs.declared.Numbered.{Numbered}
+use Rattle.handshake.specs.declared.Numbered.the-variants.{At, Refused}
 
 -- ---- numbers
 
@@ -33,6 +36,14 @@ numberVerdict n = judge (rule (not (isExtension n)) wrongVersion 0 ∷ [])
 -- the version of one of the two numbers
 abbrev pub versionOf : ℕ → Version
 versionOf n = cond (eqb n extensions2) V2 V1
+
+-- a number judged, and then its version
+abbrev pub numberedBy : Verdict → Version → Numbered
+numberedBy Fits v = At v
+numberedBy (Fault r) v = Refused r
+
+unfoldable pub numbered : ℕ → Numbered
+numbered n = numberedBy (numberVerdict n) (versionOf n)
 
 -- the VERSION payload that carries a version
 unfoldable pub infoOf : Version → VersionInfo

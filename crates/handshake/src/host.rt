@@ -1,11 +1,14 @@
 // The host's end: it reads the modem's list of services first, asks VERSION where the rule says so,
 // and then keeps the version that it settled on until it is opened or closed again.
+use crate::Role;
 use crate::info_of;
 use crate::is_above;
 use crate::is_later;
 use crate::judge_number;
 use crate::larger;
+use crate::role_of;
 use crate::version_of;
+use message::MessageHeader;
 use protocol::ABOVE_HOST;
 use protocol::Refusal;
 use protocol::VERSION_NOT_LISTED;
@@ -13,8 +16,10 @@ use protocol::Verdict;
 use protocol::Version;
 use protocol::Written;
 use protocol::also;
+use protocol::message_type::COMMAND_DONE;
 use protocol::service::VERSION;
 use protocol::service::extensions_id;
+use protocol::service::kind_of;
 use services_query::ListedAnswer;
 use services_query::is_listed;
 use version_info::VersionInfoRead;
@@ -22,7 +27,7 @@ ghost use mathlib.Core.Path.{_≡_};
 ghost use mathlib.Core.Bool.{_&&_, not};
 ghost use Rattle.protocol.specs.Verdict.{judge};
 ghost use Rattle.handshake.specs.Versions.{isLater};
-ghost use Rattle.handshake.specs.Host.{at, unchanged, refused, settledAt, madeOf, openedOf, closedOf, askOf, listRules, acceptedList, judgedList, listAt, servicesReplyOf, answeredAt, failedAt, versionReplyOf};
+ghost use Rattle.handshake.specs.Host.{at, unchanged, refused, settledAt, madeOf, openedOf, closedOf, askOf, listRules, acceptedList, judgedList, listAt, servicesReplyOf, answeredAt, failedAt, versionReplyOf, replyRole, receiveOf};
 
 // How far the handshake is.
 pub enum HostStage {
@@ -130,8 +135,30 @@ pub fn next_command(host: Host, out: &mut [u8]) -> Ask
     }
 }
 
+// A received message. What is not a reply to DEVICE_SERVICES or VERSION changes nothing.
+pub fn receive(host: Host, message: MessageHeader, information: &[u8]) -> HostStep
+    ensures { λ r. ⌜ r ≡ receiveOf host message (now (information .entry)) ⌝ }
+{
+    match reply_role(message) {
+        Role::Services => services_reply(host, message.word, information),
+        Role::Version => version_reply(host, message.word, information),
+        Role::Other => keep(host),
+    }
+}
+
+// What a message is a reply to.
+fn reply_role(message: MessageHeader) -> Role
+    ensures { λ r. ⌜ r ≡ replyRole message ⌝ }
+{
+    if message.message_type != COMMAND_DONE {
+        return Role::Other;
+    }
+    let service = message.service;
+    role_of(kind_of(service, message.cid))
+}
+
 // The reply to DEVICE_SERVICES: its status and payload.
-pub fn services_reply(host: Host, status: u32, payload: &[u8]) -> HostStep
+fn services_reply(host: Host, status: u32, payload: &[u8]) -> HostStep
     ensures { λ r. ⌜ r ≡ servicesReplyOf host status (now (payload .entry)) ⌝ }
 {
     if status != 0 {
@@ -145,7 +172,7 @@ pub fn services_reply(host: Host, status: u32, payload: &[u8]) -> HostStep
 }
 
 // The reply to VERSION: its status and payload.
-pub fn version_reply(host: Host, status: u32, payload: &[u8]) -> HostStep
+fn version_reply(host: Host, status: u32, payload: &[u8]) -> HostStep
     ensures { λ r. ⌜ r ≡ versionReplyOf host status (now (payload .entry)) ⌝ }
 {
     if status != 0 {

@@ -1,26 +1,39 @@
 // The modem's end: it serves its list of services first, answers VERSION or takes another first
 // command as the rule says, and then keeps the version that it settled on.
+use crate::Role;
 use crate::info_of;
 use crate::judge_number;
 use crate::larger;
 use crate::lower;
+use crate::number_of;
+use crate::role_of;
 use crate::version_of;
+use message::MessageHeader;
+use protocol::OUTSIDE_TABLE;
 use protocol::Refusal;
+use protocol::UNKNOWN;
 use protocol::Verdict;
 use protocol::Version;
 use protocol::WRONG_VERSION;
 use protocol::Written;
 use protocol::also;
 use protocol::first;
+use protocol::message_type::COMMAND;
 use protocol::service::Carried;
 use protocol::service::Kind;
 use protocol::service::ServiceId;
+use protocol::service::VERSION;
+use protocol::service::extensions_id;
 use protocol::service::kind_of;
+use services_query::ListedAnswer;
+use services_query::is_listed;
 use version_info::VersionInfoRead;
 ghost use mathlib.Core.Path.{_≡_};
 ghost use Rattle.protocol.specs.Verdict.{judge};
 ghost use Rattle.version_info.specs.VersionInfo.{readOf};
-ghost use Rattle.handshake.specs.Modem.{at, madeRules, madeOf, startOf, roleOfKind, roleOf, failed, listedStage, servicesOf, answerOf, giveOf, answerBy, canAnswer, versionOfCommand, firstOther, otherAt, commandOf};
+ghost use Rattle.handshake.specs.Versions.{versionOf};
+ghost use Rattle.handshake.specs.Commands.{versionListed};
+ghost use Rattle.handshake.specs.Modem.{at, madeRules, listedBy, madeOf, startOf, settledNumber, failed, served, listedStage, servicesOf, answerOf, giveOf, answerBy, canAnswer, versionOfCommand, firstOther, otherAt, commandOf, commandRules, receiveOf};
 
 // How far the handshake is.
 pub enum ModemStage {
@@ -45,10 +58,12 @@ pub enum ModemMade {
 
 // What a command is answered.
 pub enum ModemAnswer {
-    // Status 0 as far as the handshake goes: the command is to be served.
-    Serve(Carried),
+    // The handshake lets the command through: it is to be served.
+    Serve(Kind),
     // Status 0, with as many payload bytes at the front of the output.
     Version(usize),
+    // The handshake lets the command through, but its service, or its CID, at this place is not known.
+    Unknown(usize),
     // Another status, and no payload.
     Failed(u32),
     // No answer yet, and nothing changed.
@@ -61,31 +76,41 @@ pub struct ModemStep {
     pub answer: ModemAnswer,
 }
 
-// What a command is to the handshake.
-pub enum Role {
-    Services,
-    Version,
-    Other,
-}
-
 // The status of a command that is not supported now.
 pub const NO_DEVICE_SUPPORT: u32 = 9;
 
 // The command type of a query; a set has another.
 pub const QUERY: u32 = 0;
 
-// A modem at its start, from the numbers of its native and its advertised version.
-pub fn make(native: u16, advertised: u16, lists_version: bool) -> ModemMade
-    ensures { λ r. ⌜ r ≡ madeOf native advertised «lists_version» ⌝ }
+// A modem at its start, from the numbers of its native and its advertised version and the list of
+// services that it serves.
+pub fn make(native: u16, advertised: u16, services: &[u8]) -> ModemMade
+    ensures { λ r. ⌜ r ≡ madeOf native advertised (now (services .entry)) ⌝ }
 {
     match judge_numbers(native, advertised) {
-        Verdict::Fits => ModemMade::Made(Modem {
+        Verdict::Fits => make_listed(native, advertised, services),
+        Verdict::Fault(refusal) => ModemMade::Refused(refusal),
+    }
+}
+
+// The list of services says whether VERSION is listed.
+fn make_listed(native: u16, advertised: u16, services: &[u8]) -> ModemMade
+    ensures { λ r. ⌜ r ≡ listedBy (versionListed (now (services .entry))) (versionOf native) (versionOf advertised) ⌝ }
+{
+    match is_listed(services, extensions_id(), VERSION) {
+        ListedAnswer::Listed => ModemMade::Made(Modem {
             native: version_of(native),
             advertised: version_of(advertised),
-            lists_version,
+            lists_version: true,
             stage: ModemStage::Start,
         }),
-        Verdict::Fault(refusal) => ModemMade::Refused(refusal),
+        ListedAnswer::NotListed => ModemMade::Made(Modem {
+            native: version_of(native),
+            advertised: version_of(advertised),
+            lists_version: false,
+            stage: ModemStage::Start,
+        }),
+        ListedAnswer::Refused(refusal) => ModemMade::Refused(refusal),
     }
 }
 
@@ -101,8 +126,48 @@ pub fn close(modem: Modem) -> Modem
     at_stage(modem, ModemStage::Start)
 }
 
+// The number of the version that a modem is settled at, or 0.
+pub fn settled_number(stage: ModemStage) -> u16
+    ensures { λ r. ⌜ r ≡ settledNumber stage ⌝ }
+{
+    match stage {
+        ModemStage::Start => 0,
+        ModemStage::Listed => 0,
+        ModemStage::Settled { version } => number_of(version),
+    }
+}
+
+// A received message, which is to be a COMMAND of a transaction.
+pub fn receive(
+    modem: Modem,
+    message: MessageHeader,
+    information: &[u8],
+    out: &mut [u8],
+) -> ModemStep
+    ensures { λ r. ⌜ r ≡ receiveOf modem message (now (information .entry)) (now (out .entry)) .step ⌝ }
+    ensures { λ _. ⌜ now (out .exit) ≡ receiveOf modem message (now (information .entry)) (now (out .entry)) .output ⌝ }
+{
+    match judge_command(message) {
+        Verdict::Fits => {
+            let service = message.service;
+            command(modem, service, message.cid, message.word, information, out)
+        }
+        Verdict::Fault(refusal) => ModemStep {
+            modem,
+            answer: ModemAnswer::Refused(refusal),
+        },
+    }
+}
+
+fn judge_command(message: MessageHeader) -> Verdict
+    ensures { λ r. ⌜ r ≡ judge (commandRules message) ⌝ }
+{
+    let commands = also(Verdict::Fits, message.message_type != COMMAND, UNKNOWN, 0);
+    also(commands, message.transaction == 0, OUTSIDE_TABLE, 8)
+}
+
 // A command: its service and CID, its type, and its payload.
-pub fn command(
+fn command(
     modem: Modem,
     service: ServiceId,
     cid: u32,
@@ -128,35 +193,27 @@ fn judge_numbers(native: u16, advertised: u16) -> Verdict
     also(known, native < advertised, WRONG_VERSION, 0)
 }
 
-fn role_of(carried: Carried) -> Role
-    ensures { λ r. ⌜ r ≡ roleOf carried ⌝ }
-{
-    match carried {
-        Carried::Payload(kind) => role_of_kind(kind),
-        Carried::Refused(_) => Role::Other,
-    }
-}
-
-fn role_of_kind(kind: Kind) -> Role
-    ensures { λ r. ⌜ r ≡ roleOfKind kind ⌝ }
-{
-    match kind {
-        Kind::RegisterState => Role::Other,
-        Kind::PacketService => Role::Other,
-        Kind::SignalState => Role::Other,
-        Kind::DeviceServices => Role::Services,
-        Kind::VersionInfo => Role::Version,
-    }
-}
-
 // DEVICE_SERVICES, as a query or a set.
 fn serve_list(modem: Modem, carried: Carried) -> ModemStep
     ensures { λ r. ⌜ r ≡ servicesOf modem carried ⌝ }
 {
     let stage = modem.stage;
-    ModemStep {
-        modem: at_stage(modem, stage_after_list(stage)),
-        answer: ModemAnswer::Serve(carried),
+    serve(at_stage(modem, stage_after_list(stage)), carried)
+}
+
+// A command that is let through.
+fn serve(modem: Modem, carried: Carried) -> ModemStep
+    ensures { λ r. ⌜ r ≡ served modem carried ⌝ }
+{
+    match carried {
+        Carried::Payload(kind) => ModemStep {
+            modem,
+            answer: ModemAnswer::Serve(kind),
+        },
+        Carried::Refused(unknown) => ModemStep {
+            modem,
+            answer: ModemAnswer::Unknown(unknown.place),
+        },
     }
 }
 
@@ -244,10 +301,7 @@ fn take_other(modem: Modem, carried: Carried) -> ModemStep
     match stage {
         ModemStage::Start => fail(modem),
         ModemStage::Listed => take_first_other(modem, carried),
-        ModemStage::Settled { version: _ } => ModemStep {
-            modem,
-            answer: ModemAnswer::Serve(carried),
-        },
+        ModemStage::Settled { version: _ } => serve(modem, carried),
     }
 }
 
@@ -256,15 +310,10 @@ fn take_first_other(modem: Modem, carried: Carried) -> ModemStep
 {
     let advertised = modem.advertised;
     match advertised {
-        Version::V1 => ModemStep {
-            modem: at_stage(
-                modem,
-                ModemStage::Settled {
-                    version: Version::V1,
-                },
-            ),
-            answer: ModemAnswer::Serve(carried),
-        },
+        Version::V1 => {
+            let version = Version::V1;
+            serve(at_stage(modem, ModemStage::Settled { version }), carried)
+        }
         Version::V2 => fail(modem),
     }
 }

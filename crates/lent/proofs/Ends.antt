@@ -17,6 +17,7 @@ use Rattle.protocol.specs.declared.Version.{Version}
 use Rattle.protocol.specs.declared.Version.the-variants.{V1, V2}
 use Rattle.version_info.specs.VersionInfo.{isExtension}
 use Rattle.handshake.specs.Versions.{numberOf, versionOf, above}
+use Rattle.handshake.specs.Modem.{settledNumber as modemVersion}
 use Rattle.handshake.specs.declared.host.Host.{Host}
 use Rattle.handshake.specs.declared.host.HostStage.{HostStage}
 use Rattle.handshake.specs.declared.host.HostStage.the-variants as hostStage
@@ -24,7 +25,7 @@ use Rattle.handshake.specs.declared.modem.Modem.{Modem}
 use Rattle.handshake.specs.declared.modem.ModemStage.{ModemStage}
 use Rattle.handshake.specs.declared.modem.ModemStage.the-variants as modemStage
 use Rattle.lent.specs.LentHost.{hostSize, hostBytes, hostIn, stageOf as hostStageOf, stageNumber as hostNumber, stageVersion as hostVersion, wrongVersion as hostWrong}
-use Rattle.lent.specs.LentModem.{modemSize, modemBytes, modemAt, modemIn, flagNumber, stageOf as modemStageOf, stageNumber as modemNumber, stageVersion as modemVersion, wrongVersion as modemWrong}
+use Rattle.lent.specs.LentModem.{modemSize, modemBytes, modemAt, modemIn, flagNumber, stageOf as modemStageOf, stageNumber as modemNumber, wrongVersion as modemWrong}
 use Rattle.lent.specs.declared.host.HostHeld.the-variants.{Held as HeldHost}
 use Rattle.lent.specs.declared.modem.ModemHeld.the-variants.{Held as HeldModem}
 

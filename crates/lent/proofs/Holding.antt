@@ -17,14 +17,15 @@ use Rattle.protocol.specs.Service.{idAt, idBytes}
 use Rattle.protocol.specs.Verdict.{judgeFrom, faultIf, firstOf}
 use Rattle.protocol.specs.declared.Verdict.the-variants.{Fits}
 use Rattle.protocol.proofs.Verdicts.{kept-fits}
-use Rattle.message.specs.Message.{wordAt, messageAt}
+use Rattle.message.specs.Message.{wordAt, messageAt, isWholePiece}
 use Rattle.message.specs.declared.MessageHeader.{MessageHeader}
 use Rattle.assembler.specs.Assembly.{zeros, assemblyOf, empty, stepOf}
-use Rattle.assembler.specs.Run.{Piece, runOf}
+use Rattle.assembler.specs.Run.{Piece}
+use Rattle.assembler.specs.Door.{wholeShown, fedShown, Receiving as DoorReceiving, wholeReceived, fedReceived, receiveOf, receiveAll}
 use Rattle.assembler.specs.declared.Progress.{Progress}
 use Rattle.assembler.specs.declared.Assembly.{Assembly}
 use Rattle.assembler.proofs.Left.{Waits, begun, joined, Left, nothing, pending, left, left-whole}
-use Rattle.lent.specs.LentAssembly.{assemblySize, messageIn, progressIn, bufferIn, messageBytes, countBytes, progressBytes, held, isNone, pendingRules, progressVerdict, cleared, emptied, Feeding, kept, keptOf, feedIn}
+use Rattle.lent.specs.LentAssembly.{assemblySize, messageIn, progressIn, bufferIn, messageBytes, countBytes, progressBytes, held, isNone, pendingRules, progressVerdict, cleared, emptied, Feeding, kept, keptOf, feedIn, untouched, fedIn, receiveIn}
 use Rattle.lent.specs.Holding.{wordsOf, Each32, Bytes, Holds, runIn, AllBytes, MemoryServes}
 use Rattle.lent.proofs.Memory.{length-progress, length-buffer}
 
@@ -179,7 +180,7 @@ left-small a s p b e (pending w (joined q n)) = waits-small p w (rw q (first-wor
 fed-in : (m : List ℕ) (a : Assembly) (s : List ℕ) (room : ℕ) → Holds m a → feedIn m s room ≡ kept (stepOf a s room) m
 unfolding feedIn keptOf
 fed-in m a s room H =
-    rw (le-ltb _ _ (H .room), H .numbers, H .fits) (ap (λ (x : List ℕ). kept (stepOf (assemblyOf (a .progress) x) s room) m) (H .buffer))
+    rw (H .numbers, H .fits) (ap (λ (x : List ℕ). kept (stepOf (assemblyOf (a .progress) x) s room) m) (H .buffer))
 
 pub feed-holds : (m : List ℕ) (a : Assembly) (s : List ℕ) (room : ℕ) → Bytes s → Holds m a
     → (feedIn m s room .answer ≡ stepOf a s room .answer) × (feedIn m s room .information ≡ stepOf a s room .information) × Holds (feedIn m s room .memory) (stepOf a s room .assembly)
@@ -205,13 +206,27 @@ empty-holds : (m : List ℕ) → assemblySize ≤ length m → Holds (emptied m 
 unfolding emptied
 empty-holds m room = rw (le-ltb _ _ room, zeros-empty m) (held-holds empty m room empty-whole none-fits none-small)
 
-run-holds : (m : List ℕ) (a : Assembly) (ps : List Piece) → AllBytes ps → Holds m a → (runIn m ps .seen ≡ runOf a ps .seen) × Holds (runIn m ps .memory) (runOf a ps .end)
-unfolding runIn runOf
+-- one received piece, whole message or fragment
+receive-holds : (m : List ℕ) (a : Assembly) (s : List ℕ) (room : ℕ) → Bytes s → Holds m a
+    → (receiveIn m s room .received ≡ receiveOf a s room .received) × (receiveIn m s room .information ≡ receiveOf a s room .information)
+    × Holds (receiveIn m s room .memory) (receiveOf a s room .assembly)
+unfolding receiveIn receiveOf
+receive-holds m a s room b H = rw (le-ltb _ _ (H .room)) (go (isWholePiece s))
+  where
+    go : (w : Bool)
+        → (cond w (untouched m (wholeShown s)) (fedIn s (feedIn m s room)) .received ≡ cond w (wholeReceived a s) (fedReceived s (stepOf a s room)) .received)
+        × (cond w (untouched m (wholeShown s)) (fedIn s (feedIn m s room)) .information ≡ cond w (wholeReceived a s) (fedReceived s (stepOf a s room)) .information)
+        × Holds (cond w (untouched m (wholeShown s)) (fedIn s (feedIn m s room)) .memory) (cond w (wholeReceived a s) (fedReceived s (stepOf a s room)) .assembly)
+    go true = (refl, refl, H)
+    go false = let f = feed-holds m a s room b H in (ap (fedShown s) (f .0), f .1, f .2)
+
+run-holds : (m : List ℕ) (a : Assembly) (ps : List Piece) → AllBytes ps → Holds m a → (runIn m ps .seen ≡ receiveAll a ps .seen) × Holds (runIn m ps .memory) (receiveAll a ps .end)
+unfolding runIn receiveAll
 run-holds m a [] bs H = (refl, H)
 run-holds m a (p ∷ ps) bs H =
-    let f = feed-holds m a (p .bytes) (p .room) (bs .0) H in
-    let r = run-holds (feedIn m (p .bytes) (p .room) .memory) (stepOf a (p .bytes) (p .room) .assembly) ps (bs .1) (f .2) in
-    (λ i. record { answer = f .0 i; information = f .1 i } ∷ r .0 i, r .1)
+    let f = receive-holds m a (p .bytes) (p .room) (bs .0) H in
+    let r = run-holds (receiveIn m (p .bytes) (p .room) .memory) (receiveOf a (p .bytes) (p .room) .assembly) ps (bs .1) (f .2) in
+    (λ i. record { received = f .0 i; information = f .1 i } ∷ r .0 i, r .1)
 
 -- "each feed gets the assembly .. as the one before left it": in memory as by value
 pub memory-serves : MemoryServes

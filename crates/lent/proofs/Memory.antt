@@ -3,19 +3,19 @@
 use mathlib.Core.Path.{_≡_, refl, sym, ap, _∙_}
 use mathlib.Core.Logic.{_⊎_, inl, inr}
 use mathlib.Core.Bool.{Bool, true, false, cond}
-use mathlib.Core.List.{List, [], _∷_, _++_, append-assoc}
+use mathlib.Core.List.{List, [], _∷_, _++_, append-assoc, append-nil}
 use Prim.Native.Nat.{ℕ, suc, _+_, _*_, _/_, _%_, _≤_, _<_}
 use native.Mathlib.Omega.{arith}
-use borrow.Author.Tests.{lt-ltb}
+use borrow.Author.Tests.{lt-ltb, le-ltb}
 use lib.Dec.{ltb}
 use lib.ListN.{length, getD, set, take, drop, replicate, take-append-drop, length-append, length-take, length-drop}
-use lib.Seq.{sets, set-getD, take-at, take-append-le, drop-at, drop-drop}
+use lib.Seq.{sets, set-getD, take-all, take-at, take-append-le, drop-at, drop-drop, drop-length}
 use Rattle.wire.specs.Numbers.{digits}
 use Rattle.wire.specs.Runs.{over}
 use Rattle.wire.proofs.Laws.{sets-over, sets-then, four-to}
 use Rattle.protocol.specs.Service.{idBytes}
 use Rattle.message.specs.declared.MessageHeader.{MessageHeader}
-use Rattle.assembler.specs.Assembly.{empty}
+use Rattle.assembler.specs.Assembly.{assemblyOf, empty, stepOf, lentStepOf}
 use Rattle.assembler.specs.declared.Progress.{Progress}
 use Rattle.assembler.specs.declared.Assembly.{Assembly}
 use Rattle.assembler.proofs.Left.{begun, joined, Left, nothing, pending}
@@ -126,3 +126,14 @@ unfolding empty
 left-kind a s q (nothing e) = inl (let z : q .next ≡ 0 = ap (λ (p : Progress). p .next) e in omega (arith, z))
 left-kind a s q (pending w (begun e n)) = inl (omega (arith, n))
 left-kind a s q (pending w (joined e n)) = inr e
+
+-- a feed in the buffer of an assembly in memory is one of the whole buffer
+pub whole-step : (p : Progress) (m s : List ℕ) (room : ℕ) → assemblySize ≤ length m → lentStepOf p (bufferIn m) s room ≡ stepOf (assemblyOf p (bufferIn m)) s room
+unfolding lentStepOf
+whole-step p m s room h =
+    let e = length-buffer m h in
+    rw (le-ltb (length (bufferIn m)) 4096 (omega (arith, e)), take-all 4096 (bufferIn m) (omega (arith, e)))
+
+pub whole-over : (x b : List ℕ) → length x ≡ 4096 → length b ≡ 4096 → over x b ≡ x
+unfolding over
+whole-over x b e f = rw (e, ← f, drop-length b) (append-nil x)

@@ -6,10 +6,11 @@ use mathlib.Core.List.{List, [], _∷_}
 use lib.ListN.{length, getD}
 use Rattle.protocol.specs.declared.Verdict.the-variants.{Fits}
 use Rattle.assembler.specs.Assembly.{empty}
-use Rattle.assembler.specs.Run.{Piece, Seen, runOf}
+use Rattle.assembler.specs.Run.{Piece}
+use Rattle.assembler.specs.Door.{Seen, receiveAll}
 use Rattle.assembler.specs.declared.Progress.{Progress}
 use Rattle.assembler.specs.declared.Assembly.{Assembly}
-use Rattle.lent.specs.LentAssembly.{assemblySize, progressIn, bufferIn, progressVerdict, emptied, Feeding, feedIn}
+use Rattle.lent.specs.LentAssembly.{assemblySize, progressIn, bufferIn, progressVerdict, emptied, Receiving, receiveIn}
 
 -- ---- numbers of 32 bits
 
@@ -38,28 +39,28 @@ pub record Holds (m : List ℕ) (a : Assembly) : Type 0 where
 
 -- ---- a run in memory
 
-abbrev pub seenIn : Feeding → Seen
-seenIn f = record { answer = f .answer; information = f .information }
+abbrev pub seenIn : Receiving → Seen
+seenIn f = record { received = f .received; information = f .information }
 
 pub record MemoryRun : Type 0 where
   pub seen : List Seen
   pub memory : List ℕ
 
-abbrev pub andThenIn : Feeding → MemoryRun → MemoryRun
+abbrev pub andThenIn : Receiving → MemoryRun → MemoryRun
 andThenIn f r = record { seen = seenIn f ∷ r .seen; memory = r .memory }
 
 unfoldable pub runIn : List ℕ → List Piece → MemoryRun
 runIn m [] = record { seen = []; memory = m }
-runIn m (p ∷ ps) = andThenIn (feedIn m (p .bytes) (p .room)) (runIn (feedIn m (p .bytes) (p .room) .memory) ps)
+runIn m (p ∷ ps) = andThenIn (receiveIn m (p .bytes) (p .room)) (runIn (receiveIn m (p .bytes) (p .room) .memory) ps)
 
 abbrev pub AllBytes : List Piece → Type 0
 AllBytes [] = Unit
 AllBytes (p ∷ ps) = Bytes (p .bytes) × AllBytes ps
 
--- whatever is fed to emptied memory is answered as by value from the empty assembly, and the memory holds what that run leaves
+-- whatever pieces emptied memory receives, each is answered as by value from the empty assembly, and the memory holds what that run leaves
 pub record AsByValue (m : List ℕ) (ps : List Piece) : Type 0 where
-  pub seen : runIn (emptied m .memory) ps .seen ≡ runOf empty ps .seen
-  pub held : Holds (runIn (emptied m .memory) ps .memory) (runOf empty ps .end)
+  pub seen : runIn (emptied m .memory) ps .seen ≡ receiveAll empty ps .seen
+  pub held : Holds (runIn (emptied m .memory) ps .memory) (receiveAll empty ps .end)
 
 abbrev pub MemoryServes : Type 0
 MemoryServes = (m : List ℕ) → assemblySize ≤ length m → (ps : List Piece) → AllBytes ps → AsByValue m ps

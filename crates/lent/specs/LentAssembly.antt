@@ -1,5 +1,5 @@
 -- The assembly in lent memory (document 01: "the assembly holds 4,096 bytes, all zero when empty"): 48 bytes of numbers, then the 4,096.
--- In this order: places; which numbers feeding from empty can have left; emptying; feeding.
+-- In this order: places; which numbers feeding from empty can have left; emptying; feeding; any received piece.
 use Prim.Native.Nat.{ℕ, _+_}
 use mathlib.Core.Bool.{Bool, not, cond, _&&_}
 use mathlib.Core.List.{List, [], _∷_, _++_}
@@ -15,13 +15,17 @@ use Rattle.protocol.specs.MessageType.{isFragmented}
 use Rattle.protocol.specs.declared.Refusal.{Refusal}
 use Rattle.protocol.specs.declared.Verdict.{Verdict}
 use Rattle.protocol.specs.declared.Verdict.the-variants.{Fits, Fault}
-use Rattle.message.specs.Message.{mostInformation}
+use Rattle.message.specs.Message.{mostInformation, isWholePiece}
 use Rattle.message.specs.declared.MessageHeader.{MessageHeader}
 use Rattle.assembler.specs.Assembly.{assemblyOf, Step, stepOf}
 use Rattle.assembler.specs.declared.Progress.{Progress}
 use Rattle.assembler.specs.declared.Assembly.{Assembly}
 use Rattle.assembler.specs.declared.Answer.{Answer}
 use Rattle.assembler.specs.declared.Answer.the-variants.{Refused}
+use Rattle.assembler.specs.Door.{wholeShown, fedShown}
+use Rattle.assembler.specs.declared.door.Received.{Received}
+use Rattle.assembler.specs.declared.door.Received.the-variants as received
+use Rattle.lent.specs.Stored.{Stored, unstored}
 
 -- ---- places
 
@@ -106,15 +110,10 @@ tooSmall = refusal outputTooSmall assemblySize
 unfoldable pub cleared : List ℕ → List ℕ
 cleared m = over (replicate assemblySize 0) m
 
-pub record Emptied : Type 0 where
-  pub verdict : Verdict
-  pub memory : List ℕ
+unfoldable pub emptied : List ℕ → Stored
+emptied m = cond (ltb (length m) assemblySize) (unstored tooSmall m) record { verdict = Fits; memory = cleared m }
 
-unfoldable pub emptied : List ℕ → Emptied
-emptied m =
-    cond (ltb (length m) assemblySize) record { verdict = Fault tooSmall; memory = m } record { verdict = Fits; memory = cleared m }
-
--- ---- feeding the piece s, with room for so many bytes in the output
+-- ---- feeding the piece s, with room for so many bytes in the output, in memory that has the room for an assembly
 
 pub record Feeding : Type 0 where
   pub memory : List ℕ
@@ -128,13 +127,27 @@ unfoldable pub keptOf : Progress → List ℕ → List ℕ → ℕ → Feeding
 keptOf p m s room = kept (stepOf (assemblyOf p (bufferIn m)) s room) m
 
 -- "a refused fragment leaves an empty assembly"
-abbrev pub refusedIn : Refusal → List ℕ → Feeding
-refusedIn r m = record { memory = m; answer = Refused r; information = [] }
-
 abbrev pub judgedIn : Verdict → Progress → List ℕ → List ℕ → ℕ → Feeding
 judgedIn Fits p m s room = keptOf p m s room
-judgedIn (Fault r) p m s room = refusedIn r (cleared m)
+judgedIn (Fault r) p m s room = record { memory = cleared m; answer = Refused r; information = [] }
 
 unfoldable pub feedIn : List ℕ → List ℕ → ℕ → Feeding
-feedIn m s room =
-    cond (ltb (length m) assemblySize) (refusedIn tooSmall m) (judgedIn (progressVerdict (progressIn m)) (progressIn m) m s room)
+feedIn m s room = judgedIn (progressVerdict (progressIn m)) (progressIn m) m s room
+
+-- ---- any received piece: the room is judged, then a whole message, which leaves the memory as it was; any other piece is fed
+
+pub record Receiving : Type 0 where
+  pub memory : List ℕ
+  pub received : Received
+  pub information : List ℕ
+
+abbrev pub untouched : List ℕ → Received → Receiving
+untouched m x = record { memory = m; received = x; information = [] }
+
+abbrev pub fedIn : List ℕ → Feeding → Receiving
+fedIn s f = record { memory = f .memory; received = fedShown s (f .answer); information = f .information }
+
+unfoldable pub receiveIn : List ℕ → List ℕ → ℕ → Receiving
+receiveIn m s room =
+    cond (ltb (length m) assemblySize) (untouched m (received.Refused tooSmall))
+    (cond (isWholePiece s) (untouched m (wholeShown s)) (fedIn s (feedIn m s room)))

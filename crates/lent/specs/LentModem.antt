@@ -1,10 +1,12 @@
 -- The modem's end in lent memory: native version at 0, advertised at 2, whether it lists VERSION at 4, stage at 6, the version settled on at 8, 16 bits each.
--- In this order: stages as numbers; what the memory holds; the bytes of an end.
+-- In this order: stages as numbers; what the memory holds; the bytes of an end; an end made; an end put back to its start; a message.
+-- Memory that holds no end is refused, and stays as it was.
 use Prim.Native.Nat.{ℕ}
 use mathlib.Core.Bool.{Bool, not, cond}
 use mathlib.Core.List.{List, [], _∷_, _++_}
 use lib.Dec.{ltb, eqb}
 use lib.ListN.{length}
+use lib.Seq.{sets}
 use Rattle.wire.specs.Numbers.{u16At, digits}
 use Rattle.protocol.specs.Refusal.{outsideTable, contradiction, outputTooSmall}
 use Rattle.protocol.specs.Verdict.{Rule, rule, judge}
@@ -13,9 +15,16 @@ use Rattle.protocol.specs.declared.Verdict.the-variants.{Fits, Fault}
 use Rattle.protocol.specs.declared.Version.{Version}
 use Rattle.version_info.specs.VersionInfo.{isExtension}
 use Rattle.handshake.specs.Versions.{numberOf, versionOf}
+use Rattle.message.specs.declared.MessageHeader.{MessageHeader}
+use Rattle.handshake.specs.Modem.{settledNumber, madeOf, startOf, Commanding, receiveOf}
 use Rattle.handshake.specs.declared.modem.Modem.{Modem}
+use Rattle.handshake.specs.declared.modem.ModemMade.{ModemMade}
+use Rattle.handshake.specs.declared.modem.ModemMade.the-variants as made
+use Rattle.handshake.specs.declared.modem.ModemAnswer.the-variants as answer
 use Rattle.handshake.specs.declared.modem.ModemStage.{ModemStage}
 use Rattle.handshake.specs.declared.modem.ModemStage.the-variants.{Start, Listed, Settled}
+use Rattle.lent.specs.Stored.{Stored, unstored, stored}
+use Rattle.lent.specs.declared.modem.ModemReply.{ModemReply}
 use Rattle.lent.specs.declared.modem.ModemHeld.{ModemHeld}
 use Rattle.lent.specs.declared.modem.ModemHeld.the-variants as held
 
@@ -28,11 +37,6 @@ abbrev pub stageNumber : ModemStage → ℕ
 stageNumber Start = 0
 stageNumber Listed = 1
 stageNumber (Settled v) = 2
-
-abbrev pub stageVersion : ModemStage → ℕ
-stageVersion Start = 0
-stageVersion Listed = 0
-stageVersion (Settled v) = numberOf v
 
 abbrev pub flagNumber : Bool → ℕ
 flagNumber b = cond b 1 0
@@ -77,4 +81,43 @@ modemIn m = heldBy (judge (modemRules m)) (modemAt m)
 
 unfoldable pub modemBytes : Modem → List ℕ
 modemBytes x =
-    digits 2 (numberOf (x .native)) ++ (digits 2 (numberOf (x .advertised)) ++ (digits 2 (flagNumber (x .«lists_version»)) ++ (digits 2 (stageNumber (x .stage)) ++ digits 2 (stageVersion (x .stage)))))
+    digits 2 (numberOf (x .native)) ++ (digits 2 (numberOf (x .advertised)) ++ (digits 2 (flagNumber (x .«lists_version»)) ++ (digits 2 (stageNumber (x .stage)) ++ digits 2 (settledNumber (x .stage)))))
+
+-- ---- an end made: 12, then its list of services, then the room
+
+abbrev pub madeBy : ModemMade → List ℕ → Stored
+madeBy (made.Made x) m = stored modemSize (modemBytes x) m
+madeBy (made.Refused r) m = unstored r m
+
+unfoldable pub makeIn : List ℕ → ℕ → ℕ → List ℕ → Stored
+makeIn m native advertised services = madeBy (madeOf native advertised services) m
+
+-- ---- the end in the memory m put back to its start
+
+abbrev pub restartBy : ModemHeld → List ℕ → Stored
+restartBy (held.Held x) m = record { verdict = Fits; memory = sets m 0 (modemBytes (startOf x)) }
+restartBy (held.Refused r) m = unstored r m
+
+unfoldable pub restartIn : List ℕ → Stored
+restartIn m = restartBy (modemIn m) m
+
+-- ---- a message with the information s to the end in the memory m: what it is answered, and the stage after it
+
+pub record ModemCalled : Type 0 where
+  pub reply : ModemReply
+  pub memory : List ℕ
+  pub output : List ℕ
+
+abbrev pub commanded : List ℕ → Commanding → ModemCalled
+commanded m c = record {
+  reply = record { answer = c .step .answer; stage = c .step .modem .stage };
+  memory = sets m 0 (modemBytes (c .step .modem));
+  output = c .output;
+}
+
+abbrev pub receiveBy : ModemHeld → List ℕ → MessageHeader → List ℕ → List ℕ → ModemCalled
+receiveBy (held.Held x) m message s out = commanded m (receiveOf x message s out)
+receiveBy (held.Refused r) m message s out = record { reply = record { answer = answer.Refused r; stage = Start }; memory = m; output = out }
+
+unfoldable pub receiveIn : List ℕ → MessageHeader → List ℕ → List ℕ → ModemCalled
+receiveIn m message s out = receiveBy (modemIn m) m message s out

@@ -1,3 +1,4 @@
+pub mod Stored
 pub mod LentAssembly
 pub mod LentHost
 pub mod LentModem

@@ -3,9 +3,13 @@
 use assembler::Answer;
 use assembler::Progress;
 use assembler::clear;
+use assembler::door::Received;
+use assembler::door::show_fed;
+use assembler::door::show_whole;
 use assembler::feed_lent;
 use message::MOST_FRAGMENTS;
 use message::MessageHeader;
+use message::is_whole_piece;
 use protocol::CONTRADICTION;
 use protocol::MOST_INFORMATION;
 use protocol::OUTPUT_TOO_SMALL;
@@ -26,7 +30,7 @@ ghost use Rattle.wire.specs.Numbers.{u32At, digits};
 ghost use Rattle.wire.specs.Runs.{over};
 ghost use Rattle.protocol.specs.Verdict.{judge};
 ghost use Rattle.protocol.specs.Service.{idAt, idBytes};
-ghost use Rattle.lent.specs.LentAssembly.{assemblySize, messageIn, progressIn, messageBytes, countBytes, progressBytes, changedIn, isNone, pendingRules, progressVerdict, emptied, keptOf, feedIn};
+ghost use Rattle.lent.specs.LentAssembly.{assemblySize, messageIn, progressIn, messageBytes, countBytes, progressBytes, changedIn, isNone, pendingRules, progressVerdict, emptied, keptOf, feedIn, receiveIn};
 
 // How many bytes an assembly takes.
 pub const ASSEMBLY_SIZE: usize = 4144;
@@ -66,18 +70,31 @@ pub fn empty(memory: &mut [u8]) -> Verdict
     Verdict::Fits
 }
 
-// Feeds one piece to the assembly in the memory.
-pub fn feed(memory: &mut [u8], piece: &[u8], out: &mut [u8]) -> Answer
-    ensures { λ r. ⌜ r ≡ feedIn (now (memory .entry)) (now (piece .entry)) (length (now (out .entry))) .answer ⌝ }
-    ensures { λ _. ⌜ now (memory .exit) ≡ feedIn (now (memory .entry)) (now (piece .entry)) (length (now (out .entry))) .memory ⌝ }
-    ensures { λ _. ⌜ now (out .exit) ≡ over (feedIn (now (memory .entry)) (now (piece .entry)) (length (now (out .entry))) .information) (now (out .entry)) ⌝ }
+// Takes any received piece. Only a fragment is fed to the assembly in the memory.
+pub fn receive(memory: &mut [u8], piece: &[u8], out: &mut [u8]) -> Received
+    ensures { λ r. ⌜ r ≡ receiveIn (now (memory .entry)) (now (piece .entry)) (length (now (out .entry))) .received ⌝ }
+    ensures { λ _. ⌜ now (memory .exit) ≡ receiveIn (now (memory .entry)) (now (piece .entry)) (length (now (out .entry))) .memory ⌝ }
+    ensures { λ _. ⌜ now (out .exit) ≡ over (receiveIn (now (memory .entry)) (now (piece .entry)) (length (now (out .entry))) .information) (now (out .entry)) ⌝ }
 {
     if memory.len() < ASSEMBLY_SIZE {
-        return Answer::Refused(Refusal {
+        return Received::Refused(Refusal {
             number: OUTPUT_TOO_SMALL,
             place: ASSEMBLY_SIZE,
         });
     }
+    if is_whole_piece(piece) {
+        return show_whole(piece);
+    }
+    show_fed(piece, feed(memory, piece, out))
+}
+
+// Memory that has the room for an assembly.
+fn feed(memory: &mut [u8], piece: &[u8], out: &mut [u8]) -> Answer
+    requires { ⌜ 4144 ≤ length (now memory) ⌝ }
+    ensures { λ r. ⌜ r ≡ feedIn (now (memory .entry)) (now (piece .entry)) (length (now (out .entry))) .answer ⌝ }
+    ensures { λ _. ⌜ now (memory .exit) ≡ feedIn (now (memory .entry)) (now (piece .entry)) (length (now (out .entry))) .memory ⌝ }
+    ensures { λ _. ⌜ now (out .exit) ≡ over (feedIn (now (memory .entry)) (now (piece .entry)) (length (now (out .entry))) .information) (now (out .entry)) ⌝ }
+{
     let progress = progress_at(memory);
     match judge_progress(progress) {
         Verdict::Fits => feed_whole(progress, memory, piece, out),

@@ -1,8 +1,13 @@
 // The host's end in 6 bytes: its native version, its stage and the stage's version, 16 bits each.
+use crate::version_of;
+use handshake::host::Ask;
 use handshake::host::Host;
+use handshake::host::HostAnswer;
+use handshake::host::HostMade;
 use handshake::host::HostStage;
+use handshake::host::HostStep;
 use handshake::number_of;
-use handshake::version_of;
+use message::MessageHeader;
 use protocol::OUTPUT_TOO_SMALL;
 use protocol::OUTSIDE_TABLE;
 use protocol::Refusal;
@@ -14,7 +19,8 @@ use wire::put_u16;
 use wire::u16_at;
 ghost use mathlib.Core.Path.{_≡_};
 ghost use lib.Seq.{sets};
-ghost use Rattle.lent.specs.LentHost.{stageOf, stageNumber, stageVersion, wrongVersion, hostIn, hostBytes};
+ghost use Rattle.lent.specs.LentHost.{hostSize, stageOf, stageNumber, stageVersion, wrongVersion, hostIn, hostBytes, makeIn, openIn, closeIn, receiveIn, askIn};
+ghost use Rattle.lent.specs.Stored.{stored};
 
 // How many bytes a host's end takes.
 pub const HOST_SIZE: usize = 6;
@@ -26,21 +32,83 @@ const STAGE: usize = 2;
 const VERSION: usize = 4;
 
 // The numbers of the stages.
-pub const CLOSED: u16 = 0;
+const CLOSED: u16 = 0;
 
-pub const OPEN: u16 = 1;
+const OPEN: u16 = 1;
 
-pub const AWAITS_VERSION: u16 = 2;
+const AWAITS_VERSION: u16 = 2;
 
-pub const SETTLED: u16 = 3;
+const SETTLED: u16 = 3;
 
 // What the memory holds.
-pub enum HostHeld {
+enum HostHeld {
     Held(Host),
     Refused(Refusal),
 }
 
-pub fn host_at(memory: &[u8]) -> HostHeld
+// A closed host, from the number of its native version.
+pub fn make(memory: &mut [u8], native: u16) -> Verdict
+    ensures { λ r. ⌜ r ≡ makeIn (now (memory .entry)) native .verdict ⌝ }
+    ensures { λ _. ⌜ now (memory .exit) ≡ makeIn (now (memory .entry)) native .memory ⌝ }
+{
+    match handshake::host::make(native) {
+        HostMade::Made(host) => store(memory, host),
+        HostMade::Refused(refusal) => Verdict::Fault(refusal),
+    }
+}
+
+// OPEN to a modem that advertises the version of a number.
+pub fn open(memory: &mut [u8], advertised: u16) -> HostAnswer
+    ensures { λ r. ⌜ r ≡ openIn (now (memory .entry)) advertised .answer ⌝ }
+    ensures { λ _. ⌜ now (memory .exit) ≡ openIn (now (memory .entry)) advertised .memory ⌝ }
+{
+    match host_at(memory) {
+        HostHeld::Held(host) => keep(memory, handshake::host::open(host, advertised)),
+        HostHeld::Refused(refusal) => HostAnswer::Refused(refusal),
+    }
+}
+
+pub fn close(memory: &mut [u8]) -> HostAnswer
+    ensures { λ r. ⌜ r ≡ closeIn (now (memory .entry)) .answer ⌝ }
+    ensures { λ _. ⌜ now (memory .exit) ≡ closeIn (now (memory .entry)) .memory ⌝ }
+{
+    match host_at(memory) {
+        HostHeld::Held(host) => {
+            let step = HostStep {
+                host: handshake::host::close(host),
+                answer: HostAnswer::Unchanged,
+            };
+            keep(memory, step)
+        }
+        HostHeld::Refused(refusal) => HostAnswer::Refused(refusal),
+    }
+}
+
+// The next command; a VERSION query's payload is written into the output.
+pub fn next_command(memory: &[u8], out: &mut [u8]) -> Ask
+    ensures { λ r. ⌜ r ≡ askIn (now (memory .entry)) (now (out .entry)) .answer ⌝ }
+    ensures { λ _. ⌜ now (out .exit) ≡ askIn (now (memory .entry)) (now (out .entry)) .output ⌝ }
+{
+    match host_at(memory) {
+        HostHeld::Held(host) => handshake::host::next_command(host, out),
+        HostHeld::Refused(refusal) => Ask::Refused(refusal),
+    }
+}
+
+// A received message.
+pub fn receive(memory: &mut [u8], message: MessageHeader, information: &[u8]) -> HostAnswer
+    ensures { λ r. ⌜ r ≡ receiveIn (now (memory .entry)) message (now (information .entry)) .answer ⌝ }
+    ensures { λ _. ⌜ now (memory .exit) ≡ receiveIn (now (memory .entry)) message (now (information .entry)) .memory ⌝ }
+{
+    match host_at(memory) {
+        HostHeld::Held(host) => {
+            keep(memory, handshake::host::receive(host, message, information))
+        }
+        HostHeld::Refused(refusal) => HostAnswer::Refused(refusal),
+    }
+}
+
+fn host_at(memory: &[u8]) -> HostHeld
     ensures { λ r. ⌜ r ≡ hostIn (now (memory .entry)) ⌝ }
 {
     let native = u16_at(memory, NATIVE);
@@ -68,8 +136,32 @@ pub fn host_at(memory: &[u8]) -> HostHeld
     }
 }
 
+// The end after a call, put back, and the call's answer.
+fn keep(memory: &mut [u8], step: HostStep) -> HostAnswer
+    ensures { λ r. ⌜ r ≡ step .answer ⌝ }
+    ensures { λ _. ⌜ now (memory .exit) ≡ sets (now (memory .entry)) 0 (hostBytes (step .host)) ⌝ }
+{
+    let host = step.host;
+    put_host(memory, host);
+    step.answer
+}
+
+fn store(memory: &mut [u8], host: Host) -> Verdict
+    ensures { λ r. ⌜ r ≡ stored hostSize (hostBytes host) (now (memory .entry)) .verdict ⌝ }
+    ensures { λ _. ⌜ now (memory .exit) ≡ stored hostSize (hostBytes host) (now (memory .entry)) .memory ⌝ }
+{
+    if memory.len() < HOST_SIZE {
+        return Verdict::Fault(Refusal {
+            number: OUTPUT_TOO_SMALL,
+            place: HOST_SIZE,
+        });
+    }
+    put_host(memory, host);
+    Verdict::Fits
+}
+
 // Puts the end at the front of the memory.
-pub fn put_host(memory: &mut [u8], host: Host)
+fn put_host(memory: &mut [u8], host: Host)
     ensures { λ _. ⌜ now (memory .exit) ≡ sets (now (memory .entry)) 0 (hostBytes host) ⌝ }
 {
     let native = host.native;

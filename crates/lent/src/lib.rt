@@ -3,3 +3,18 @@
 pub mod assembly;
 pub mod host;
 pub mod modem;
+
+use protocol::Version;
+use version_info::EXTENSIONS_2_0;
+ghost use mathlib.Core.Path.{_≡_};
+ghost use Rattle.handshake.specs.Versions.{versionOf};
+
+// The version of a number that was judged.
+fn version_of(number: u16) -> Version
+    ensures { λ r. ⌜ r ≡ versionOf number ⌝ }
+{
+    if number == EXTENSIONS_2_0 {
+        return Version::V2;
+    }
+    Version::V1
+}

@@ -12,14 +12,19 @@ use lib.ListN.{length}
 use Rattle.wire.specs.Numbers.{u32At}
 use Rattle.protocol.specs.MessageType.{INDICATE-STATUS, isFragmented}
 use Rattle.protocol.specs.Verdict.{judge}
+use Rattle.protocol.specs.declared.Refusal.{Refusal}
 use Rattle.protocol.specs.declared.Verdict.{Verdict}
 use Rattle.protocol.specs.declared.Verdict.the-variants.{Fits, Fault}
 use Rattle.protocol.proofs.Verdicts.{fits-kept, kept-fits}
-use Rattle.message.specs.Message.{mostInformation, mostTransfer, headerAt, wrongTotal, fragmentRules, fragmentBy, fragmentOf, lengthPlace, firstLength, messageAt, declaredAt, carriedBy, wrongWord, wrongAmount, firstRules, firstBy, firstHeaderOf}
+use Rattle.message.specs.Message.{mostInformation, mostTransfer, headerAt, wrongTotal, headerRules, headerBy, headerOf, lengthPlace, firstLength, messageAt, declaredAt, carriedBy, wrongWord, wrongAmount, firstRules, firstBy, firstHeaderOf, openedBy, fragmentBy, fragmentOf}
 use Rattle.message.specs.declared.FragmentHeader.{FragmentHeader}
 use Rattle.message.specs.declared.FirstHeader.{FirstHeader}
-use Rattle.message.specs.declared.Fragment.the-variants as fragment
+use Rattle.message.specs.declared.Header.{Header}
+use Rattle.message.specs.declared.Header.the-variants as header
+use Rattle.message.specs.declared.First.{First}
 use Rattle.message.specs.declared.First.the-variants as first
+use Rattle.message.specs.declared.Fragment.{Fragment}
+use Rattle.message.specs.declared.Fragment.the-variants as fragment
 
 -- ---- places
 
@@ -85,13 +90,13 @@ pub record Accepted (s : List ℕ) (h : FragmentHeader) : Type 0 where
   pub few : h .total ≤ 128
   pub within : h .number < h .total
 
-pub fragment-accepted : (s : List ℕ) (h : FragmentHeader) → fragmentOf s ≡ fragment.Header h → Accepted s h
-unfolding fragmentOf fragmentBy
-fragment-accepted s h e = go (judge (fragmentRules s)) refl e
+header-accepted : (s : List ℕ) (h : FragmentHeader) → headerOf s ≡ header.Fits h → Accepted s h
+unfolding headerOf headerBy
+header-accepted s h e = go (judge (headerRules s)) refl e
   where
-    go : (v : Verdict) → judge (fragmentRules s) ≡ v → fragmentBy v s ≡ fragment.Header h → Accepted s h
+    go : (v : Verdict) → judge (headerRules s) ≡ v → headerBy v s ≡ header.Fits h → Accepted s h
     go Fits j q =
-        let k = fits-kept (fragmentRules s) j in
+        let k = fits-kept (headerRules s) j in
         let same : headerAt s ≡ h = cc in
         let t = total-right (u32At s 12) (k .1 .1 .1 .1 .0) in
         rw (← same) (record {
@@ -106,11 +111,11 @@ fragment-accepted s h e = go (judge (fragmentRules s)) refl e
     go (Fault r) j q = let z : _≡_ {A = ℕ} 0 1 = cc in absurd (omega arith)
 
 -- a fragment whose header keeps the rules is accepted
-pub accepted-fragment : (s : List ℕ) → 20 ≤ length s → u32At s 4 ≡ length s → length s ≤ mostTransfer → isFragmented (u32At s 0) ≡ true → 0 < u32At s 12 → u32At s 12 ≤ 128
-    → u32At s 16 < u32At s 12 → fragmentOf s ≡ fragment.Header (headerAt s)
-unfolding fragmentOf fragmentBy
-accepted-fragment s long all short known some few within =
-    rw (kept-fits (fragmentRules s)
+accepted-header : (s : List ℕ) → 20 ≤ length s → u32At s 4 ≡ length s → length s ≤ mostTransfer → isFragmented (u32At s 0) ≡ true → 0 < u32At s 12 → u32At s 12 ≤ 128
+    → u32At s 16 < u32At s 12 → headerOf s ≡ header.Fits (headerAt s)
+unfolding headerOf headerBy
+accepted-header s long all short known some few within =
+    rw (kept-fits (headerRules s)
     (le-ltb _ _ long, (rw (eq-eqb _ _ all) refl, (le-ltb _ _ short, (rw known refl, (right-total _ some few, (lt-leb _ _ within, tt)))))))
 
 -- ---- the header of a first fragment
@@ -123,7 +128,7 @@ pub record Opened (s : List ℕ) (f : FirstHeader) : Type 0 where
   pub small : f .«information_length» ≤ mostInformation
   pub amount : wrongAmount (eqb (u32At s 12) 1) (carriedBy s) (f .«information_length») ≡ false
 
-pub first-accepted : (s : List ℕ) (f : FirstHeader) → firstHeaderOf s ≡ first.Header f → Opened s f
+first-accepted : (s : List ℕ) (f : FirstHeader) → firstHeaderOf s ≡ first.Header f → Opened s f
 unfolding firstHeaderOf firstBy
 first-accepted s f e = go (judge (firstRules s)) refl e
   where
@@ -141,8 +146,56 @@ first-accepted s f e = go (judge (firstRules s)) refl e
     go (Fault r) j q = let z : _≡_ {A = ℕ} 0 1 = cc in absurd (omega arith)
 
 -- a first header that keeps the rules is accepted
-pub accepted-first : (s : List ℕ) → firstLength (u32At s 0) ≤ length s → wrongWord (messageAt s) ≡ false → declaredAt s ≤ mostInformation
+accepted-first : (s : List ℕ) → firstLength (u32At s 0) ≤ length s → wrongWord (messageAt s) ≡ false → declaredAt s ≤ mostInformation
     → wrongAmount (eqb (u32At s 12) 1) (carriedBy s) (declaredAt s) ≡ false
     → firstHeaderOf s ≡ first.Header (record { message = messageAt s; «information_length» = declaredAt s })
 unfolding firstHeaderOf firstBy
 accepted-first s long word small amount = rw (kept-fits (firstRules s) (le-ltb _ _ long, (word, (le-ltb _ _ small, (amount, tt)))))
+
+-- ---- one fragment: refused, or the headers that it has
+
+pub data FragmentView (s : List ℕ) : Fragment → Type 0 where
+  refuses : (r : Refusal) → FragmentView s (fragment.Refused r)
+  opens : (h : FragmentHeader) (f : FirstHeader) → Accepted s h → h .number ≡ 0 → Opened s f → FragmentView s (fragment.First h f)
+  follows : (h : FragmentHeader) → Accepted s h → (h .number ≡ 0 → ⊥) → FragmentView s (fragment.Later h)
+
+pub fragment-view : (s : List ℕ) → FragmentView s (fragmentOf s)
+unfolding fragmentOf fragmentBy openedBy
+fragment-view s = go (headerOf s) refl
+  where
+    opened : (h : FragmentHeader) → Accepted s h → h .number ≡ 0 → (o : First) → firstHeaderOf s ≡ o → FragmentView s (openedBy h o)
+    opened h a z (first.Refused r) e = refuses r
+    opened h a z (first.Header f) e = opens h f a z (first-accepted s f e)
+
+    numbered : (h : FragmentHeader) → Accepted s h → (b : Bool) → eqb (h .number) 0 ≡ b → FragmentView s (cond b (openedBy h (firstHeaderOf s)) (fragment.Later h))
+    numbered h a true z = opened h a (eqb-true _ _ z) (firstHeaderOf s) refl
+    numbered h a false z = follows h a (eqb-false _ _ z)
+
+    go : (x : Header) → headerOf s ≡ x → FragmentView s (fragmentBy s x)
+    go (header.Refused r) e = refuses r
+    go (header.Fits h) e = numbered h (header-accepted s h e) (eqb (h .number) 0) refl
+
+pub later-accepted : (s : List ℕ) (h : FragmentHeader) → fragmentOf s ≡ fragment.Later h → Accepted s h
+later-accepted s h e = go (fragment-view s) e
+  where
+    go : {f : Fragment} → FragmentView s f → f ≡ fragment.Later h → Accepted s h
+    go (refuses r) q = let z : _≡_ {A = ℕ} 0 1 = cc in absurd (omega arith)
+    go (opens g f a n o) q = let z : _≡_ {A = ℕ} 0 1 = cc in absurd (omega arith)
+    go (follows g a n) q = let k : g ≡ h = cc in rw k at a
+
+-- a fragment that keeps the rules is accepted: a later one with its header, a first one with both
+pub accepted-later : (s : List ℕ) → 20 ≤ length s → u32At s 4 ≡ length s → length s ≤ mostTransfer → isFragmented (u32At s 0) ≡ true → 0 < u32At s 12 → u32At s 12 ≤ 128
+    → u32At s 16 < u32At s 12 → 0 < u32At s 16 → fragmentOf s ≡ fragment.Later (headerAt s)
+unfolding fragmentOf fragmentBy
+accepted-later s long all short known some few within later =
+    let z : u32At s 16 ≡ 0 → ⊥ = λ e. omega arith in
+    rw (accepted-header s long all short known some few within, ne-eqb (u32At s 16) 0 z)
+
+pub accepted-opening : (s : List ℕ) → u32At s 4 ≡ length s → length s ≤ mostTransfer → isFragmented (u32At s 0) ≡ true → 0 < u32At s 12 → u32At s 12 ≤ 128
+    → u32At s 16 ≡ 0 → firstLength (u32At s 0) ≤ length s → wrongWord (messageAt s) ≡ false → declaredAt s ≤ mostInformation
+    → wrongAmount (eqb (u32At s 12) 1) (carriedBy s) (declaredAt s) ≡ false
+    → fragmentOf s ≡ fragment.First (headerAt s) (record { message = messageAt s; «information_length» = declaredAt s })
+unfolding fragmentOf fragmentBy openedBy
+accepted-opening s all short known some few zero long word small amount =
+    let l : 20 ≤ length s = omega (arith, long, place-most (u32At s 0)) in
+    rw (accepted-header s l all short known some few (omega arith), eq-eqb (u32At s 16) 0 zero, accepted-first s long word small amount)

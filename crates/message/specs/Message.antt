@@ -1,13 +1,13 @@
 -- Messages and fragments (document 01, "Messages and fragments"): "type at 0, length at 4, transaction at 8".
--- In this order: limits; whole messages; the header of every fragment; the header of a first fragment.
+-- In this order: limits; whole messages, judged and written; the header of every fragment; the header of a first fragment; one fragment.
 use Prim.Native.Nat.{ℕ, _+_, _-_}
 use mathlib.Core.Bool.{Bool, not, cond, _&&_, _||_}
-use mathlib.Core.List.{List, [], _∷_}
+use mathlib.Core.List.{List, [], _∷_, _++_}
 use lib.Dec.{ltb, leb, eqb}
 use lib.ListN.{length}
-use Rattle.wire.specs.Numbers.{u32At}
+use Rattle.wire.specs.Numbers.{u32At, digits}
 use Rattle.protocol.specs.Refusal.{tooShort, wrongLength, unknown, wrongFragment, tooLong, outsideTable, wrongTransferSize}
-use Rattle.protocol.specs.Verdict.{Rule, rule, judge}
+use Rattle.protocol.specs.Verdict.{Rule, rule, judge, Writing, writing}
 use Rattle.protocol.specs.MessageType.{CLOSE, COMMAND, INDICATE-STATUS, isWhole, isFragmented}
 use Rattle.protocol.specs.Service.{idAt}
 use Rattle.protocol.specs.declared.Verdict.{Verdict}
@@ -15,11 +15,13 @@ use Rattle.protocol.specs.declared.Verdict.the-variants.{Fits, Fault}
 use Rattle.message.specs.declared.Whole.{Whole}
 use Rattle.message.specs.declared.Whole.the-variants.{Message, Refused}
 use Rattle.message.specs.declared.FragmentHeader.{FragmentHeader}
-use Rattle.message.specs.declared.Fragment.{Fragment}
-use Rattle.message.specs.declared.Fragment.the-variants as fragment
+use Rattle.message.specs.declared.Header.{Header}
+use Rattle.message.specs.declared.Header.the-variants as header
 use Rattle.message.specs.declared.MessageHeader.{MessageHeader}
 use Rattle.message.specs.declared.First.{First}
 use Rattle.message.specs.declared.First.the-variants as first
+use Rattle.message.specs.declared.Fragment.{Fragment}
+use Rattle.message.specs.declared.Fragment.the-variants as fragment
 
 -- the most information bytes of a message
 abbrev pub mostInformation : ℕ
@@ -47,12 +49,31 @@ wholeRules s =
     ∷ rule (not (eqb (wholeLength (u32At s 0)) (length s))) wrongLength 4
     ∷ []
 
+-- the one number of a whole message, at 12: OPEN's transfer size, a reply's status, an error's code; CLOSE has none
+unfoldable pub wholeWordAt : ℕ → List ℕ → ℕ
+wholeWordAt t s = cond (eqb t CLOSE) 0 (u32At s 12)
+
 unfoldable pub wholeBy : Verdict → List ℕ → Whole
-wholeBy Fits s = Message (u32At s 0) (u32At s 8)
+wholeBy Fits s = Message (u32At s 0) (u32At s 8) (wholeWordAt (u32At s 0) s)
 wholeBy (Fault r) s = Refused r
 
 unfoldable pub wholeOf : List ℕ → Whole
 wholeOf s = wholeBy (judge (wholeRules s)) s
+
+-- its bytes: type, length, transaction and, but for CLOSE, its number
+unfoldable pub headBytes : ℕ → ℕ → List ℕ
+headBytes t transaction = digits 4 t ++ (digits 4 (wholeLength t) ++ digits 4 transaction)
+
+unfoldable pub wholeBytes : ℕ → ℕ → ℕ → List ℕ
+wholeBytes t transaction word = headBytes t transaction ++ cond (eqb t CLOSE) [] (digits 4 word)
+
+-- what the writer gives: the type is judged, then the room
+unfoldable pub writeWholeOf : ℕ → ℕ → ℕ → List ℕ → Writing
+writeWholeOf t transaction word s = writing (judge (rule (not (isWhole t)) unknown 0 ∷ [])) (wholeBytes t transaction word) s
+
+-- a piece is a whole message's by its type, as soon as the type's four bytes are there
+unfoldable pub isWholePiece : List ℕ → Bool
+isWholePiece s = not (ltb (length s) 4) && isWhole (u32At s 0)
 
 -- ---- the header of every fragment: "total at 12, number at 16 from 0"
 
@@ -63,8 +84,8 @@ headerAt s = record { «message_type» = u32At s 0; transaction = u32At s 8; tot
 unfoldable pub wrongTotal : ℕ → Bool
 wrongTotal total = eqb total 0 || ltb mostFragments total
 
-abbrev pub fragmentRules : List ℕ → List Rule
-fragmentRules s =
+abbrev pub headerRules : List ℕ → List Rule
+headerRules s =
     rule (ltb (length s) 20) tooShort (length s)
     ∷ rule (not (eqb (u32At s 4) (length s))) wrongLength 4
     ∷ rule (ltb mostTransfer (length s)) wrongTransferSize 4
@@ -73,12 +94,12 @@ fragmentRules s =
     ∷ rule (leb (u32At s 12) (u32At s 16)) wrongFragment 16
     ∷ []
 
-unfoldable pub fragmentBy : Verdict → List ℕ → Fragment
-fragmentBy Fits s = fragment.Header (headerAt s)
-fragmentBy (Fault r) s = fragment.Refused r
+unfoldable pub headerBy : Verdict → List ℕ → Header
+headerBy Fits s = header.Fits (headerAt s)
+headerBy (Fault r) s = header.Refused r
 
-unfoldable pub fragmentOf : List ℕ → Fragment
-fragmentOf s = fragmentBy (judge (fragmentRules s)) s
+unfoldable pub headerOf : List ℕ → Header
+headerOf s = headerBy (judge (headerRules s)) s
 
 -- ---- the header of a first fragment: "the service at 20 and CID at 36"
 
@@ -132,3 +153,16 @@ firstBy (Fault r) s = first.Refused r
 
 unfoldable pub firstHeaderOf : List ℕ → First
 firstHeaderOf s = firstBy (judge (firstRules s)) s
+
+-- ---- one fragment: "if the number is 0", also the header of a first one
+
+unfoldable pub openedBy : FragmentHeader → First → Fragment
+openedBy h (first.Header f) = fragment.First h f
+openedBy h (first.Refused r) = fragment.Refused r
+
+unfoldable pub fragmentBy : List ℕ → Header → Fragment
+fragmentBy s (header.Fits h) = cond (eqb (h .number) 0) (openedBy h (firstHeaderOf s)) (fragment.Later h)
+fragmentBy s (header.Refused r) = fragment.Refused r
+
+unfoldable pub fragmentOf : List ℕ → Fragment
+fragmentOf s = fragmentBy s (headerOf s)

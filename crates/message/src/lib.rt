@@ -1,6 +1,7 @@
-// Headers of messages, judged by themselves: of a whole message, of one fragment, and what only a
-// first fragment has. No fragment is put together here, and no payload is looked at.
+// Headers of messages, judged by themselves: of a whole message, which is also written here, and of
+// one fragment. No fragment is put together here, and no payload is looked at.
 use protocol::MOST_INFORMATION;
+use protocol::OUTPUT_TOO_SMALL;
 use protocol::OUTSIDE_TABLE;
 use protocol::Refusal;
 use protocol::TOO_LONG;
@@ -10,6 +11,7 @@ use protocol::Verdict;
 use protocol::WRONG_FRAGMENT;
 use protocol::WRONG_LENGTH;
 use protocol::WRONG_TRANSFER_SIZE;
+use protocol::Written;
 use protocol::also;
 use protocol::message_type::CLOSE;
 use protocol::message_type::COMMAND;
@@ -18,19 +20,26 @@ use protocol::message_type::is_fragmented;
 use protocol::message_type::is_whole;
 use protocol::service::ServiceId;
 use protocol::service::id_at;
+use wire::put_u32;
 use wire::u32_at;
 ghost use mathlib.Core.Path.{_≡_};
 ghost use Prim.Native.Nat.{_+_, _-_};
-ghost use Rattle.message.specs.Message.{wholeLength, wholeOf, lengthPlace, wrongTotal, fragmentOf, wordAt, messageAt, wrongWord, wrongAmount, firstHeaderOf};
+ghost use lib.Seq.{sets};
+ghost use Rattle.message.specs.Message.{wholeLength, wholeWordAt, wholeOf, headBytes, wholeBytes, writeWholeOf, isWholePiece, lengthPlace, wrongTotal, headerOf, wordAt, messageAt, wrongWord, wrongAmount, firstHeaderOf, openedBy, fragmentOf};
 
 // The most bytes of a fragment, and the most fragments of a message.
 pub const MOST_TRANSFER: usize = 4096;
 
 pub const MOST_FRAGMENTS: u32 = 128;
 
-// What a whole message's header says.
+// A whole message. The word is its one number: OPEN's transfer size, a reply's status, an error's
+// code; CLOSE has none and shows 0.
 pub enum Whole {
-    Message { message_type: u32, transaction: u32 },
+    Message {
+        message_type: u32,
+        transaction: u32,
+        word: u32,
+    },
     Refused(Refusal),
 }
 
@@ -42,8 +51,9 @@ pub struct FragmentHeader {
     pub number: u32,
 }
 
-pub enum Fragment {
-    Header(FragmentHeader),
+// A fragment judged on its own header alone.
+enum Header {
+    Fits(FragmentHeader),
     Refused(Refusal),
 }
 
@@ -64,8 +74,18 @@ pub struct FirstHeader {
     pub information_length: u32,
 }
 
-pub enum First {
+enum First {
     Header(FirstHeader),
+    Refused(Refusal),
+}
+
+// One fragment: the first of its message, or a later one.
+pub enum Fragment {
+    First {
+        header: FragmentHeader,
+        first: FirstHeader,
+    },
+    Later(FragmentHeader),
     Refused(Refusal),
 }
 
@@ -77,23 +97,82 @@ pub fn judge_whole(s: &[u8]) -> Whole
     let short = also(Verdict::Fits, n < 12, TOO_SHORT, n);
     let length = also(short, u32_at(s, 4) as usize != n, WRONG_LENGTH, 4);
     let known = also(length, !is_whole(message_type), UNKNOWN, 0);
-    let exact = also(known, whole_length(message_type) != n, WRONG_LENGTH, 4);
+    let exact = also(
+        known,
+        whole_length(message_type) as usize != n,
+        WRONG_LENGTH,
+        4,
+    );
     match exact {
         Verdict::Fits => Whole::Message {
             message_type,
             transaction: u32_at(s, 8),
+            word: whole_word_at(message_type, s),
         },
         Verdict::Fault(refusal) => Whole::Refused(refusal),
     }
 }
 
-// The length is judged first, so that the reads after it need no test of their own.
+// Writes a whole message: its type, transaction and word. CLOSE has no word, and takes any.
+pub fn write_whole(message_type: u32, transaction: u32, word: u32, out: &mut [u8]) -> Written
+    ensures { λ r. ⌜ r ≡ writeWholeOf «message_type» transaction word (now (out .entry)) .answer ⌝ }
+    ensures { λ _. ⌜ now (out .exit) ≡ writeWholeOf «message_type» transaction word (now (out .entry)) .output ⌝ }
+{
+    let n = whole_length(message_type) as usize;
+    let known = also(Verdict::Fits, !is_whole(message_type), UNKNOWN, 0);
+    match also(known, out.len() < n, OUTPUT_TOO_SMALL, n) {
+        Verdict::Fits => {
+            put_whole(message_type, transaction, word, out);
+            Written::Length(n)
+        }
+        Verdict::Fault(refusal) => Written::Refused(refusal),
+    }
+}
+
+// Whether a piece is a whole message's: by its type, as soon as that is there.
+pub fn is_whole_piece(s: &[u8]) -> bool
+    ensures { λ r. ⌜ r ≡ isWholePiece (now (s .entry)) ⌝ }
+{
+    if s.len() < 4 {
+        return false;
+    }
+    is_whole(u32_at(s, 0))
+}
+
+// One fragment, whichever of its message it is.
 pub fn judge_fragment(s: &[u8]) -> Fragment
     ensures { λ r. ⌜ r ≡ fragmentOf (now (s .entry)) ⌝ }
 {
+    match judge_header(s) {
+        Header::Refused(refusal) => Fragment::Refused(refusal),
+        Header::Fits(header) => {
+            let number = header.number;
+            if number == 0 {
+                return open_message(header, s);
+            }
+            Fragment::Later(header)
+        }
+    }
+}
+
+// A first fragment, with the header that every fragment has.
+fn open_message(header: FragmentHeader, s: &[u8]) -> Fragment
+    ensures { λ r. ⌜ r ≡ openedBy header (firstHeaderOf (now (s .entry))) ⌝ }
+{
+    match judge_first(s) {
+        First::Header(first) => Fragment::First { header, first },
+        First::Refused(refusal) => Fragment::Refused(refusal),
+    }
+}
+
+// The header of every fragment. The length is judged first, so that the reads after it need no test
+// of their own.
+fn judge_header(s: &[u8]) -> Header
+    ensures { λ r. ⌜ r ≡ headerOf (now (s .entry)) ⌝ }
+{
     let n = s.len();
     if n < 20 {
-        return Fragment::Refused(Refusal {
+        return Header::Refused(Refusal {
             number: TOO_SHORT,
             place: n,
         });
@@ -107,18 +186,18 @@ pub fn judge_fragment(s: &[u8]) -> Fragment
     let counted = also(known, is_wrong_total(total), WRONG_FRAGMENT, 12);
     let numbered = also(counted, total <= number, WRONG_FRAGMENT, 16);
     match numbered {
-        Verdict::Fits => Fragment::Header(FragmentHeader {
+        Verdict::Fits => Header::Fits(FragmentHeader {
             message_type,
             transaction: u32_at(s, 8),
             total,
             number,
         }),
-        Verdict::Fault(refusal) => Fragment::Refused(refusal),
+        Verdict::Fault(refusal) => Header::Refused(refusal),
     }
 }
 
 // Judges what a first fragment has beside the header of every fragment.
-pub fn judge_first(s: &[u8]) -> First
+fn judge_first(s: &[u8]) -> First
     ensures { λ r. ⌜ r ≡ firstHeaderOf (now (s .entry)) ⌝ }
 {
     let n = s.len();
@@ -179,13 +258,40 @@ pub fn is_wrong_amount(last: bool, gathered: usize, declared: usize) -> bool
     false
 }
 
-fn whole_length(message_type: u32) -> usize
+fn whole_length(message_type: u32) -> u32
     ensures { λ r. ⌜ r ≡ wholeLength «message_type» ⌝ }
 {
     if message_type == CLOSE {
         return 12;
     }
     16
+}
+
+fn whole_word_at(message_type: u32, s: &[u8]) -> u32
+    ensures { λ r. ⌜ r ≡ wholeWordAt «message_type» (now (s .entry)) ⌝ }
+{
+    if message_type == CLOSE {
+        return 0;
+    }
+    u32_at(s, 12)
+}
+
+fn put_whole(message_type: u32, transaction: u32, word: u32, out: &mut [u8])
+    ensures { λ _. ⌜ now (out .exit) ≡ sets (now (out .entry)) 0 (wholeBytes «message_type» transaction word) ⌝ }
+{
+    put_head(message_type, transaction, out);
+    if message_type == CLOSE {
+        return;
+    }
+    put_u32(out, 12, word);
+}
+
+fn put_head(message_type: u32, transaction: u32, out: &mut [u8])
+    ensures { λ _. ⌜ now (out .exit) ≡ sets (now (out .entry)) 0 (headBytes «message_type» transaction) ⌝ }
+{
+    put_u32(out, 0, message_type);
+    put_u32(out, 4, whole_length(message_type));
+    put_u32(out, 8, transaction);
 }
 
 fn is_wrong_total(total: u32) -> bool

@@ -1,14 +1,9 @@
--- By what the memory holds.
 use borrow.Author.Needs.{needs}
-use mathlib.Core.Path.{refl}
 use Rattle.culvertroost.proofs.hosts.cvr_host_close.Statement.{statement}
 use Rattle.culvertroost.proofs.hosts.cvr_host_close.Tie as tie
 
 returns : tie.Need-returns
-returns c = rw (← c .before .before .before .before .before .before .before .before .host-at .ensures, c .before .before .before .before .before .before .host .given .1, ← c .before .before .before .before .close .ensures) (c .before .before .keep .ensures)
-
-returns-2 : tie.Need-returns-2
-returns-2 c = rw (← c .before .before .before .before .host-at .ensures, c .before .before .refusal .given .1) (c .host-info .ensures, refl)
+returns c = rw (← c .before .before .before .close .ensures .0) (c .host-info .ensures, c .before .before .before .close .ensures .1)
 
 pub cvr-host-close-spec : {M : Type 1} → statement M
-cvr-host-close-spec = tie.close (tie.spec (λ c. search needs) (λ c. search needs) (λ c. search needs) (λ c. search needs) (λ c. search needs) (λ c. search needs) (λ c. search needs) returns (λ c. search needs) returns-2)
+cvr-host-close-spec = tie.close (tie.spec (λ c. search needs) (λ c. search needs) (λ c. search needs) returns)

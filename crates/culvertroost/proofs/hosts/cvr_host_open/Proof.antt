@@ -1,14 +1,9 @@
--- By what the memory holds.
 use borrow.Author.Needs.{needs}
-use mathlib.Core.Path.{refl}
 use Rattle.culvertroost.proofs.hosts.cvr_host_open.Statement.{statement}
 use Rattle.culvertroost.proofs.hosts.cvr_host_open.Tie as tie
 
 returns : tie.Need-returns
-returns c = rw (← c .before .before .before .before .before .before .before .before .host-at .ensures, c .before .before .before .before .before .before .host .given .1, ← c .before .before .before .«open» .ensures) (c .before .before .keep .ensures)
-
-returns-2 : tie.Need-returns-2
-returns-2 c = rw (← c .before .before .before .before .host-at .ensures, c .before .before .refusal .given .1) (c .host-info .ensures, refl)
+returns c = rw (← c .before .before .before .«open» .ensures .0) (c .host-info .ensures, c .before .before .before .«open» .ensures .1)
 
 pub cvr-host-open-spec : {M : Type 1} → statement M
-cvr-host-open-spec = tie.close (tie.spec (λ c. search needs) (λ c. search needs) (λ c. search needs) (λ c. search needs) (λ c. search needs) (λ c. search needs) (λ c. search needs) returns (λ c. search needs) returns-2)
+cvr-host-open-spec = tie.close (tie.spec (λ c. search needs) (λ c. search needs) (λ c. search needs) returns)

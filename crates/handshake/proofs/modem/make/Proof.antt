@@ -1,4 +1,3 @@
--- The numbers are judged.
 use borrow.Author.Needs.{needs}
 use Rattle.handshake.specs.Modem.{madeOf}
 use Rattle.handshake.proofs.modem.make.Statement.{statement}
@@ -6,11 +5,11 @@ use Rattle.handshake.proofs.modem.make.Tie as tie
 
 returns : tie.Need-returns
 unfolding madeOf
-returns c = rw (← c .before .before .before .before .judge-numbers .ensures, c .before .before .enum-told .given .1, c .before .version-of .ensures, c .version-of2 .ensures)
+returns c = rw (← c .before .before .before .judge-numbers .ensures, c .before .enum-told .given .1) (c .make-listed .ensures)
 
 returns-2 : tie.Need-returns-2
 unfolding madeOf
 returns-2 c = rw (← c .before .before .before .judge-numbers .ensures, c .before .refusal .given .1)
 
 pub make-spec : {M : Type 1} → statement M
-make-spec = tie.close (tie.spec (λ c. search needs) (λ c. search needs) (λ c. search needs) (λ c. search needs) (λ c. search needs) returns returns-2)
+make-spec = tie.close (tie.spec (λ c. search needs) (λ c. search needs) (λ c. search needs) (λ c. search needs) returns returns-2)

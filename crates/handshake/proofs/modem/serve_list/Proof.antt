@@ -1,4 +1,3 @@
--- The stage after the list.
 use borrow.Author.Needs.{needs}
 use Rattle.handshake.specs.Modem.{servicesOf}
 use Rattle.handshake.proofs.modem.serve_list.Statement.{statement}
@@ -6,7 +5,7 @@ use Rattle.handshake.proofs.modem.serve_list.Tie as tie
 
 returns : tie.Need-returns
 unfolding servicesOf
-returns c = rw (c .at-stage .ensures, c .before .stage-after-list .ensures)
+returns c = rw (← c .before .before .stage-after-list .ensures, ← c .before .at-stage .ensures) (c .serve .ensures)
 
 pub serve-list-spec : {M : Type 1} → statement M
-serve-list-spec = tie.close (tie.spec (λ c. search needs) (λ c. search needs) returns)
+serve-list-spec = tie.close (tie.spec (λ c. search needs) (λ c. search needs) (λ c. search needs) returns)

@@ -1,4 +1,3 @@
--- By the stage.
 use borrow.Author.Needs.{needs}
 use Rattle.handshake.specs.Modem.{otherAt}
 use Rattle.handshake.proofs.modem.take_other.Statement.{statement}
@@ -14,7 +13,7 @@ returns-2 c = rw (c .take-first-other .ensures, c .before .enum-told2 .given .1)
 
 returns-3 : tie.Need-returns-3
 unfolding otherAt
-returns-3 c = rw (c .enum-told3 .given .1)
+returns-3 c = rw (c .serve .ensures, c .before .enum-told3 .given .1)
 
 pub take-other-spec : {M : Type 1} → statement M
-take-other-spec = tie.close (tie.spec (λ c. search needs) (λ c. search needs) (λ c. search needs) (λ c. search needs) (λ c. search needs) returns returns-2 returns-3)
+take-other-spec = tie.close (tie.spec (λ c. search needs) (λ c. search needs) (λ c. search needs) (λ c. search needs) (λ c. search needs) (λ c. search needs) returns returns-2 returns-3)

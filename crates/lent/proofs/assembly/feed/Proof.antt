@@ -1,8 +1,6 @@
--- By the room, then by the verdict on the numbers.
 use borrow.Author.Needs.{needs}
 use mathlib.Core.Path.{refl, _∙_}
 use native.Mathlib.Omega.{arith}
-use borrow.Author.Tests.{lt-ltb, le-ltb}
 use lib.ListN.{length-take}
 use Rattle.wire.specs.Runs.{over}
 use Rattle.lent.specs.LentAssembly.{feedIn}
@@ -10,23 +8,19 @@ use Rattle.lent.proofs.Memory.{front-cleared}
 use Rattle.lent.proofs.assembly.feed.Statement.{statement}
 use Rattle.lent.proofs.assembly.feed.Tie as tie
 
-returns : tie.Need-returns
-unfolding feedIn over
-returns c = rw (lt-ltb _ _ (c .if1 .taken)) (refl, (refl, refl))
-
 feed-whole-requires : tie.Need-feed-whole-requires
-feed-whole-requires c κs = (c .before .before .before .before .before .before .before .if1 .left, c .before .before .before .before .before .progress-at .ensures .1)
+feed-whole-requires c κs = ((c .before .before .before .before .before .before .before .before .before .before .pre), c .before .before .before .before .before .progress-at .ensures .1)
 
 slice-aggregate-clear : tie.Need-slice-aggregate-clear
 slice-aggregate-clear c = simp length-take (omega arith)
 
-returns-2 : tie.Need-returns-2
+returns : tie.Need-returns
 unfolding feedIn
-returns-2 c = rw (le-ltb _ _ (c .before .before .before .before .before .before .before .before .before .before .before .before .if1 .left), ← c .before .before .before .before .before .before .before .before .before .before .progress-at .ensures .0, ← c .before .before .before .before .before .before .before .before .before .judge-progress .ensures, c .before .before .before .before .before .before .before .enum-told .given .1) (c .before .before .before .before .feed-whole .ensures)
+returns c = rw (← c .before .before .before .before .before .before .before .before .before .before .progress-at .ensures .0, ← c .before .before .before .before .before .before .before .before .before .judge-progress .ensures, c .before .before .before .before .before .before .before .enum-told .given .1) (c .before .before .before .before .feed-whole .ensures)
 
-returns-3 : tie.Need-returns-3
+returns-2 : tie.Need-returns-2
 unfolding feedIn over
-returns-3 c = rw (le-ltb _ _ (c .before .before .before .before .before .before .before .before .before .before .if1 .left), ← c .before .before .before .before .before .before .before .before .progress-at .ensures .0, ← c .before .before .before .before .before .before .before .judge-progress .ensures, c .before .before .before .before .before .refusal .given .1) (refl, (rw (c .before .before .clear .ensures) (front-cleared (c .before .before .before .before .before .before .before .before .before .before .before .before .before .before .args .memory .now) (c .before .before .before .before .before .before .before .before .before .before .if1 .left)), refl))
+returns-2 c = rw (← c .before .before .before .before .before .before .before .before .progress-at .ensures .0, ← c .before .before .before .before .before .before .before .judge-progress .ensures, c .before .before .before .before .before .refusal .given .1) (refl, (rw (c .before .before .clear .ensures) (front-cleared (c .before .before .before .before .before .before .before .before .before .before .before .before .before .args .memory .now) (c .before .before .before .before .before .before .before .before .before .before .before .before .before .pre)), refl))
 
 pub feed-spec : {M : Type 1} → statement M
-feed-spec = tie.close (tie.spec returns (λ c. search needs) (λ c. search needs) (λ c. search needs) feed-whole-requires (λ c. search needs) (λ c. search needs) slice-aggregate-clear (λ c. search needs) (λ c. search needs) (λ c. search needs) returns-2 (λ c. search needs) returns-3)
+feed-spec = tie.close (tie.spec (λ c. search needs) (λ c. search needs) (λ c. search needs) feed-whole-requires (λ c. search needs) (λ c. search needs) slice-aggregate-clear (λ c. search needs) (λ c. search needs) (λ c. search needs) returns (λ c. search needs) returns-2)

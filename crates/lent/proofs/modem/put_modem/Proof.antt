@@ -6,7 +6,8 @@ use lib.Seq.{sets}
 use Rattle.wire.specs.Numbers.{digits}
 use Rattle.wire.proofs.Laws.{sets-then}
 use Rattle.handshake.specs.Versions.{numberOf}
-use Rattle.lent.specs.LentModem.{modemBytes, flagNumber, stageNumber, stageVersion}
+use Rattle.handshake.specs.Modem.{settledNumber}
+use Rattle.lent.specs.LentModem.{modemBytes, flagNumber, stageNumber}
 use Rattle.lent.proofs.modem.put_modem.Statement.{statement}
 use Rattle.lent.proofs.modem.put_modem.Tie as tie
 
@@ -22,7 +23,7 @@ returns c =
     let two : _ ≡ sets s 0 (a ++ b) = sets-then a b 0 2 s refl (rw (c .before .before .before .before .before .before .before .before .before .before .before .before .before .before .before .before .before .before .before .before .before .before .before .number-of .ensures) at (c .before .before .before .before .before .before .before .before .before .before .before .before .before .before .before .before .before .before .before .before .before .before .put-u16 .ensures)) (rw (c .before .before .before .before .before .before .before .before .before .before .before .before .before .before .before .before .before .before .number-of2 .ensures) at (c .before .before .before .before .before .before .before .before .before .before .before .before .before .before .before .before .before .put-u162 .ensures)) in
     let three : _ ≡ sets s 0 (a ++ b ++ d) = sets-then (a ++ b) d 0 4 s refl two (rw (c .before .before .before .before .before .before .before .before .before .before .before .before .before .flag-number .ensures) at (c .before .before .before .before .before .before .before .before .before .before .before .before .put-u163 .ensures)) in
     let four : _ ≡ sets s 0 (a ++ b ++ d ++ e) = sets-then (a ++ b ++ d) e 0 6 s refl three (rw (c .before .before .before .before .before .before .before .before .stage-number .ensures) at (c .before .before .before .before .before .before .before .put-u164 .ensures)) in
-    sets-then (a ++ b ++ d ++ e) (digits 2 (stageVersion (x .stage))) 0 8 s refl four (rw (c .before .before .before .stage-version .ensures) at (c .before .before .put-u165 .ensures))
+    sets-then (a ++ b ++ d ++ e) (digits 2 (settledNumber (x .stage))) 0 8 s refl four (rw (c .before .before .before .settled-number .ensures) at (c .before .before .put-u165 .ensures))
 
 pub put-modem-spec : {M : Type 1} → statement M
 put-modem-spec = tie.close (tie.spec (λ c. search needs) (λ c. search needs) (λ c. search needs) (λ c. search needs) (λ c. search needs) (λ c. search needs) (λ c. search needs) (λ c. search needs) (λ c. search needs) (λ c. search needs) (λ c. search needs) returns)

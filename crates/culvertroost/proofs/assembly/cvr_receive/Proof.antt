@@ -1,0 +1,9 @@
+use borrow.Author.Needs.{needs}
+use Rattle.culvertroost.proofs.assembly.cvr_receive.Statement.{statement}
+use Rattle.culvertroost.proofs.assembly.cvr_receive.Tie as tie
+
+returns : tie.Need-returns
+returns c = rw (← c .before .before .before .before .before .receive .ensures .0) (c .receive-info .ensures, c .before .before .before .before .before .receive .ensures .1)
+
+pub cvr-receive-spec : {M : Type 1} → statement M
+cvr-receive-spec = tie.close (tie.spec (λ c. search needs) (λ c. search needs) (λ c. search needs) (λ c. search needs) returns)
