@@ -67,17 +67,24 @@ static void message_cut(void) {
     seen = cvr_message_cut(message, 64, payload, 4000, out, sizeof out).refusal.number;
 }
 
-static void assembly_feed(void) {
-    seen = cvr_assembly_feed(memory, sizeof memory, out, 64, payload, sizeof payload).refusal.number;
+static void message_write(void) {
+    seen = cvr_message_write(CVR_MESSAGE_OPEN, 1, 4096, out, sizeof out).refusal.number;
 }
 
-static void host_services_reply(void) {
-    seen = cvr_host_services_reply(host, sizeof host, 0, payload, length).refusal.number;
+static void receive(void) {
+    seen = cvr_receive(memory, sizeof memory, out, 64, payload, sizeof payload).refusal.number;
 }
 
-static void modem_command(void) {
-    cvr_service service = CVR_EXTENSIONS;
-    seen = cvr_modem_command(modem, sizeof modem, service, 15, 0, payload, 4, out, sizeof out).refusal.number;
+static void host_receive(void) {
+    seen = cvr_host_receive(host, sizeof host, message, payload, length).refusal.number;
+}
+
+static void modem_make(void) {
+    seen = cvr_modem_make(modem, sizeof modem, CVR_VERSION_2_00, CVR_VERSION_1_00, payload, length).number;
+}
+
+static void modem_receive(void) {
+    seen = cvr_modem_receive(modem, sizeof modem, message, payload, 4, out, sizeof out).refusal.number;
 }
 
 /* Bytes of stack under the function, or all of it where the paint is gone. */
@@ -116,6 +123,15 @@ static void make_list(void) {
     length = cvr_device_services_write(list, payload, sizeof payload).length;
 }
 
+/* VERSION as a query, with its payload. */
+static void make_version(void) {
+    cvr_service service = CVR_EXTENSIONS;
+    cvr_version_info info = {CVR_MBIM_1_00, CVR_VERSION_2_00};
+    message.service = service;
+    message.cid = CVR_CID_VERSION;
+    cvr_version_info_write(info, payload, sizeof payload);
+}
+
 int main(void) {
     cvr_rsrp_snr entry = {60, 50, 0, 0, 0x20};
     cvr_service service = CVR_BASIC_CONNECT;
@@ -143,16 +159,22 @@ int main(void) {
     message.transaction = 1;
     message.service = service;
     row("cvr_message_cut", message_cut);
-    row("cvr_assembly_feed", assembly_feed);
+    row("cvr_receive", receive);
+    row("cvr_message_write", message_write);
     make_list();
     row("cvr_device_services_cids", device_services_cids);
     row("cvr_device_services_listed", device_services_listed);
     row("cvr_device_services_write", device_services_write);
     cvr_host_make(host, sizeof host, CVR_VERSION_2_00);
     cvr_host_open(host, sizeof host, CVR_VERSION_1_00);
-    row("cvr_host_services_reply", host_services_reply);
-    cvr_modem_make(modem, sizeof modem, CVR_VERSION_2_00, CVR_VERSION_1_00, 1);
-    row("cvr_modem_command", modem_command);
+    message.message_type = CVR_MESSAGE_COMMAND_DONE;
+    message.cid = CVR_CID_DEVICE_SERVICES;
+    row("cvr_host_receive", host_receive);
+    row("cvr_modem_make", modem_make);
+    message.message_type = CVR_MESSAGE_COMMAND;
+    row("cvr_modem_receive, a list", modem_receive);
+    make_version();
+    row("cvr_modem_receive, VERSION", modem_receive);
     printf("deepest                      %6zu\n", deepest);
     return 0;
 }

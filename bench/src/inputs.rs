@@ -1,4 +1,4 @@
-//! What is read, written, fed and cut: one good payload of each kind, and messages of the second
+//! What is read, written, received and cut: one good payload of each kind, and messages of the second
 //! program's making.
 
 use crate::plain;

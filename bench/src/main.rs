@@ -186,17 +186,17 @@ fn fragments(inputs: &Inputs) {
         let mut assembler = second::assembler::Assembler::new();
         let each = pieces.iter().map(Vec::len).sum::<usize>() / pieces.len();
         row(
-            &format!("feed at {size}, one of {}", pieces.len()),
+            &format!("receive at {size}, one of {}", pieces.len()),
             each,
             pieces.len(),
             &mut || {
-                pieces.iter().for_each(|piece| {
-                    keep(c::assembly_feed(&mut memory, black_box(piece), &mut out))
-                })
+                pieces
+                    .iter()
+                    .for_each(|piece| keep(c::receive(&mut memory, black_box(piece), &mut out)))
             },
             &mut || {
                 pieces.iter().for_each(|piece| {
-                    keep(plain::feed(&mut assembler, black_box(piece), &mut other))
+                    keep(plain::receive(&mut assembler, black_box(piece), &mut other))
                 })
             },
         );

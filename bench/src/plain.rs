@@ -1,8 +1,9 @@
 //! The second program's side: each call gives what the library's gives, as a value of its own, and
 //! none is inlined into the loop that measures it.
 
-use second::assembler::{Answer, Assembler};
+use second::assembler::Assembler;
 use second::device_services::{self, Element};
+use second::door::{self, Received};
 use second::message::Header;
 use second::packet_service::{self, PacketService};
 use second::refusal::Refusal;
@@ -115,8 +116,12 @@ pub fn services_write(cids: &[u32], out: &mut [u8]) -> Result<usize, Refusal> {
 }
 
 #[inline(never)]
-pub fn feed(assembler: &mut Assembler, piece: &[u8], out: &mut [u8]) -> Answer {
-    assembler.feed(piece, out)
+pub fn receive(
+    assembler: &mut Assembler,
+    piece: &[u8],
+    out: &mut [u8],
+) -> Result<Received, Refusal> {
+    door::receive(assembler, piece, out)
 }
 
 #[inline(never)]

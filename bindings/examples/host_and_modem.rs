@@ -6,10 +6,11 @@ const TRANSFER_SIZE: usize = 64;
 
 type Play<T> = Result<T, Refusal>;
 
-/// Both ends, and what each keeps to receive messages.
+/// Both ends, the modem's list of services, and what each end keeps to receive messages.
 struct Line {
     host: Host,
     modem: Modem,
+    services: Vec<u8>,
     host_assembly: Assembly,
     modem_assembly: Assembly,
     transaction: u32,
@@ -55,14 +56,14 @@ fn type_name(message_type: u32) -> &'static str {
 
 // ---- messages on their way
 
-/// Feeds fragments that lie one after another; the last one completes the message.
+/// Takes fragments that lie one after another; the last one completes the message.
 fn receive(to: &mut Assembly, mut fragments: &[u8]) -> Play<Message> {
     let mut out = [0; MOST_INFORMATION];
     loop {
         let length = u32::from_le_bytes(fragments[4..8].try_into().expect("four bytes"));
         let (piece, rest) = fragments.split_at(length as usize);
         fragments = rest;
-        if let Fed::Complete { message, length, .. } = to.feed(piece, &mut out)? {
+        if let Received::Complete { message, length, .. } = to.receive(piece, &mut out)? {
             assert!(fragments.is_empty());
             return Ok(Message { header: message, information: out[..length].to_vec() });
         }
@@ -103,22 +104,18 @@ fn send_reply(line: &mut Line, command: &Message, sent: &[u8], kind: Kind) -> Pl
     Ok(got)
 }
 
-fn take_command(line: &mut Line, command: &Message, out: &mut [u8]) -> Play<Action> {
-    let MessageHeader { service, cid, word, .. } = command.header;
-    line.modem.command(service, cid, word, &command.information, out)
-}
-
 // ---- both ends are made and opened
 
 fn open_ends() -> Play<Line> {
-    let mut modem = Modem::new(VERSION_2_00, VERSION_1_00, true)?;
+    let services = write_services()?;
+    let mut modem = Modem::new(VERSION_2_00, VERSION_1_00, &services)?;
     modem.open()?;
     println!("modem: native 2.00, advertises 1.00, lists VERSION");
     let mut host = Host::new(VERSION_2_00)?;
     assert_eq!(host.open(VERSION_1_00)?, Event::Opened);
     println!("host: native 2.00, opened");
     let (host_assembly, modem_assembly) = (Assembly::new(), Assembly::new());
-    Ok(Line { host, modem, host_assembly, modem_assembly, transaction: 0 })
+    Ok(Line { host, modem, services, host_assembly, modem_assembly, transaction: 0 })
 }
 
 // ---- DEVICE_SERVICES
@@ -129,7 +126,6 @@ fn write_services() -> Play<Vec<u8>> {
     assert!(list.add(BASIC_CONNECT, &basic) && list.add(EXTENSIONS, &[VERSION]));
     let mut out = [0; MOST_INFORMATION];
     let length = list.write(&mut out)?;
-    println!("modem: wrote a list of {} services, {length} bytes", list.device_services_count);
     Ok(out[..length].to_vec())
 }
 
@@ -146,19 +142,28 @@ fn print_services(payload: &[u8]) -> Play<()> {
     Ok(())
 }
 
+/// The modem takes a command that it is to serve.
+fn serve(line: &mut Line, command: &Message) -> Play<()> {
+    let taken = line.modem.receive(&command.header, &command.information, &mut [])?;
+    let Action::Serve(kind) = taken.action else {
+        panic!("the command is served");
+    };
+    println!("modem: serves {}", kind_name(Some(kind)));
+    Ok(())
+}
+
 fn ask_services(line: &mut Line) -> Play<()> {
     let mut out = [0; MOST_INFORMATION];
     assert_eq!(line.host.next_command(&mut out)?, Next::DeviceServices);
     println!("host: asks for DEVICE_SERVICES");
     let command = send_query(line, BASIC_CONNECT, DEVICE_SERVICES, &[])?;
-    let Action::Serve(kind) = take_command(line, &command, &mut out)? else {
-        panic!("DEVICE_SERVICES is served");
-    };
-    println!("modem: serves {}", kind_name(kind));
-    let list = write_services()?;
+    serve(line, &command)?;
+    let list = line.services.clone();
+    let count = DeviceServices::read(&list)?.device_services_count;
+    println!("modem: wrote a list of {count} services, {} bytes", list.len());
     let done = send_reply(line, &command, &list, Kind::DeviceServices)?;
     print_services(&done.information)?;
-    let event = line.host.services_reply(done.header.word, &done.information)?;
+    let event = line.host.receive(&done.header, &done.information)?;
     assert_eq!(event, Event::AsksVersion);
     Ok(())
 }
@@ -174,14 +179,13 @@ fn ask_version(line: &mut Line) -> Play<()> {
     let command = send_query(line, EXTENSIONS, VERSION, &out[..length])?;
     let info = VersionInfo::read(&command.information)?;
     println!("modem: the host is at {}", version_text(info.bcd_mbim_extended_version));
-    let Action::Version(length) = take_command(line, &command, &mut out)? else {
+    let taken = line.modem.receive(&command.header, &command.information, &mut out)?;
+    let Taken { action: Action::Version(length), version: Some(version) } = taken else {
         panic!("VERSION is answered");
     };
-    let info = VersionInfo::read(&out[..length])?;
-    println!("modem: answers and settles at {}", version_text(info.bcd_mbim_extended_version));
+    println!("modem: answers and settles at {}", version_text(version));
     let done = send_reply(line, &command, &out[..length], Kind::Version)?;
-    let Event::Settled(version) = line.host.version_reply(done.header.word, &done.information)?
-    else {
+    let Event::Settled(version) = line.host.receive(&done.header, &done.information)? else {
         panic!("the host settles");
     };
     println!("host: settles at {}", version_text(version));
@@ -225,10 +229,7 @@ fn ask_registration(line: &mut Line) -> Play<()> {
     };
     println!("host: asks for REGISTER_STATE at {}", version_text(version));
     let command = send_query(line, BASIC_CONNECT, REGISTER_STATE, &[])?;
-    let Action::Serve(kind) = take_command(line, &command, &mut out)? else {
-        panic!("REGISTER_STATE is served");
-    };
-    println!("modem: serves {}", kind_name(kind));
+    serve(line, &command)?;
     let reply = write_registration()?;
     let done = send_reply(line, &command, &reply, Kind::RegisterState)?;
     let (info, texts) = Registration::read(version, &done.information)?;

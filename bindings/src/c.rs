@@ -30,8 +30,8 @@ macro_rules! layout {
     };
 }
 
-layout!(#[derive(Default, Eq)] Refusal, 16, 8, { number: u32, place: usize });
-layout!(#[derive(Default)] WrittenAnswer, 24, 16, { refusal: Refusal, length: usize });
+layout!(#[derive(Default, Eq)] Refusal, 16, 8, { number: u32, place: u64 });
+layout!(#[derive(Default)] WrittenAnswer, 24, 16, { refusal: Refusal, length: u64 });
 layout!(
     /// A service id: its 16 bytes in printed order, as four little-endian words.
     #[derive(Default, Eq)]
@@ -128,7 +128,12 @@ layout!(
     }
 );
 
-layout!(#[derive(Default)] WholeAnswer, 24, 20, { refusal: Refusal, message_type: u32, transaction: u32 });
+layout!(#[derive(Default)] WholeAnswer, 32, 24, {
+    refusal: Refusal,
+    message_type: u32,
+    transaction: u32,
+    word: u32,
+});
 layout!(
     /// What the first fragment of a message says besides lengths. `word` is a command's type or a
     /// reply's status; an indication has none.
@@ -141,25 +146,26 @@ layout!(
         word: u32,
     }
 );
-layout!(#[derive(Default)] CutAnswer, 32, 24, { refusal: Refusal, count: u32, length: usize });
+layout!(#[derive(Default)] CutAnswer, 32, 24, { refusal: Refusal, count: u32, length: u64 });
 layout!(#[derive(Default)] KindAnswer, 24, 16, { refusal: Refusal, kind: u32 });
-layout!(#[derive(Default)] FeedAnswer, 64, 56, {
+layout!(#[derive(Default)] ReceiveAnswer, 64, 56, {
     refusal: Refusal,
-    complete: u32,
+    received: u32,
     dropped: u32,
     message: MessageHeader,
-    length: usize,
+    length: u64,
 });
 
 layout!(#[derive(Default)] HostAnswer, 24, 20, { refusal: Refusal, event: u32, version: u16 });
-layout!(#[derive(Default)] AskAnswer, 32, 24, { refusal: Refusal, command: u32, version: u16, length: usize });
+layout!(#[derive(Default)] AskAnswer, 32, 24, { refusal: Refusal, command: u32, version: u16, length: u64 });
 layout!(#[derive(Default)] ModemAnswer, 48, 40, {
     refusal: Refusal,
     action: u32,
     status: u32,
     kind: u32,
-    place: usize,
-    length: usize,
+    version: u16,
+    place: u64,
+    length: u64,
 });
 
 extern "C" {
@@ -235,6 +241,13 @@ extern "C" {
     ) -> WrittenAnswer;
 
     fn cvr_message_judge(message: *const u8, message_length: usize) -> WholeAnswer;
+    fn cvr_message_write(
+        message_type: u32,
+        transaction: u32,
+        word: u32,
+        out: *mut u8,
+        out_length: usize,
+    ) -> WrittenAnswer;
     fn cvr_message_cut(
         message: MessageHeader,
         size: usize,
@@ -247,14 +260,14 @@ extern "C" {
     fn cvr_transaction_next(transaction: u32) -> u32;
 
     fn cvr_assembly_empty(memory: *mut u8, memory_length: usize) -> Refusal;
-    fn cvr_assembly_feed(
+    fn cvr_receive(
         memory: *mut u8,
         memory_length: usize,
         piece: *const u8,
         piece_length: usize,
         out: *mut u8,
         out_length: usize,
-    ) -> FeedAnswer;
+    ) -> ReceiveAnswer;
 
     fn cvr_host_make(memory: *mut u8, memory_length: usize, native: u16) -> Refusal;
     fn cvr_host_open(memory: *mut u8, memory_length: usize, advertised: u16) -> HostAnswer;
@@ -265,19 +278,12 @@ extern "C" {
         out: *mut u8,
         out_length: usize,
     ) -> AskAnswer;
-    fn cvr_host_services_reply(
+    fn cvr_host_receive(
         memory: *mut u8,
         memory_length: usize,
-        status: u32,
-        payload: *const u8,
-        payload_length: usize,
-    ) -> HostAnswer;
-    fn cvr_host_version_reply(
-        memory: *mut u8,
-        memory_length: usize,
-        status: u32,
-        payload: *const u8,
-        payload_length: usize,
+        message: MessageHeader,
+        information: *const u8,
+        information_length: usize,
     ) -> HostAnswer;
 
     fn cvr_modem_make(
@@ -285,18 +291,17 @@ extern "C" {
         memory_length: usize,
         native: u16,
         advertised: u16,
-        lists_version: u32,
+        services: *const u8,
+        services_length: usize,
     ) -> Refusal;
     fn cvr_modem_open(memory: *mut u8, memory_length: usize) -> Refusal;
     fn cvr_modem_close(memory: *mut u8, memory_length: usize) -> Refusal;
-    fn cvr_modem_command(
+    fn cvr_modem_receive(
         memory: *mut u8,
         memory_length: usize,
-        service: ServiceId,
-        cid: u32,
-        command_type: u32,
-        payload: *const u8,
-        payload_length: usize,
+        message: MessageHeader,
+        information: *const u8,
+        information_length: usize,
         out: *mut u8,
         out_length: usize,
     ) -> ModemAnswer;
@@ -408,6 +413,15 @@ pub fn message_judge(message: &[u8]) -> WholeAnswer {
     unsafe { cvr_message_judge(message.as_ptr(), message.len()) }
 }
 
+pub fn message_write(
+    message_type: u32,
+    transaction: u32,
+    word: u32,
+    out: &mut [u8],
+) -> WrittenAnswer {
+    unsafe { cvr_message_write(message_type, transaction, word, out.as_mut_ptr(), out.len()) }
+}
+
 pub fn message_cut(
     message: MessageHeader,
     size: usize,
@@ -438,9 +452,9 @@ pub fn assembly_empty(memory: &mut [u8]) -> Refusal {
     unsafe { cvr_assembly_empty(memory.as_mut_ptr(), memory.len()) }
 }
 
-pub fn assembly_feed(memory: &mut [u8], piece: &[u8], out: &mut [u8]) -> FeedAnswer {
+pub fn receive(memory: &mut [u8], piece: &[u8], out: &mut [u8]) -> ReceiveAnswer {
     unsafe {
-        cvr_assembly_feed(
+        cvr_receive(
             memory.as_mut_ptr(),
             memory.len(),
             piece.as_ptr(),
@@ -467,32 +481,29 @@ pub fn host_next_command(memory: &[u8], out: &mut [u8]) -> AskAnswer {
     unsafe { cvr_host_next_command(memory.as_ptr(), memory.len(), out.as_mut_ptr(), out.len()) }
 }
 
-pub fn host_services_reply(memory: &mut [u8], status: u32, payload: &[u8]) -> HostAnswer {
+pub fn host_receive(memory: &mut [u8], message: MessageHeader, information: &[u8]) -> HostAnswer {
     unsafe {
-        cvr_host_services_reply(
+        cvr_host_receive(
             memory.as_mut_ptr(),
             memory.len(),
-            status,
-            payload.as_ptr(),
-            payload.len(),
+            message,
+            information.as_ptr(),
+            information.len(),
         )
     }
 }
 
-pub fn host_version_reply(memory: &mut [u8], status: u32, payload: &[u8]) -> HostAnswer {
+pub fn modem_make(memory: &mut [u8], native: u16, advertised: u16, services: &[u8]) -> Refusal {
     unsafe {
-        cvr_host_version_reply(
+        cvr_modem_make(
             memory.as_mut_ptr(),
             memory.len(),
-            status,
-            payload.as_ptr(),
-            payload.len(),
+            native,
+            advertised,
+            services.as_ptr(),
+            services.len(),
         )
     }
-}
-
-pub fn modem_make(memory: &mut [u8], native: u16, advertised: u16, lists_version: u32) -> Refusal {
-    unsafe { cvr_modem_make(memory.as_mut_ptr(), memory.len(), native, advertised, lists_version) }
 }
 
 pub fn modem_open(memory: &mut [u8]) -> Refusal {
@@ -503,23 +514,19 @@ pub fn modem_close(memory: &mut [u8]) -> Refusal {
     unsafe { cvr_modem_close(memory.as_mut_ptr(), memory.len()) }
 }
 
-pub fn modem_command(
+pub fn modem_receive(
     memory: &mut [u8],
-    service: ServiceId,
-    cid: u32,
-    command_type: u32,
-    payload: &[u8],
+    message: MessageHeader,
+    information: &[u8],
     out: &mut [u8],
 ) -> ModemAnswer {
     unsafe {
-        cvr_modem_command(
+        cvr_modem_receive(
             memory.as_mut_ptr(),
             memory.len(),
-            service,
-            cid,
-            command_type,
-            payload.as_ptr(),
-            payload.len(),
+            message,
+            information.as_ptr(),
+            information.len(),
             out.as_mut_ptr(),
             out.len(),
         )

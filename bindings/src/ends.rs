@@ -1,7 +1,7 @@
 //! The two ends of the version handshake.
 
 use crate::c::{self, Refusal};
-use crate::{Kind, ServiceId};
+use crate::{Kind, MessageHeader};
 
 /// What a call did to the host.
 #[derive(Clone, Copy, Debug, PartialEq, Eq)]
@@ -53,32 +53,41 @@ impl Host {
         let answer = c::host_next_command(&self.memory, out);
         answer.refusal.or(match answer.command {
             1 => Next::DeviceServices,
-            2 => Next::Version(answer.length),
+            2 => Next::Version(answer.length as usize),
             3 => Next::Free(answer.version),
             _ => Next::Nothing,
         })
     }
 
-    /// The reply to DEVICE_SERVICES: its status and payload.
-    pub fn services_reply(&mut self, status: u32, payload: &[u8]) -> Result<Event, Refusal> {
-        event(c::host_services_reply(&mut self.memory, status, payload))
-    }
-
-    /// The reply to VERSION: its status and payload.
-    pub fn version_reply(&mut self, status: u32, payload: &[u8]) -> Result<Event, Refusal> {
-        event(c::host_version_reply(&mut self.memory, status, payload))
+    /// Any message that came together. The host takes replies to DEVICE_SERVICES and VERSION out of
+    /// them; all others change nothing.
+    pub fn receive(
+        &mut self,
+        message: &MessageHeader,
+        information: &[u8],
+    ) -> Result<Event, Refusal> {
+        event(c::host_receive(&mut self.memory, *message, information))
     }
 }
 
 /// What the modem is to do with a command.
 #[derive(Clone, Copy, Debug, PartialEq, Eq)]
 pub enum Action {
-    /// Answer it; no kind where its service or CID is not known.
-    Serve(Option<Kind>),
+    /// Answer it.
+    Serve(Kind),
     /// Send so many bytes of the output with status 0.
     Version(usize),
     /// Send this status.
     Failed(u32),
+    /// Send this status: the service or the CID, which stands at this place, is not known.
+    Unknown { status: u32, place: usize },
+}
+
+/// What the modem is to do with a command, and the version that it is settled at by now.
+#[derive(Clone, Copy, Debug, PartialEq, Eq)]
+pub struct Taken {
+    pub action: Action,
+    pub version: Option<u16>,
 }
 
 #[derive(Clone, Debug, PartialEq, Eq)]
@@ -87,10 +96,11 @@ pub struct Modem {
 }
 
 impl Modem {
-    /// A modem at its start; the advertised version is at most the native one.
-    pub fn new(native: u16, advertised: u16, lists_version: bool) -> Result<Modem, Refusal> {
+    /// A modem at its start; the advertised version is at most the native one. `services` is the
+    /// DEVICE_SERVICES payload that it will serve.
+    pub fn new(native: u16, advertised: u16, services: &[u8]) -> Result<Modem, Refusal> {
         let mut memory = [0; c::MODEM_SIZE];
-        c::modem_make(&mut memory, native, advertised, lists_version.into()).or(())?;
+        c::modem_make(&mut memory, native, advertised, services).or(())?;
         Ok(Modem { memory })
     }
 
@@ -103,21 +113,26 @@ impl Modem {
         c::modem_close(&mut self.memory).or(())
     }
 
-    /// A command: its service, CID, type and payload.
-    pub fn command(
+    /// A command that came together; other messages are refused, and so is transaction 0.
+    pub fn receive(
         &mut self,
-        service: ServiceId,
-        cid: u32,
-        command_type: u32,
-        payload: &[u8],
+        message: &MessageHeader,
+        information: &[u8],
         out: &mut [u8],
-    ) -> Result<Action, Refusal> {
-        let answer = c::modem_command(&mut self.memory, service, cid, command_type, payload, out);
-        answer.refusal.or(match answer.action {
-            2 => Action::Version(answer.length),
-            3 => Action::Failed(answer.status),
-            _ => Action::Serve(Kind::of(answer.kind)),
-        })
+    ) -> Result<Taken, Refusal> {
+        let answer = c::modem_receive(&mut self.memory, *message, information, out);
+        let version = (answer.version != 0).then_some(answer.version);
+        answer.refusal.or(Taken { action: action(&answer), version })
+    }
+}
+
+fn action(answer: &c::ModemAnswer) -> Action {
+    let c::ModemAnswer { action, status, place, length, .. } = *answer;
+    match (action, Kind::of(answer.kind)) {
+        (1, Some(kind)) => Action::Serve(kind),
+        (2, _) => Action::Version(length as usize),
+        (4, _) => Action::Unknown { status, place: place as usize },
+        _ => Action::Failed(status),
     }
 }
 

@@ -17,8 +17,8 @@ pub use c::{
     DeviceService, DeviceServices, MessageHeader, PacketService, Refusal, Registration, RsrpSnr,
     ServiceElement, ServiceId, ServiceList, SignalState, VersionInfo,
 };
-pub use ends::{Action, Event, Host, Modem, Next};
-pub use messages::{judge, next_transaction, Assembly, Fed, Fragments, Kind, Whole};
+pub use ends::{Action, Event, Host, Modem, Next, Taken};
+pub use messages::{judge, next_transaction, Assembly, Fragments, Kind, Received, Whole};
 pub use payloads::{bars, rsrp, snr, Reading, Texts};
 
 /// Versions of the extensions, and the one MBIM version beside them.
@@ -29,6 +29,14 @@ pub const MBIM_1_00: u16 = 0x0100;
 /// Room that is enough for a message's information or any payload, and for its fragments.
 pub const MOST_INFORMATION: usize = 4096;
 pub const MOST_CUT: usize = 6004;
+
+/// The message types that are never fragmented.
+pub const OPEN: u32 = 1;
+pub const CLOSE: u32 = 2;
+pub const HOST_ERROR: u32 = 4;
+pub const OPEN_DONE: u32 = 0x8000_0001;
+pub const CLOSE_DONE: u32 = 0x8000_0002;
+pub const FUNCTION_ERROR: u32 = 0x8000_0004;
 
 /// The message types that come in fragments.
 pub const COMMAND: u32 = 3;

@@ -1,19 +1,31 @@
-//! Messages: judged whole, cut, put together, and which payload one shows.
+//! Messages: whole ones judged and written, others cut, all of them received, and which payload
+//! one shows.
 
 use crate::c::{self, Refusal};
 use crate::MessageHeader;
 
-/// A message that is never fragmented.
+/// A message that is never fragmented. `word` is OPEN's transfer size, a DONE's status or an error's
+/// code; CLOSE has none and shows 0.
 #[derive(Clone, Copy, Debug, PartialEq, Eq)]
 pub struct Whole {
     pub message_type: u32,
     pub transaction: u32,
+    pub word: u32,
+}
+
+impl Whole {
+    /// Gives how many bytes were written at the front of the output. The word of a CLOSE is ignored.
+    pub fn write(&self, out: &mut [u8]) -> Result<usize, Refusal> {
+        let Whole { message_type, transaction, word } = *self;
+        let answer = c::message_write(message_type, transaction, word, out);
+        answer.refusal.or(answer.length as usize)
+    }
 }
 
 /// Judges a message that is never fragmented.
 pub fn judge(message: &[u8]) -> Result<Whole, Refusal> {
-    let c::WholeAnswer { refusal, message_type, transaction } = c::message_judge(message);
-    refusal.or(Whole { message_type, transaction })
+    let c::WholeAnswer { refusal, message_type, transaction, word } = c::message_judge(message);
+    refusal.or(Whole { message_type, transaction, word })
 }
 
 /// The transaction number after this one: 0 is left out.
@@ -60,7 +72,7 @@ impl MessageHeader {
         out: &mut [u8],
     ) -> Result<Fragments, Refusal> {
         let c::CutAnswer { refusal, count, length } = c::message_cut(*self, size, information, out);
-        refusal.or(Fragments { count, length })
+        refusal.or(Fragments { count, length: length as usize })
     }
 
     /// The payload that the message's information is. A failed reply, and a command other than
@@ -71,21 +83,18 @@ impl MessageHeader {
     }
 }
 
-/// What came of a fragment. `dropped`: an unfinished message was dropped for this one.
+/// What came of a piece. `dropped`: an unfinished message was dropped for this one.
 #[derive(Clone, Copy, Debug, PartialEq, Eq)]
-pub enum Fed {
-    Pending {
-        dropped: bool,
-    },
+pub enum Received {
+    /// A message that is never fragmented; what is pending stays so.
+    Whole(Whole),
+    /// A fragment, and more are to come.
+    Pending { message_type: u32, transaction: u32, dropped: bool },
     /// The message is complete; so many bytes of information are at the front of the output.
-    Complete {
-        message: MessageHeader,
-        length: usize,
-        dropped: bool,
-    },
+    Complete { message: MessageHeader, length: usize, dropped: bool },
 }
 
-/// Puts messages together from their fragments.
+/// Receives messages, and puts them together from their fragments.
 #[derive(Clone)]
 pub struct Assembly {
     memory: [u8; c::ASSEMBLY_SIZE],
@@ -101,14 +110,17 @@ impl Assembly {
         *self = Assembly::new();
     }
 
-    /// Feeds one fragment. A complete message, and a refusal, leave an empty assembly.
-    pub fn feed(&mut self, piece: &[u8], out: &mut [u8]) -> Result<Fed, Refusal> {
-        let c::FeedAnswer { refusal, complete, dropped, message, length } =
-            c::assembly_feed(&mut self.memory, piece, out);
+    /// Takes any piece that came: a whole message or a fragment. A complete message, and a refused
+    /// piece that is no whole message, leave an empty assembly.
+    pub fn receive(&mut self, piece: &[u8], out: &mut [u8]) -> Result<Received, Refusal> {
+        let c::ReceiveAnswer { refusal, received, dropped, message, length } =
+            c::receive(&mut self.memory, piece, out);
+        let MessageHeader { message_type, transaction, word, .. } = message;
         let dropped = dropped != 0;
-        refusal.or(match complete {
-            0 => Fed::Pending { dropped },
-            _ => Fed::Complete { message, length, dropped },
+        refusal.or(match received {
+            1 => Received::Whole(Whole { message_type, transaction, word }),
+            2 => Received::Pending { message_type, transaction, dropped },
+            _ => Received::Complete { message, length: length as usize, dropped },
         })
     }
 }

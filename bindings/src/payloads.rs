@@ -152,7 +152,7 @@ pub fn bars(rssi: u32) -> Result<Option<u32>, Refusal> {
 }
 
 fn written(answer: c::WrittenAnswer) -> Result<usize, Refusal> {
-    answer.refusal.or(answer.length)
+    answer.refusal.or(answer.length as usize)
 }
 
 fn text(payload: &[u8], range: c::Range) -> &[u8] {

@@ -30,16 +30,16 @@ impl Library {
         let input: Box<[u8]> = input.into(); // nothing behind it, for valgrind to see
         let asked = Asked { arguments, input: &input };
         let answer = match question {
-            q::FEED => feed(&mut self.assembly, &asked),
+            q::RECEIVE => receive(&mut self.assembly, &asked),
             q::EMPTY_ASSEMBLY => empty(&mut self.assembly),
             q::SHOW_ASSEMBLY => show_assembly(&self.assembly),
             q::MAKE_HOST => make_host(&mut self.host, &asked),
             q::MAKE_MODEM => make_modem(&mut self.modem, &asked),
-            q::HOST_OPEN..=q::HOST_VERSION_REPLY | q::SHOW_HOST => match &mut self.host {
+            q::HOST_OPEN..=q::HOST_RECEIVE | q::SHOW_HOST => match &mut self.host {
                 Some(host) => ask_host(host, question, &asked),
                 None => none(),
             },
-            q::MODEM_OPEN..=q::MODEM_COMMAND | q::SHOW_MODEM => match &mut self.modem {
+            q::MODEM_OPEN..=q::MODEM_RECEIVE | q::SHOW_MODEM => match &mut self.modem {
                 Some(modem) => ask_modem(modem, question, &asked),
                 None => none(),
             },
@@ -69,6 +69,7 @@ fn ask_stateless(question: u32, asked: &Asked) -> Flat {
         q::LISTED => listed(asked),
         q::SERVICES_WRITE => services_write(asked),
         q::WHOLE_MESSAGE => whole_message(asked),
+        q::WHOLE_WRITE => whole_write(asked),
         q::CUT => cut(asked),
         q::NEXT_TRANSACTION => plain(&[c::transaction_next(asked.word(0)).into()]),
         q::PAYLOAD_KIND => payload_kind(asked),
@@ -103,10 +104,24 @@ impl<'a> Asked<'a> {
         let (service, rest) = self.input.split_at(self.input.len().min(16));
         (c::service_id(service), rest)
     }
+
+    /// The message whose type, transaction, CID and word stand from a place on, with the service at
+    /// the front of the input, and the information after that.
+    fn message(&self, place: usize) -> (MessageHeader, &'a [u8]) {
+        let (service, information) = self.service();
+        let message = MessageHeader {
+            message_type: self.word(place),
+            transaction: self.word(place + 1),
+            service,
+            cid: self.word(place + 2),
+            word: self.word(place + 3),
+        };
+        (message, information)
+    }
 }
 
 fn refused(refusal: Refusal) -> Answer {
-    let numbers = vec![refusal.number.into(), refusal.place as u64];
+    let numbers = vec![refusal.number.into(), refusal.place];
     Answer { numbers, output: Vec::new() }
 }
 
@@ -157,7 +172,7 @@ macro_rules! refusable {
 
 refusable!(WrittenAnswer, VersionInfoAnswer, PacketServiceAnswer, RegistrationAnswer);
 refusable!(SignalStateAnswer, ReadingAnswer, BarsAnswer, DeviceServicesAnswer, ElementAnswer);
-refusable!(ListedAnswer, WholeAnswer, CutAnswer, KindAnswer, FeedAnswer);
+refusable!(ListedAnswer, WholeAnswer, CutAnswer, KindAnswer, ReceiveAnswer);
 refusable!(HostAnswer, AskAnswer, ModemAnswer);
 
 impl Refusable for Refusal {
@@ -188,11 +203,11 @@ pub fn accepted<T: Refusable>(answer: T) -> Result<T, Stop> {
 fn lend<T: Refusable>(
     room: u64,
     call: impl FnOnce(&mut [u8]) -> T,
-    length: impl FnOnce(&T) -> usize,
+    length: impl FnOnce(&T) -> u64,
 ) -> Result<(T, Vec<u8>), Stop> {
     let mut out = Lent::filled(room as usize);
     let answer = call(out.memory());
-    let written = length(&answer);
+    let written = length(&answer) as usize;
     if !out.holds_past(written) {
         return Err(Stop::Wrong("output touched"));
     }
@@ -202,14 +217,11 @@ fn lend<T: Refusable>(
 /// A writer's answer: its length and its bytes.
 fn written(room: u64, call: impl FnOnce(&mut [u8]) -> WrittenAnswer) -> Flat {
     let (answer, output) = lend(room, call, |answer| answer.length)?;
-    with_output(&[answer.length as u64], output)
+    with_output(&[answer.length], output)
 }
 
 /// Calls with a copy of the memory between guards; a refused call must leave it as it was.
-fn keep<T: Refusable, const N: usize>(
-    memory: &mut [u8; N],
-    call: impl FnOnce(&mut [u8]) -> T,
-) -> Result<T, Stop> {
+fn keep<T: Refusable>(memory: &mut [u8], call: impl FnOnce(&mut [u8]) -> T) -> Result<T, Stop> {
     let mut lent = Lent::holding(memory);
     let answer = call(lent.memory());
     if !lent.guards_hold() {
@@ -439,18 +451,16 @@ fn services_write(asked: &Asked) -> Flat {
 
 fn whole_message(asked: &Asked) -> Flat {
     let whole = accepted(c::message_judge(asked.input))?;
-    plain(&words(&[whole.message_type, whole.transaction]))
+    plain(&words(&[whole.message_type, whole.transaction, whole.word]))
+}
+
+fn whole_write(asked: &Asked) -> Flat {
+    let (message_type, transaction, word) = (asked.word(1), asked.word(2), asked.word(3));
+    written(asked.number(0), |out| c::message_write(message_type, transaction, word, out))
 }
 
 fn cut(asked: &Asked) -> Flat {
-    let (service, information) = asked.service();
-    let message = MessageHeader {
-        message_type: asked.word(2),
-        transaction: asked.word(3),
-        service,
-        cid: asked.word(4),
-        word: asked.word(5),
-    };
+    let (message, information) = asked.message(2);
     let size = asked.number(1) as usize;
     let call = |out: &mut [u8]| c::message_cut(message, size, information, out);
     let (answer, output) = lend(asked.number(0), call, |answer| answer.length)?;
@@ -468,34 +478,45 @@ fn payload_kind(asked: &Asked) -> Flat {
     plain(&[accepted(c::payload_kind(message))?.kind.into()])
 }
 
-/// A refused piece must leave the memory all zero.
-fn feed(assembly: &mut [u8; ASSEMBLY_SIZE], asked: &Asked) -> Flat {
-    let mut lent = Lent::holding(assembly);
-    let call = |out: &mut [u8]| c::assembly_feed(lent.memory(), asked.input, out);
+/// Lends the front of the memory, as much as the question says. A refused fragment must leave it all
+/// zero; too little memory and a whole message must leave it as it was.
+fn receive(assembly: &mut [u8; ASSEMBLY_SIZE], asked: &Asked) -> Flat {
+    let size = ASSEMBLY_SIZE.min(asked.number(1) as usize);
+    let memory = &mut assembly[..size];
+    let mut lent = Lent::holding(memory);
+    let call = |out: &mut [u8]| c::receive(lent.memory(), asked.input, out);
     let answer = lend(asked.number(0), call, |answer| answer.length);
     if !lent.guards_hold() {
         return Err(Stop::Wrong("bytes beside the memory touched"));
     }
-    assembly.copy_from_slice(lent.bytes());
-    if answer.is_err() && assembly.iter().any(|byte| *byte != 0) {
+    let untouched = size < ASSEMBLY_SIZE || is_whole(asked.input);
+    if untouched && lent.bytes() != memory {
+        return Err(Stop::Wrong("memory touched"));
+    }
+    memory.copy_from_slice(lent.bytes());
+    if answer.is_err() && !untouched && memory.iter().any(|byte| *byte != 0) {
         return Err(Stop::Wrong("a refused piece left something"));
     }
-    let (answer, information) = answer?;
-    fed(answer, &information)
+    let (ReceiveAnswer { received, dropped, message, .. }, information) = answer?;
+    let MessageHeader { message_type, transaction, service, cid, word } = message;
+    let length = information.len() as u32;
+    let numbers = words(&[received, dropped, message_type, transaction, cid, word, length]);
+    with_output(&numbers, [service_bytes(service), information].concat())
 }
 
-fn fed(answer: FeedAnswer, information: &[u8]) -> Flat {
-    let MessageHeader { message_type, transaction, service, cid, word } = answer.message;
-    if answer.complete == 0 {
-        if answer.message != MessageHeader::default() || answer.length != 0 {
-            return Err(Stop::Wrong("a message that is not complete"));
-        }
-        return plain(&[0, answer.dropped.into()]);
-    }
-    let head = [answer.complete, answer.dropped, message_type, transaction, cid, word];
-    let numbers = [words(&head), vec![information.len() as u64]].concat();
-    with_output(&numbers, [&service_bytes(service), information].concat())
+/// Whether a piece has the type of a message that is never fragmented.
+pub fn is_whole(piece: &[u8]) -> bool {
+    piece.len() >= 4 && WHOLE.contains(&u32_at(piece, 0))
 }
+
+pub const WHOLE: [u32; 6] = [
+    culvertroost::OPEN,
+    culvertroost::CLOSE,
+    culvertroost::HOST_ERROR,
+    culvertroost::OPEN_DONE,
+    culvertroost::CLOSE_DONE,
+    culvertroost::FUNCTION_ERROR,
+];
 
 fn empty(assembly: &mut [u8; ASSEMBLY_SIZE]) -> Flat {
     accepted(keep(assembly, c::assembly_empty)?)?;
@@ -520,37 +541,35 @@ pub fn u16_at(bytes: &[u8], at: usize) -> u16 {
 
 // ---- the two ends
 
-/// A refused `make` leaves the one before, or none.
+/// Lends the front of the end's memory, so many bytes. A refused `make` leaves the one before, or none.
 fn make<const N: usize>(
     end: &mut Option<[u8; N]>,
+    size: usize,
     call: impl FnOnce(&mut [u8]) -> Refusal,
 ) -> Flat {
     let mut memory = end.unwrap_or([FILL; N]);
-    accepted(keep(&mut memory, call)?)?;
+    accepted(keep(&mut memory[..size.min(N)], call)?)?;
     *end = Some(memory);
     plain(&[])
 }
 
 fn make_host(host: &mut Option<[u8; HOST_SIZE]>, asked: &Asked) -> Flat {
-    make(host, |memory| c::host_make(memory, asked.half(0)))
+    make(host, HOST_SIZE, |memory| c::host_make(memory, asked.half(0)))
 }
 
 fn make_modem(modem: &mut Option<[u8; MODEM_SIZE]>, asked: &Asked) -> Flat {
-    let (native, advertised, lists_version) = (asked.half(0), asked.half(1), asked.word(2));
-    make(modem, |memory| c::modem_make(memory, native, advertised, lists_version))
+    let (native, advertised, size) = (asked.half(0), asked.half(1), asked.number(2) as usize);
+    make(modem, size, |memory| c::modem_make(memory, native, advertised, asked.input))
 }
 
 fn ask_host(host: &mut [u8; HOST_SIZE], question: u32, asked: &Asked) -> Flat {
-    let (status, payload) = (asked.word(0), asked.input);
+    let (message, information) = asked.message(0);
     match question {
         q::HOST_OPEN => event(keep(host, |memory| c::host_open(memory, asked.half(0)))?),
         q::HOST_CLOSE => close(keep(host, c::host_close)?),
         q::HOST_NEXT => next_command(host, asked),
-        q::HOST_SERVICES_REPLY => {
-            event(keep(host, |memory| c::host_services_reply(memory, status, payload))?)
-        }
-        q::HOST_VERSION_REPLY => {
-            event(keep(host, |memory| c::host_version_reply(memory, status, payload))?)
+        q::HOST_RECEIVE => {
+            event(keep(host, |memory| c::host_receive(memory, message, information))?)
         }
         _ => plain(&[0, 2, 4].map(|at| u16_at(host, at).into())),
     }
@@ -574,7 +593,7 @@ fn next_command(host: &[u8; HOST_SIZE], asked: &Asked) -> Flat {
     let (answer, output) = lend(asked.number(0), call, |answer| answer.length)?;
     let AskAnswer { command, version, length, .. } = answer;
     match command {
-        2 if version == 0 => with_output(&[2, length as u64], output),
+        2 if version == 0 => with_output(&[2, length], output),
         0..=3 if length == 0 => plain(&[command.into(), version.into()]),
         _ => Err(Stop::Wrong("members of a next command")),
     }
@@ -590,25 +609,22 @@ fn ask_modem(modem: &mut [u8; MODEM_SIZE], question: u32, asked: &Asked) -> Flat
             accepted(keep(modem, c::modem_close)?)?;
             plain(&[])
         }
-        q::MODEM_COMMAND => command(modem, asked),
+        q::MODEM_RECEIVE => modem_receive(modem, asked),
         _ => plain(&[0, 2, 4, 6, 8].map(|at| u16_at(modem, at).into())),
     }
 }
 
-fn command(modem: &mut [u8; MODEM_SIZE], asked: &Asked) -> Flat {
-    let (service, payload) = asked.service();
-    let (cid, command_type) = (asked.word(1), asked.word(2));
+fn modem_receive(modem: &mut [u8; MODEM_SIZE], asked: &Asked) -> Flat {
+    let (message, information) = asked.message(1);
     let mut kept = Ok(ModemAnswer::default());
     let call = |out: &mut [u8]| {
-        kept = keep(modem, |memory| {
-            c::modem_command(memory, service, cid, command_type, payload, out)
-        });
+        kept = keep(modem, |memory| c::modem_receive(memory, message, information, out));
         kept.as_ref().copied().unwrap_or_default()
     };
     let lent = lend(asked.number(0), call, |answer| answer.length);
     kept?;
     let (answer, output) = lent?;
-    let ModemAnswer { action, status, kind, place, length, .. } = answer;
-    let numbers = [action.into(), status.into(), kind.into(), place as u64, length as u64];
+    let ModemAnswer { action, status, kind, version, place, length, .. } = answer;
+    let numbers = [action.into(), status.into(), kind.into(), version.into(), place, length];
     with_output(&numbers, output)
 }

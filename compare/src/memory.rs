@@ -3,7 +3,7 @@
 //! outside stays as it was.
 
 use crate::lent::Lent;
-use crate::library::{accepted, u16_at, u32_at, Refusable, Stop};
+use crate::library::{accepted, is_whole, u16_at, u32_at, Refusable, Stop, WHOLE};
 use crate::payloads::put;
 use crate::random::Random;
 use culvertroost::c::{self, *};
@@ -42,7 +42,7 @@ pub fn hostile(random: &mut Random, cases: usize) -> usize {
 }
 
 fn refusal(number: u32, place: usize) -> Option<Refusal> {
-    Some(Refusal { number, place })
+    Some(Refusal { number, place: place as u64 })
 }
 
 /// The refusal in an answer, if there is one and nothing beside it.
@@ -133,8 +133,20 @@ fn nearly_empty(random: &mut Random, size: usize) -> Vec<u8> {
     memory
 }
 
-/// A fragment that may go on with what the memory holds, or any bytes.
+/// A whole message, good or not.
+fn whole(random: &mut Random) -> Vec<u8> {
+    let length = random.pick(&[4, 11, 12, 12, 16, 16, 16, 17]);
+    let mut piece = random.bytes(length);
+    put(&mut piece, 0, random.pick(&WHOLE));
+    put(&mut piece, 4, random.mostly(&[length as u32]) as u32);
+    piece
+}
+
+/// A fragment that may go on with what the memory holds, a whole message, or any bytes.
 fn piece(random: &mut Random, memory: &[u8]) -> Vec<u8> {
+    if random.once_in(6) {
+        return whole(random);
+    }
     if memory.len() < 48 || random.once_in(6) {
         let length = random.below(100);
         return random.bytes(length);
@@ -163,16 +175,36 @@ fn assembly(random: &mut Random) -> Outcome {
     }
     let piece = piece(random, &before);
     let mut out = Lent::filled(if random.once_in(4) { random.below(100) } else { 4096 });
-    let answer = c::assembly_feed(memory.memory(), &piece, out.memory());
+    let answer = c::receive(memory.memory(), &piece, out.memory());
     need(memory.guards_hold(), "bytes beside the memory touched")?;
-    need(out.holds_past(answer.length), "output touched")?;
+    need(out.holds_past(answer.length as usize), "output touched")?;
     let refused = refusal_in(answer)?;
+    if is_whole(&piece) {
+        return left_by_whole(&piece, answer, &before, memory.bytes());
+    }
     need_refusal(refused, assembly_refusal(&before))?;
-    if refused.is_some() || answer.complete == 1 {
+    if refused.is_some() || answer.received == 3 {
         left_by_refusal(&before, memory.bytes())?;
     } else {
         left_pending(&before, memory.bytes())?;
     }
+    Ok(refused)
+}
+
+/// A whole message is judged by itself, and its memory, if there is enough, is not looked at.
+fn left_by_whole(piece: &[u8], answer: ReceiveAnswer, before: &[u8], after: &[u8]) -> Outcome {
+    need(before == after, "memory touched by a whole message")?;
+    let refused = refusal_in(answer)?;
+    if before.len() < ASSEMBLY_SIZE {
+        need(refused == refusal(11, ASSEMBLY_SIZE), "another refusal")?;
+        return Ok(refused);
+    }
+    let judged = c::message_judge(piece);
+    need(refused == refusal_in(judged)?, "another refusal than the judge's")?;
+    let WholeAnswer { message_type, transaction, word, .. } = judged;
+    let message = MessageHeader { message_type, transaction, word, ..MessageHeader::default() };
+    let received = ReceiveAnswer { received: 1, message, ..ReceiveAnswer::default() };
+    need(refused.is_some() || answer == received, "another answer than the judge's")?;
     Ok(refused)
 }
 
@@ -248,6 +280,14 @@ fn end_memory(random: &mut Random, needed: usize, numbers: &[&[u32]]) -> Vec<u8>
     memory
 }
 
+/// A message of this type, of DEVICE_SERVICES or VERSION most often.
+fn message(random: &mut Random, message_type: u32) -> MessageHeader {
+    let (service, cid) =
+        random.pick(&[(culvertroost::BASIC_CONNECT, 16), (culvertroost::EXTENSIONS, 15)]);
+    let cid = random.mostly(&[cid, cid, 9]) as u32;
+    MessageHeader { message_type, transaction: 1, service, cid, word: random.below(2) as u32 }
+}
+
 fn host(random: &mut Random) -> Outcome {
     let numbers: [&[u32]; 3] =
         [&[0x0100, 0x0200], &[0, 1, 1, 2, 2, 3, 3], &[0x0100, 0x0200, 0x0100, 0x0200, 0]];
@@ -259,16 +299,16 @@ fn host(random: &mut Random) -> Outcome {
         return left_by_end(refused, small, &before, &memory, HOST);
     }
     let mut out = Lent::filled(random.below(8));
-    let (status, length) = (random.below(2) as u32, random.below(12));
+    let length = random.below(12);
     let payload = if random.once_in(2) { vec![0, 1, 0, 2] } else { random.bytes(length) };
+    let message = message(random, COMMAND_DONE);
     let refused = match random.below(5) {
         0 => refusal_in(c::host_open(memory.memory(), 0x0100)),
         1 => refusal_in(c::host_close(memory.memory())),
-        2 => refusal_in(c::host_services_reply(memory.memory(), status, &payload)),
-        3 => refusal_in(c::host_version_reply(memory.memory(), status, &payload)),
+        2 | 3 => refusal_in(c::host_receive(memory.memory(), message, &payload)),
         _ => {
             let answer = c::host_next_command(memory.memory(), out.memory());
-            need(out.holds_past(answer.length), "output touched")?;
+            need(out.holds_past(answer.length as usize), "output touched")?;
             refusal_in(answer)
         }
     }?;
@@ -282,24 +322,33 @@ fn modem(random: &mut Random) -> Outcome {
     let before = end_memory(random, MODEM_SIZE, &numbers);
     let mut memory = Lent::holding(&before);
     if random.once_in(8) {
-        let refused = refusal_in(c::modem_make(memory.memory(), 0x0200, 0x0100, random.word()))?;
-        let small = modem_refusal(&before).filter(|refusal| refusal.number == 11);
-        return left_by_end(refused, small, &before, &memory, MODEM);
+        return modem_make(random, &before);
     }
     let mut out = Lent::filled(random.below(8));
-    let service = random.pick(&[culvertroost::BASIC_CONNECT, culvertroost::EXTENSIONS]);
-    let cid = random.mostly(&[9, 15, 15, 16]) as u32;
+    let mut message = message(random, COMMAND);
+    if modem_refusal(&before).is_some() && random.once_in(2) {
+        message.transaction = 0; // refused by 9 too, but only after the memory
+    }
     let refused = match random.below(6) {
         0 => refusal_in(c::modem_open(memory.memory())),
         1 => refusal_in(c::modem_close(memory.memory())),
         _ => {
-            let memory = memory.memory();
-            let answer = c::modem_command(memory, service, cid, 0, &[0, 1, 0, 2], out.memory());
-            need(out.holds_past(answer.length), "output touched")?;
+            let answer = c::modem_receive(memory.memory(), message, &[0, 1, 0, 2], out.memory());
+            need(out.holds_past(answer.length as usize), "output touched")?;
             refusal_in(answer)
         }
     }?;
     left_by_end(refused, modem_refusal(&before), &before, &memory, MODEM)
+}
+
+/// Whatever the memory holds, a modem can be made in it; its list is judged before its size.
+fn modem_make(random: &mut Random, before: &[u8]) -> Outcome {
+    let mut memory = Lent::holding(before);
+    let services = random.pick(&[&[0; 8][..], &[0; 7]]);
+    let refused = refusal_in(c::modem_make(memory.memory(), 0x0200, 0x0100, services))?;
+    let small = modem_refusal(before).filter(|refusal| refusal.number == 11);
+    let expected = if services.len() < 8 { refusal(1, 7) } else { small };
+    left_by_end(refused, expected, before, &memory, MODEM)
 }
 
 /// Bad memory gives the expected refusal; a refusal leaves memory as it was, an answer leaves good

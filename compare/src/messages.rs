@@ -1,12 +1,12 @@
-//! Whole messages, the cutter, the payload kind, and streams of fragments.
+//! Whole messages, the cutter, the payload kind, and streams of pieces.
 
 use crate::damage;
-use crate::library::u32_at;
+use crate::library::{u32_at, WHOLE};
 use crate::payloads::put;
 use crate::random::Random;
 use crate::services::service;
 use crate::sides::Sides;
-use second::flat::question as q;
+use second::flat::{question as q, ASSEMBLY_SIZE};
 use second::message::{COMMAND, COMMAND_DONE, INDICATE_STATUS};
 
 const FRAGMENTED: [u32; 3] = [COMMAND, COMMAND_DONE, INDICATE_STATUS];
@@ -15,14 +15,26 @@ const TYPES: [u32; 11] =
 const CIDS: [u32; 6] = [9, 10, 11, 15, 16, 12];
 
 pub fn whole(sides: &mut Sides, random: &mut Random) {
-    let mut message = vec![0; random.pick(&[12, 16, 16, 16, 20])];
-    let length = message.len() as u32;
-    put(&mut message, 0, random.mostly(&TYPES) as u32);
-    put(&mut message, 4, length);
-    put(&mut message, 8, random.hostile());
+    let message_type = random.mostly(&TYPES);
+    let (transaction, word) = (random.hostile(), random.hostile());
+    let head = [message_type, transaction.into(), word.into()];
+    let written = sides.ask(q::WHOLE_WRITE, &[&[random.room(16)], &head[..]].concat(), &[]);
+    sides.ask(q::WHOLE_MESSAGE, &[], &written.output);
+    let message = whole_message(random, &TYPES);
     sides.ask(q::WHOLE_MESSAGE, &[], &message);
     let message = damage::damaged(random, &message);
     sides.ask(q::WHOLE_MESSAGE, &[], &message);
+}
+
+/// A message of one of these types, most often of a good length.
+fn whole_message(random: &mut Random, types: &[u32]) -> Vec<u8> {
+    let mut message = vec![0; random.pick(&[12, 16, 16, 16, 20])];
+    let length = message.len() as u32;
+    put(&mut message, 0, random.mostly(types) as u32);
+    put(&mut message, 4, length);
+    put(&mut message, 8, random.hostile());
+    put(&mut message, 12, random.hostile());
+    message
 }
 
 pub fn kind(sides: &mut Sides, random: &mut Random) {
@@ -145,13 +157,18 @@ fn stream(sides: &mut Sides, random: &mut Random) -> Vec<Vec<u8>> {
 /// Drops, repeats, exchanges and damages fragments, and puts strays among them.
 fn disturbed(random: &mut Random, pieces: &mut Vec<Vec<u8>>, strays: &[Vec<u8>]) {
     let place = random.below(pieces.len());
-    match random.below(9) {
+    match random.below(11) {
         0 if !pieces.is_empty() => drop(pieces.remove(place)),
         1 if !pieces.is_empty() => pieces.insert(place, pieces[place].clone()),
         2 if place + 1 < pieces.len() => pieces.swap(place, place + 1),
         3 if !pieces.is_empty() => pieces[place] = damage::damaged(random, &pieces[place]),
         4 if !strays.is_empty() => pieces.insert(place, random.pick_from(strays)),
         5 => pieces.insert(place, stray(random)),
+        8 => pieces.insert(place, whole_message(random, &WHOLE)),
+        9 => {
+            let message = whole_message(random, &WHOLE);
+            pieces.insert(place, damage::damaged(random, &message));
+        }
         6 | 7 if !pieces.is_empty() => change_field(random, &mut pieces[place]),
         _ => {}
     }
@@ -174,7 +191,7 @@ fn change_field(random: &mut Random, piece: &mut Vec<u8>) {
 
 /// A piece that belongs to nothing.
 fn stray(random: &mut Random) -> Vec<u8> {
-    let length = random.pick(&[0, 12, 19, 20, 21, 43, 44, 47, 48, 64, 4096, 4097]);
+    let length = random.pick(&[0, 1, 3, 4, 5, 12, 19, 20, 21, 43, 44, 47, 48, 64, 4096, 4097]);
     let mut piece = random.bytes(length);
     let total = random.mostly(&[1, 2, 3, 128, 129]) as u32;
     let fields = [random.mostly(&TYPES) as u32, length as u32, 7, total, random.below(4) as u32];
@@ -199,15 +216,16 @@ pub fn feeds(sides: &mut Sides, random: &mut Random) {
     }
     for piece in &pieces {
         let room = if random.once_in(6) { random.below(300) as u64 } else { 4096 };
-        sides.step(q::FEED, &[room], piece);
+        let size = if random.once_in(30) { random.room(144) + 3999 } else { ASSEMBLY_SIZE };
+        sides.step(q::RECEIVE, &[room, size], piece);
     }
 }
 
-/// Cuts, feeds and gives the information that came together.
+/// Cuts, receives and gives the information that came together.
 pub fn carry(sides: &mut Sides, head: [u64; 4], service: [u8; 16], information: &[u8]) -> Vec<u8> {
     let mut output = Vec::new();
     for piece in fragments(sides, 64, head, service, information) {
-        output = sides.step(q::FEED, &[4096], &piece).output;
+        output = sides.step(q::RECEIVE, &[4096, ASSEMBLY_SIZE], &piece).output;
     }
     sides.ask(q::PAYLOAD_KIND, &[head[0], head[2], head[3]], &service);
     output.split_off(output.len().min(16))

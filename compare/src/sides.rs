@@ -18,22 +18,14 @@ const GROUPS: [(&str, &[u32]); 11] = [
         "device services",
         &[q::SERVICES_READ, q::ELEMENT, q::SERVICE_CIDS, q::LISTED, q::SERVICES_WRITE],
     ),
-    ("whole messages", &[q::WHOLE_MESSAGE]),
-    ("assembly", &[q::FEED, q::EMPTY_ASSEMBLY, q::SHOW_ASSEMBLY]),
+    ("whole messages", &[q::WHOLE_MESSAGE, q::WHOLE_WRITE]),
+    ("received pieces", &[q::RECEIVE, q::EMPTY_ASSEMBLY, q::SHOW_ASSEMBLY]),
     ("cutter", &[q::CUT, q::NEXT_TRANSACTION, q::PAYLOAD_KIND]),
     (
         "host",
-        &[
-            q::MAKE_HOST,
-            q::HOST_OPEN,
-            q::HOST_CLOSE,
-            q::HOST_NEXT,
-            q::HOST_SERVICES_REPLY,
-            q::HOST_VERSION_REPLY,
-            q::SHOW_HOST,
-        ],
+        &[q::MAKE_HOST, q::HOST_OPEN, q::HOST_CLOSE, q::HOST_NEXT, q::HOST_RECEIVE, q::SHOW_HOST],
     ),
-    ("modem", &[q::MAKE_MODEM, q::MODEM_OPEN, q::MODEM_CLOSE, q::MODEM_COMMAND, q::SHOW_MODEM]),
+    ("modem", &[q::MAKE_MODEM, q::MODEM_OPEN, q::MODEM_CLOSE, q::MODEM_RECEIVE, q::SHOW_MODEM]),
     ("readings", &[q::RSRP, q::SNR, q::BARS]),
 ];
 
@@ -147,9 +139,9 @@ impl Count {
 /// The question that shows what this one works on.
 fn state_of(question: u32) -> Option<u32> {
     match question {
-        q::FEED..=q::SHOW_ASSEMBLY => Some(q::SHOW_ASSEMBLY),
-        q::MAKE_HOST..=q::HOST_VERSION_REPLY => Some(q::SHOW_HOST),
-        q::MAKE_MODEM..=q::MODEM_COMMAND => Some(q::SHOW_MODEM),
+        q::RECEIVE..=q::SHOW_ASSEMBLY => Some(q::SHOW_ASSEMBLY),
+        q::MAKE_HOST..=q::HOST_RECEIVE => Some(q::SHOW_HOST),
+        q::MAKE_MODEM..=q::MODEM_RECEIVE => Some(q::SHOW_MODEM),
         _ => None,
     }
 }

@@ -1,10 +1,11 @@
 //! The same at every run: each field of good records, payloads and messages in turn takes numbers at
 //! and around the limits, and each payload is cut short at every length.
 
+use crate::library::WHOLE;
 use crate::messages::fragments;
 use crate::payloads::put;
 use crate::sides::Sides;
-use second::flat::question as q;
+use second::flat::{question as q, ASSEMBLY_SIZE, MODEM_SIZE};
 use second::message::{COMMAND, COMMAND_DONE, INDICATE_STATUS};
 use second::payload::{BASIC_CONNECT, EXTENSIONS};
 
@@ -58,6 +59,10 @@ pub fn all(sides: &mut Sides) {
     for message_type in [COMMAND, COMMAND_DONE, INDICATE_STATUS] {
         message(sides, message_type);
     }
+    door(sides);
+    (0..4).for_each(|stage| host(sides, stage));
+    (0..3).for_each(|stage| modem(sides, stage));
+    made(sides);
 }
 
 /// Writes with each number of the record changed, and reads the payload with each word changed.
@@ -159,12 +164,45 @@ fn codes(sides: &mut Sides) {
 }
 
 fn whole(sides: &mut Sides) {
-    for message_type in [1, 2, 4, 0x8000_0001, 0x8000_0002, 0x8000_0004u32] {
-        let length = if message_type & 0xF == 2 { 12 } else { 16 };
-        let mut message = vec![0; length as usize];
-        put(&mut message, 0, message_type);
-        put(&mut message, 4, length);
+    for message_type in WHOLE {
+        let head = [message_type.into(), 7, 4096];
+        let message = sides.ask(q::WHOLE_WRITE, &[&[16], &head[..]].concat(), &[]).output;
         changed_bytes(sides, q::WHOLE_MESSAGE, &[], &message);
+        changed_numbers(sides, q::WHOLE_WRITE, &[&[16], &head[..]].concat(), 1, &[]);
+        rooms(sides, q::WHOLE_WRITE, &head, &[], message.len());
+    }
+}
+
+/// Whole messages while another is pending, each word changed, each length; and memory too small.
+fn door(sides: &mut Sides) {
+    let head = [COMMAND.into(), 7, 11, 0];
+    let pieces = fragments(sides, 64, head, BASIC_CONNECT, &[9; 100]);
+    let all = [ROOM, ASSEMBLY_SIZE];
+    sides.ask(q::EMPTY_ASSEMBLY, &[], &[]);
+    sides.ask(q::RECEIVE, &all, &pieces[0]);
+    for message_type in WHOLE {
+        let arguments = [16, message_type.into(), 7, 4096];
+        let message = sides.ask(q::WHOLE_WRITE, &arguments, &[]).output;
+        for place in (4..message.len()).step_by(4) {
+            for number in numbers() {
+                let mut changed = message.clone();
+                put(&mut changed, place, number);
+                sides.ask(q::RECEIVE, &all, &changed);
+            }
+        }
+        for length in 4..message.len() + 60 {
+            let mut cut = message.clone();
+            cut.resize(length, 0);
+            sides.ask(q::RECEIVE, &all, &cut);
+        }
+        for size in [0, 1, 48, 4096, ASSEMBLY_SIZE - 1] {
+            sides.ask(q::RECEIVE, &[ROOM, size], &message);
+            sides.ask(q::RECEIVE, &[ROOM, size], &message[..3]);
+        }
+        sides.step(q::RECEIVE, &[0, ASSEMBLY_SIZE], &message);
+    }
+    for piece in &pieces[1..] {
+        sides.step(q::RECEIVE, &all, piece);
     }
 }
 
@@ -194,7 +232,100 @@ fn message(sides: &mut Sides, message_type: u32) {
 fn feed_after(sides: &mut Sides, before: &[Vec<u8>], piece: &[u8]) {
     sides.ask(q::EMPTY_ASSEMBLY, &[], &[]);
     for earlier in before {
-        sides.ask(q::FEED, &[ROOM], earlier);
+        sides.ask(q::RECEIVE, &[ROOM, ASSEMBLY_SIZE], earlier);
     }
-    sides.step(q::FEED, &[ROOM], piece);
+    sides.step(q::RECEIVE, &[ROOM, ASSEMBLY_SIZE], piece);
+}
+
+/// A list of one element with VERSION.
+fn list(sides: &mut Sides) -> Vec<u8> {
+    sides.ask(q::SERVICES_WRITE, &[ROOM, 1, 0, 0, 0, 1, 15], &EXTENSIONS).output
+}
+
+const ASK: [u8; 4] = [0, 1, 0, 2];
+
+/// A service and CID of either handshake command, of another, and of none.
+const COMMANDS: [([u8; 16], u64); 5] =
+    [(BASIC_CONNECT, 16), (EXTENSIONS, 15), (BASIC_CONNECT, 11), (EXTENSIONS, 16), ([0; 16], 15)];
+
+/// A host of 2.00: closed, opened, asking VERSION, settled.
+fn host_at(sides: &mut Sides, stage: u64, list: &[u8]) {
+    let done = COMMAND_DONE.into();
+    sides.ask(q::MAKE_HOST, &[0x0200], &[]);
+    if stage > 0 {
+        sides.ask(q::HOST_OPEN, &[0x0100], &[]);
+    }
+    if stage > 1 {
+        let input = [&BASIC_CONNECT[..], list].concat();
+        sides.ask(q::HOST_RECEIVE, &[done, 1, 16, 0], &input);
+    }
+    if stage > 2 {
+        let input = [&EXTENSIONS[..], &ASK].concat();
+        sides.ask(q::HOST_RECEIVE, &[done, 2, 15, 0], &input);
+    }
+}
+
+/// Each number of a message to a host at this stage, with information good for it or not.
+fn host(sides: &mut Sides, stage: u64) {
+    let list = list(sides);
+    for (service, cid) in COMMANDS {
+        for information in [&list[..], &ASK, &[]] {
+            let good = [COMMAND_DONE.into(), 1, cid, 0];
+            let input = [&service[..], information].concat();
+            for (place, number) in changes(good.len()) {
+                let mut arguments = good;
+                arguments[place] = number;
+                host_at(sides, stage, &list);
+                sides.step(q::HOST_RECEIVE, &arguments, &input);
+            }
+        }
+    }
+}
+
+/// Places of so many arguments with the numbers that they take in turn; message types too.
+fn changes(count: usize) -> impl Iterator<Item = (usize, u64)> {
+    let types = WHOLE.into_iter().chain([COMMAND, COMMAND_DONE, INDICATE_STATUS]);
+    let numbers: Vec<u32> = numbers().chain(types).collect();
+    (0..count).flat_map(move |place| {
+        let numbers = numbers.clone();
+        numbers.into_iter().map(move |number| (place, number.into()))
+    })
+}
+
+/// A modem of 2.00 that advertises 1.00: at its start, list served, settled by VERSION.
+fn modem_at(sides: &mut Sides, stage: u64, list: &[u8]) {
+    sides.ask(q::MAKE_MODEM, &[0x0200, 0x0100, MODEM_SIZE], list);
+    if stage > 0 {
+        sides.ask(q::MODEM_RECEIVE, &[ROOM, COMMAND.into(), 1, 16, 0], &BASIC_CONNECT);
+    }
+    if stage > 1 {
+        let input = [&EXTENSIONS[..], &ASK].concat();
+        sides.ask(q::MODEM_RECEIVE, &[ROOM, COMMAND.into(), 2, 15, 0], &input);
+    }
+}
+
+/// Each number of a message to a modem at this stage.
+fn modem(sides: &mut Sides, stage: u64) {
+    let list = list(sides);
+    for (service, cid) in COMMANDS {
+        for information in [&ASK[..], &[]] {
+            let good = [ROOM, COMMAND.into(), 1, cid, 0];
+            let input = [&service[..], information].concat();
+            for (place, number) in changes(good.len() - 1) {
+                let mut arguments = good;
+                arguments[place + 1] = number;
+                modem_at(sides, stage, &list);
+                sides.step(q::MODEM_RECEIVE, &arguments, &input);
+            }
+        }
+    }
+}
+
+/// A modem's versions, each word of its list of services, and its memory.
+fn made(sides: &mut Sides) {
+    let list = list(sides);
+    for size in 0..=MODEM_SIZE {
+        changed_bytes(sides, q::MAKE_MODEM, &[0x0200, 0x0100, size], &list);
+    }
+    changed_numbers(sides, q::MAKE_MODEM, &[0x0200, 0x0100, 9], 0, &list);
 }

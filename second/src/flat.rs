@@ -1,14 +1,15 @@
 //! Questions and answers as numbers and bytes, as docs/samples.md has them.
 //! Lent outputs are filled with one byte first, and what must stay untouched is checked.
 
-use crate::assembler::{Answer as Fed, Assembler};
+use crate::assembler::Assembler;
 use crate::device_services::{self, Element, Shown};
+use crate::door::{self, Received};
 use crate::handshake::{host, modem};
 use crate::handshake::{CommandAnswer, Host, Modem, NextCommand, ReplyAnswer};
-use crate::message::{self, Header};
+use crate::message::{self, Header, Whole};
 use crate::packet_service::{self, Form, PacketService};
 use crate::payload::{self, Kind};
-use crate::refusal::Refusal;
+use crate::refusal::{require, Refusal, OUTPUT_TOO_SMALL};
 use crate::registration::{self, Registration};
 use crate::signal_quality::{self, Reading};
 use crate::signal_state::{self, RsrpSnr, SignalState};
@@ -31,22 +32,22 @@ pub mod question {
     pub const LISTED: u32 = 12;
     pub const SERVICES_WRITE: u32 = 13;
     pub const WHOLE_MESSAGE: u32 = 14;
-    pub const FEED: u32 = 15;
-    pub const EMPTY_ASSEMBLY: u32 = 16;
-    pub const SHOW_ASSEMBLY: u32 = 17;
-    pub const CUT: u32 = 18;
-    pub const NEXT_TRANSACTION: u32 = 19;
-    pub const PAYLOAD_KIND: u32 = 20;
-    pub const MAKE_HOST: u32 = 21;
-    pub const HOST_OPEN: u32 = 22;
-    pub const HOST_CLOSE: u32 = 23;
-    pub const HOST_NEXT: u32 = 24;
-    pub const HOST_SERVICES_REPLY: u32 = 25;
-    pub const HOST_VERSION_REPLY: u32 = 26;
+    pub const WHOLE_WRITE: u32 = 15;
+    pub const RECEIVE: u32 = 16;
+    pub const EMPTY_ASSEMBLY: u32 = 17;
+    pub const SHOW_ASSEMBLY: u32 = 18;
+    pub const CUT: u32 = 19;
+    pub const NEXT_TRANSACTION: u32 = 20;
+    pub const PAYLOAD_KIND: u32 = 21;
+    pub const MAKE_HOST: u32 = 22;
+    pub const HOST_OPEN: u32 = 23;
+    pub const HOST_CLOSE: u32 = 24;
+    pub const HOST_NEXT: u32 = 25;
+    pub const HOST_RECEIVE: u32 = 26;
     pub const MAKE_MODEM: u32 = 27;
     pub const MODEM_OPEN: u32 = 28;
     pub const MODEM_CLOSE: u32 = 29;
-    pub const MODEM_COMMAND: u32 = 30;
+    pub const MODEM_RECEIVE: u32 = 30;
     pub const SHOW_HOST: u32 = 31;
     pub const SHOW_MODEM: u32 = 32;
     pub const RSRP: u32 = 33;
@@ -57,6 +58,10 @@ pub mod question {
 /// What a lent output holds before the call.
 const FILL: u8 = 0xAA;
 const FILL_WORD: u32 = 0xAAAA_AAAA;
+
+/// How many bytes of memory an assembly and a modem take.
+pub const ASSEMBLY_SIZE: u64 = 4144;
+pub const MODEM_SIZE: u64 = 10;
 
 /// The assembly, the host and the modem that stand between questions.
 #[derive(Default)]
@@ -84,7 +89,7 @@ impl Second {
     pub fn ask(&mut self, question: u32, arguments: &[u64], input: &[u8]) -> Answer {
         let asked = Asked { arguments, input };
         let answer = match question {
-            question::FEED => feed(&mut self.assembler, &asked),
+            question::RECEIVE => receive(&mut self.assembler, &asked),
             question::EMPTY_ASSEMBLY => {
                 self.assembler = Assembler::new();
                 plain(&[])
@@ -92,10 +97,10 @@ impl Second {
             question::SHOW_ASSEMBLY => show_assembly(&self.assembler),
             question::MAKE_HOST => make_host(&mut self.host, &asked),
             question::MAKE_MODEM => make_modem(&mut self.modem, &asked),
-            question::HOST_OPEN..=question::HOST_VERSION_REPLY | question::SHOW_HOST => {
+            question::HOST_OPEN..=question::HOST_RECEIVE | question::SHOW_HOST => {
                 self.host.as_mut().map_or(none(), |host| ask_host(host, question, &asked))
             }
-            question::MODEM_OPEN..=question::MODEM_COMMAND | question::SHOW_MODEM => {
+            question::MODEM_OPEN..=question::MODEM_RECEIVE | question::SHOW_MODEM => {
                 self.modem.as_mut().map_or(none(), |modem| ask_modem(modem, question, &asked))
             }
             _ => ask_stateless(question, &asked),
@@ -121,6 +126,7 @@ fn ask_stateless(question: u32, asked: &Asked) -> Flat {
         question::LISTED => listed(asked),
         question::SERVICES_WRITE => services_write(asked),
         question::WHOLE_MESSAGE => whole_message(asked),
+        question::WHOLE_WRITE => whole_write(asked),
         question::CUT => cut(asked),
         question::NEXT_TRANSACTION => plain(&[cutter::next_transaction(asked.word(0)).into()]),
         question::PAYLOAD_KIND => payload_kind(asked),
@@ -148,6 +154,20 @@ impl<'a> Asked<'a> {
 
     fn half(&self, place: usize) -> u16 {
         self.number(place) as u16
+    }
+
+    /// The message whose type, transaction, CID and word stand from a place on, with
+    /// the service at the front of the input, and the information after that.
+    fn message(&self, place: usize) -> (Header, &'a [u8]) {
+        let (service, information) = self.service();
+        let header = Header {
+            message_type: self.word(place),
+            transaction: self.word(place + 1),
+            service,
+            cid: self.word(place + 2),
+            word: self.word(place + 3),
+        };
+        (header, information)
     }
 
     fn version(&self, place: usize) -> Result<Version, Refusal> {
@@ -442,29 +462,56 @@ fn given_cids(asked: &Asked, from: usize, cid_count: u64) -> Vec<u32> {
 
 fn whole_message(asked: &Asked) -> Flat {
     let whole = message::whole(asked.input)?;
-    plain(&[whole.message_type.into(), whole.transaction.into()])
+    plain(&[whole.message_type, whole.transaction, whole.word].map(u64::from))
 }
 
-fn feed(assembler: &mut Assembler, asked: &Asked) -> Flat {
-    let call = |out: &mut [u8]| match assembler.feed(asked.input, out) {
-        Fed::Refused(refusal) => Err(refusal),
-        Fed::Pending { dropped } => Ok(((None, dropped), 0)),
-        Fed::Complete { header, length, dropped } => Ok(((Some(header), dropped), length)),
+fn whole_write(asked: &Asked) -> Flat {
+    let whole =
+        Whole { message_type: asked.word(1), transaction: asked.word(2), word: asked.word(3) };
+    written(asked.number(0), |out| message::write_whole(&whole, out))
+}
+
+/// Memory of this size is judged before the piece.
+fn receive(assembler: &mut Assembler, asked: &Asked) -> Flat {
+    judge_memory(asked.number(1), ASSEMBLY_SIZE)?;
+    let call = |out: &mut [u8]| {
+        let received = door::receive(assembler, asked.input, out)?;
+        let written = match received {
+            Received::Complete { length, .. } => length,
+            _ => 0,
+        };
+        Ok((received, written))
     };
-    let ((header, dropped), information) = lend(asked.number(0), call)?;
-    let Some(header) = header else {
-        return plain(&[0, dropped.into()]);
-    };
-    let numbers = [
-        1,
-        dropped.into(),
-        header.message_type.into(),
-        header.transaction.into(),
-        header.cid.into(),
-        header.word.into(),
-        information.len() as u64,
-    ];
+    let (received, information) = lend(asked.number(0), call)?;
+    let (case, dropped, header) = received_header(received);
+    let head = [case, dropped.into(), header.message_type, header.transaction];
+    let tail = [header.cid, header.word, information.len() as u32];
+    let numbers: Vec<u64> = head.into_iter().chain(tail).map(u64::from).collect();
     with_output(&numbers, [&header.service[..], &information].concat())
+}
+
+/// The case's number, whether something was dropped, and what is known of the message.
+fn received_header(received: Received) -> (u32, bool, Header) {
+    let header = |message_type, transaction, word| Header {
+        message_type,
+        transaction,
+        service: [0; 16],
+        cid: 0,
+        word,
+    };
+    match received {
+        Received::Whole(whole) => {
+            (1, false, header(whole.message_type, whole.transaction, whole.word))
+        }
+        Received::Pending { message_type, transaction, dropped } => {
+            (2, dropped, header(message_type, transaction, 0))
+        }
+        Received::Complete { header, dropped, .. } => (3, dropped, header),
+    }
+}
+
+fn judge_memory(size: u64, needed: u64) -> Result<(), Refusal> {
+    require(size >= needed, OUTPUT_TOO_SMALL, needed as usize)
 }
 
 fn show_assembly(assembler: &Assembler) -> Flat {
@@ -487,14 +534,7 @@ fn show_assembly(assembler: &Assembler) -> Flat {
 }
 
 fn cut(asked: &Asked) -> Flat {
-    let (service, information) = asked.service();
-    let header = Header {
-        message_type: asked.word(2),
-        transaction: asked.word(3),
-        service,
-        cid: asked.word(4),
-        word: asked.word(5),
-    };
+    let (header, information) = asked.message(2);
     let size = asked.number(1) as usize;
     let call = |out: &mut [u8]| cutter::cut(&header, size, information, out);
     let (count, output) = lend(asked.number(0), call)?;
@@ -544,8 +584,11 @@ fn make_host(host: &mut Option<Host>, asked: &Asked) -> Flat {
     plain(&[])
 }
 
+/// The memory is judged last.
 fn make_modem(modem: &mut Option<Modem>, asked: &Asked) -> Flat {
-    *modem = Some(Modem::make(asked.half(0), asked.half(1), asked.number(2) != 0)?);
+    let made = Modem::make(asked.half(0), asked.half(1), asked.input)?;
+    judge_memory(asked.number(2), MODEM_SIZE)?;
+    *modem = Some(made);
     plain(&[])
 }
 
@@ -560,8 +603,10 @@ fn ask_host(host: &mut Host, question: u32, asked: &Asked) -> Flat {
             plain(&[])
         }
         question::HOST_NEXT => next_command(host, asked),
-        question::HOST_SERVICES_REPLY => reply(host.services_reply(asked.word(0), asked.input)),
-        question::HOST_VERSION_REPLY => reply(host.version_reply(asked.word(0), asked.input)),
+        question::HOST_RECEIVE => {
+            let (header, information) = asked.message(0);
+            reply(host.receive(&header, information))
+        }
         question::SHOW_HOST => show_host(host),
         _ => none(),
     }
@@ -611,27 +656,29 @@ fn ask_modem(modem: &mut Modem, question: u32, asked: &Asked) -> Flat {
             modem.close();
             plain(&[])
         }
-        question::MODEM_COMMAND => command(modem, asked),
+        question::MODEM_RECEIVE => modem_receive(modem, asked),
         question::SHOW_MODEM => show_modem(modem),
         _ => none(),
     }
 }
 
-fn command(modem: &mut Modem, asked: &Asked) -> Flat {
-    let (service, payload) = asked.service();
-    let (cid, command_type) = (asked.word(1), asked.word(2));
-    let call = |out: &mut [u8]| match modem.command(&service, cid, command_type, payload, out) {
+fn modem_receive(modem: &mut Modem, asked: &Asked) -> Flat {
+    let (header, information) = asked.message(1);
+    let call = |out: &mut [u8]| match modem.receive(&header, information, out) {
         CommandAnswer::Refused(refusal) => Err(refusal),
         answer @ CommandAnswer::Version { .. } => Ok((answer, version_info::LENGTH)),
         answer => Ok((answer, 0)),
     };
     let (answer, output) = lend(asked.number(0), call)?;
-    match answer {
-        CommandAnswer::Serve { kind: Ok(kind) } => plain(&[1, 0, kind_number(kind), 0, 0]),
-        CommandAnswer::Serve { kind: Err(refusal) } => plain(&[1, 0, 0, refusal.place as u64, 0]),
-        CommandAnswer::Failed { status } => plain(&[3, status.into(), 0, 0, 0]),
-        _ => with_output(&[2, 0, 0, 0, output.len() as u64], output),
-    }
+    let (action, status, kind, place) = match answer {
+        CommandAnswer::Serve { kind } => (1, 0, kind_number(kind), 0),
+        CommandAnswer::Failed { status } => (3, status, 0, 0),
+        CommandAnswer::Unknown { status, place } => (4, status, 0, place as u64),
+        _ => (2, 0, 0, 0),
+    };
+    let version = modem.version().map_or(0, Version::bcd);
+    let length = output.len() as u64;
+    with_output(&[action, status.into(), kind, version.into(), place, length], output)
 }
 
 fn show_modem(modem: &Modem) -> Flat {

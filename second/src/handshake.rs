@@ -10,10 +10,12 @@ pub use modem::{CommandAnswer, Modem};
 mod tests {
     use super::*;
     use crate::device_services::{self, Element};
+    use crate::message::{Header, COMMAND, COMMAND_DONE};
     use crate::payload::{BASIC_CONNECT, CID_DEVICE_SERVICES, CID_VERSION, EXTENSIONS};
     use crate::version::Version;
+    use crate::ServiceId;
 
-    fn list(lists_version: bool, out: &mut [u8]) -> usize {
+    fn list(lists_version: bool) -> Vec<u8> {
         let element = |device_service_id, cids| Element {
             device_service_id,
             dss_payload: 0,
@@ -22,31 +24,43 @@ mod tests {
         };
         let elements = [element(BASIC_CONNECT, &[9, 10, 11, 16]), element(EXTENSIONS, &[15])];
         let count = if lists_version { 2 } else { 1 };
-        device_services::write(0, &elements[..count], out).unwrap()
+        let mut out = [0; 200];
+        let length = device_services::write(0, &elements[..count], &mut out).unwrap();
+        out[..length].to_vec()
+    }
+
+    fn command(service: ServiceId, cid: u32) -> Header {
+        Header { message_type: COMMAND, transaction: 1, service, cid, word: 0 }
+    }
+
+    /// The good reply to a command.
+    fn done(header: &Header) -> Header {
+        Header { message_type: COMMAND_DONE, ..*header }
     }
 
     /// The whole run from ends just opened; the version of both, or the refusal's number.
     fn run(host_native: u16, native: u16, advertised: u16, lists: bool) -> Result<Version, u32> {
+        let list = list(lists);
         let mut host = Host::make(host_native).unwrap();
-        let mut modem = Modem::make(native, advertised, lists).unwrap();
+        let mut modem = Modem::make(native, advertised, &list).unwrap();
         host.open(advertised).unwrap();
         modem.open();
-        let mut out = [0; 200];
+        let mut out = [0; 4];
         assert_eq!(host.next_command(&mut out), Ok(NextCommand::Services));
-        let served = modem.command(&BASIC_CONNECT, CID_DEVICE_SERVICES, 0, &[], &mut out);
+        let services = command(BASIC_CONNECT, CID_DEVICE_SERVICES);
+        let served = modem.receive(&services, &[], &mut []);
         assert!(matches!(served, CommandAnswer::Serve { .. }));
-        let length = list(lists, &mut out);
-        match host.services_reply(0, &out[..length]) {
+        match host.receive(&done(&services), &list) {
             ReplyAnswer::Refused(refusal) => return Err(refusal.number),
             ReplyAnswer::AsksVersion => {
                 assert_eq!(host.next_command(&mut out), Ok(NextCommand::Version));
-                let payload = [out[0], out[1], out[2], out[3]];
-                let served = modem.command(&EXTENSIONS, CID_VERSION, 0, &payload, &mut out);
+                let version = command(EXTENSIONS, CID_VERSION);
+                let served = modem.receive(&version, &{ out }, &mut out);
                 assert!(matches!(served, CommandAnswer::Version { .. }));
-                host.version_reply(0, &out[..4]);
+                host.receive(&done(&version), &out);
             }
             _ => {
-                let served = modem.command(&BASIC_CONNECT, 11, 0, &[], &mut out);
+                let served = modem.receive(&command(BASIC_CONNECT, 11), &[], &mut []);
                 assert!(matches!(served, CommandAnswer::Serve { .. }));
             }
         }

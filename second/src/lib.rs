@@ -9,6 +9,7 @@ pub mod assembler;
 pub mod cutter;
 pub mod data_class;
 pub mod device_services;
+pub mod door;
 pub mod flat;
 pub mod handshake;
 pub mod message;

@@ -1,10 +1,10 @@
 //! Messages and single fragments, each judged by itself.
 //! What a fragment means beside an unfinished message is the assembler's part.
 
-use crate::bytes::{service, word};
+use crate::bytes::{put_word, service, word};
 use crate::refusal::{
-    require, Refusal, FRAGMENT_WRONG, INFORMATION_TOO_LONG, LENGTH_DISAGREES, OUTSIDE_TABLE,
-    TOO_SHORT, TRANSFER_SIZE, UNKNOWN_KIND,
+    require, Refusal, FRAGMENT_WRONG, INFORMATION_TOO_LONG, LENGTH_DISAGREES, OUTPUT_TOO_SMALL,
+    OUTSIDE_TABLE, TOO_SHORT, TRANSFER_SIZE, UNKNOWN_KIND,
 };
 use crate::{ServiceId, MAX_INFORMATION};
 
@@ -40,14 +40,15 @@ pub(crate) const SERVICE: usize = 20;
 pub(crate) const CID: usize = 36;
 /// Command type or status; an indication has its information length here.
 pub(crate) const WORD: usize = 40;
-const VALUE: usize = 12;
+const WHOLE_WORD: usize = 12;
 
-/// A whole message. CLOSE has no value at 12.
+/// A whole message. The word is OPEN's transfer size, a DONE's status or an
+/// error's code; CLOSE has none and shows 0.
 #[derive(Clone, Copy, Debug, PartialEq, Eq)]
 pub struct Whole {
     pub message_type: u32,
     pub transaction: u32,
-    pub value: Option<u32>,
+    pub word: u32,
 }
 
 /// What the first fragment says of its message. The word is the command type
@@ -88,8 +89,23 @@ pub fn whole(bytes: &[u8]) -> Result<Whole, Refusal> {
     let unknown = Refusal::new(UNKNOWN_KIND, MESSAGE_TYPE);
     let length = whole_length(message_type).ok_or(unknown)?;
     require(bytes.len() == length, LENGTH_DISAGREES, MESSAGE_LENGTH)?;
-    let value = (length > MESSAGE_HEADER).then(|| word(bytes, VALUE));
-    Ok(Whole { message_type, transaction: word(bytes, TRANSACTION), value })
+    // A CLOSE ends before the word, and what is not there reads as 0.
+    let (transaction, word) = (word(bytes, TRANSACTION), word(bytes, WHOLE_WORD));
+    Ok(Whole { message_type, transaction, word })
+}
+
+/// Writes a whole message and gives its length: 3, then 11. A CLOSE has no room
+/// for its word.
+#[inline]
+pub fn write_whole(whole: &Whole, out: &mut [u8]) -> Result<usize, Refusal> {
+    let unknown = Refusal::new(UNKNOWN_KIND, MESSAGE_TYPE);
+    let length = whole_length(whole.message_type).ok_or(unknown)?;
+    let out = out.get_mut(..length).ok_or(Refusal::new(OUTPUT_TOO_SMALL, length))?;
+    put_word(out, MESSAGE_TYPE, whole.message_type);
+    put_word(out, MESSAGE_LENGTH, length as u32);
+    put_word(out, TRANSACTION, whole.transaction);
+    put_word(out, WHOLE_WORD, whole.word);
+    Ok(length)
 }
 
 /// Judges one fragment by itself.
@@ -129,7 +145,7 @@ pub const fn first_header_length(message_type: u32) -> Option<usize> {
 
 /// Only the six whole types have a length.
 #[inline]
-const fn whole_length(message_type: u32) -> Option<usize> {
+pub(crate) const fn whole_length(message_type: u32) -> Option<usize> {
     match message_type {
         CLOSE => Some(12),
         OPEN | HOST_ERROR | OPEN_DONE | CLOSE_DONE | FUNCTION_ERROR => Some(16),
@@ -196,11 +212,11 @@ mod tests {
     fn whole_messages_have_exact_lengths() {
         for message_type in [1, 4, 0x8000_0001, 0x8000_0002, 0x8000_0004] {
             let shown = whole(&bytes(&[message_type, 16, 9, 4096])).unwrap();
-            assert_eq!((shown.transaction, shown.value), (9, Some(4096)));
+            assert_eq!((shown.transaction, shown.word), (9, 4096));
             let short = bytes(&[message_type, 12, 9]);
             assert_eq!(whole(&short), Err(Refusal::new(2, 4)));
         }
-        assert_eq!(whole(&bytes(&[2, 12, 9])).unwrap().value, None);
+        assert_eq!(whole(&bytes(&[2, 12, 9])).unwrap().word, 0);
         assert_eq!(whole(&bytes(&[2, 16, 9, 0])), Err(Refusal::new(2, 4)));
     }
 
@@ -211,6 +227,33 @@ mod tests {
         assert_eq!(whole(&bytes(&[9, 13, 0])), Err(Refusal::new(2, 4)));
         assert_eq!(whole(&bytes(&[9, 12, 0])), Err(Refusal::new(3, 0)));
         assert_eq!(whole(&bytes(&[COMMAND, 12, 0])), Err(Refusal::new(3, 0)));
+    }
+
+    #[test]
+    fn what_is_written_is_judged_as_it_was() {
+        for message_type in [OPEN, CLOSE, HOST_ERROR, OPEN_DONE, CLOSE_DONE, FUNCTION_ERROR] {
+            let word = if message_type == CLOSE { 0 } else { u32::MAX };
+            let given = Whole { message_type, transaction: 0, word };
+            let mut out = [0xEE; 20];
+            let length = write_whole(&given, &mut out).unwrap();
+            assert_eq!(whole(&out[..length]), Ok(given));
+            assert!(out[length..].iter().all(|byte| *byte == 0xEE));
+            let small = &mut out[..length - 1];
+            assert_eq!(write_whole(&given, small), Err(Refusal::new(11, length)));
+        }
+    }
+
+    #[test]
+    fn the_writer_knows_six_types_and_ignores_the_word_of_a_close() {
+        for message_type in [0, COMMAND, 5, COMMAND_DONE, INDICATE_STATUS] {
+            let given = Whole { message_type, transaction: 1, word: 1 };
+            assert_eq!(write_whole(&given, &mut []), Err(Refusal::new(3, 0)));
+        }
+        let given = Whole { message_type: CLOSE, transaction: 7, word: 77 };
+        let mut out = [0xEE; 16];
+        assert_eq!(write_whole(&given, &mut out), Ok(12));
+        assert_eq!(out[..12], bytes(&[2, 12, 7])[..]);
+        assert_eq!(out[12..], [0xEE; 4]);
     }
 
     #[test]

@@ -1,7 +1,7 @@
 //! No question panics, whatever its arguments and input are, and no answer
 //! touches output that it must leave alone (the questions check that themselves).
 
-use second::flat::{question, Second};
+use second::flat::{question, Second, ASSEMBLY_SIZE};
 
 struct Random(u64);
 
@@ -50,13 +50,13 @@ fn any_question_is_answered() {
     let mut random = Random(0x1234_5678_9ABC_DEF1);
     let mut second = Second::new();
     second.ask(question::MAKE_HOST, &[0x0200], &[]);
-    second.ask(question::MAKE_MODEM, &[0x0200, 0x0100, 1], &[]);
+    second.ask(question::MAKE_MODEM, &[0x0200, 0x0100, 10], &[0; 8]);
     for _ in 0..60_000 {
         let asked = random.below(37) as u32;
         let count = random.below(30);
         let mut arguments: Vec<u64> = (0..count).map(|_| random.number()).collect();
         if let Some(room) = arguments.first_mut() {
-            let is_room = !matches!(asked, 3 | 5 | 7 | 12 | 19..=22 | 25..=27 | 33..=35);
+            let is_room = !matches!(asked, 3 | 5 | 7 | 12 | 20..=23 | 26..=27 | 33..=35);
             *room = if is_room { *room % 8000 } else { *room };
         }
         let input = random.input();
@@ -83,11 +83,14 @@ fn damaged_streams_are_answered() {
             let place = random.below(piece.len() as u64) as usize;
             piece[place] ^= 1 << random.below(8);
         }
-        let answer = second.ask(question::FEED, &[random.below(300)], &piece);
+        let before = second.ask(question::SHOW_ASSEMBLY, &[], &[]);
+        let answer = second.ask(question::RECEIVE, &[random.below(300), ASSEMBLY_SIZE], &piece);
         let shown = second.ask(question::SHOW_ASSEMBLY, &[], &[]);
         let gathered = shown.numbers[8] as usize;
         assert!(shown.output[16 + gathered..].iter().all(|byte| *byte == 0));
-        let empty = answer.numbers[0] != 0 || answer.numbers[1] == 1;
-        assert!(!empty || shown.numbers == [0; 9] && shown.output == [0; 4112]);
+        let is_whole = matches!(piece[..4], [1 | 2, 0, 0, 0]);
+        assert!(!is_whole || shown == before);
+        let empty = answer.numbers[0] != 0 || answer.numbers[1] == 3;
+        assert!(is_whole || !empty || shown.numbers == [0; 9] && shown.output == [0; 4112]);
     }
 }

@@ -1,6 +1,7 @@
 // Arguments and answers as numbers. Places are total: a number that is not there is 0, and one that
 // has no room is dropped. An answer starts as all 0.
 use flat::WrittenAnswer;
+use message::MessageHeader;
 use protocol::Refusal;
 use protocol::service::ServiceId;
 use protocol::service::put_id;
@@ -34,6 +35,17 @@ pub fn half_at(arguments: &[u64; 4608], at: usize) -> u16 {
 
 pub fn size_at(arguments: &[u64; 4608], at: usize) -> usize {
     number_at(arguments, at) as usize
+}
+
+// The message of a service whose type, transaction, CID and word stand at a place.
+pub fn message_at(arguments: &[u64; 4608], at: usize, service: ServiceId) -> MessageHeader {
+    MessageHeader {
+        message_type: word_at(arguments, at),
+        transaction: word_at(arguments, sum(at, 1)),
+        service,
+        cid: word_at(arguments, sum(at, 2)),
+        word: word_at(arguments, sum(at, 3)),
+    }
 }
 
 pub fn put(got: &mut [u64; 4608], at: usize, value: u64) {

@@ -5,14 +5,16 @@ use crate::answers::least;
 use crate::answers::no_question;
 use crate::answers::plain;
 use crate::answers::size_at;
+use crate::hosts::host_receive;
 use crate::hosts::next_command;
 use crate::hosts::with_host;
 use crate::messages::cut;
 use crate::messages::kind;
 use crate::messages::next_transaction;
 use crate::messages::whole;
+use crate::messages::whole_write;
 use crate::messages::with_assembly;
-use crate::modems::command;
+use crate::modems::modem_receive;
 use crate::modems::with_modem;
 use crate::payloads::read;
 use crate::payloads::write;
@@ -84,7 +86,7 @@ fn numbers() -> [u32; 1024]
 
 fn room_of(question: usize, arguments: &[u64; 4608]) -> usize {
     match question {
-        2 | 4 | 6 | 8 | 13 | 15 | 18 | 24 | 30 => size_at(arguments, 0),
+        2 | 4 | 6 | 8 | 13 | 15 | 16 | 19 | 25 | 30 => size_at(arguments, 0),
         _ => 0,
     }
 }
@@ -146,14 +148,16 @@ fn ask_any(
     match question {
         2 | 4 | 6 | 8 | 13 => write(question, arguments, input, out, got),
         10 => element(arguments, input, list, got, shown),
-        15 | 16 | 17 => with_assembly(question, input, assembly, out, got, shown),
-        21 | 22 | 23 | 25 | 26 | 31 => with_host(question, arguments, input, host, got),
-        24 => next_command(host, out, got),
-        27 | 28 | 29 | 32 => with_modem(question, arguments, modem, got),
-        11 | 12 | 18 | 20 | 30 => with_service(
+        15 => whole_write(arguments, out, got),
+        16 | 17 | 18 => with_assembly(question, arguments, input, assembly, out, got, shown),
+        22 | 23 | 24 | 31 => with_host(question, arguments, host, got),
+        25 => next_command(host, out, got),
+        27 | 28 | 29 | 32 => with_modem(question, arguments, input, modem, got),
+        11 | 12 | 19 | 21 | 26 | 30 => with_service(
             question,
             arguments,
             input,
+            host,
             modem,
             out,
             list,
@@ -173,7 +177,7 @@ fn ask_plain(
 ) -> Asked {
     match question {
         14 => whole(input, got),
-        19 => next_transaction(arguments, got),
+        20 => next_transaction(arguments, got),
         33 | 34 | 35 => reading(question, arguments, got),
         _ => read(question, arguments, input, got),
     }
@@ -184,6 +188,7 @@ fn with_service(
     question: usize,
     arguments: &[u64; 4608],
     input: &[u8],
+    host: &mut [u8; 6],
     modem: &mut [u8; 10],
     out: &mut [u8],
     list: &mut [u32],
@@ -198,9 +203,10 @@ fn with_service(
     match question {
         11 => service_cids(service, rest, list, got, shown),
         12 => listed(service, arguments, rest, got),
-        18 => cut(service, arguments, rest, out, got),
-        20 => kind(service, arguments, got),
-        30 => command(service, arguments, rest, modem, out, got),
+        19 => cut(service, arguments, rest, out, got),
+        21 => kind(service, arguments, got),
+        26 => host_receive(service, arguments, rest, host, got),
+        30 => modem_receive(service, arguments, rest, modem, out, got),
         _ => no_question(),
     }
 }

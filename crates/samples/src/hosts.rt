@@ -1,7 +1,8 @@
-// Questions 21 to 26 and 31: the host's end.
+// Questions 22 to 26 and 31: the host's end.
 use crate::answers::Asked;
 use crate::answers::done;
 use crate::answers::half_at;
+use crate::answers::message_at;
 use crate::answers::no_question;
 use crate::answers::plain;
 use crate::answers::put_half;
@@ -9,29 +10,25 @@ use crate::answers::put_size;
 use crate::answers::put_word;
 use crate::answers::refused;
 use crate::answers::shows;
-use crate::answers::word_at;
 use culvertroost::hosts::cvr_host_close;
 use culvertroost::hosts::cvr_host_make;
 use culvertroost::hosts::cvr_host_next_command;
 use culvertroost::hosts::cvr_host_open;
-use culvertroost::hosts::cvr_host_services_reply;
-use culvertroost::hosts::cvr_host_version_reply;
+use culvertroost::hosts::cvr_host_receive;
 use flat::ends::HostInfo;
+use protocol::service::ServiceId;
 use wire::u16_at;
 
 pub fn with_host(
     question: usize,
     arguments: &[u64; 4608],
-    input: &[u8],
     host: &mut [u8; 6],
     got: &mut [u64; 4608],
 ) -> Asked {
     match question {
-        21 => make(arguments, host, got),
-        22 => open(arguments, host, got),
-        23 => close(host, got),
-        25 => services_reply(arguments, input, host, got),
-        26 => version_reply(arguments, input, host, got),
+        22 => make(arguments, host, got),
+        23 => open(arguments, host, got),
+        24 => close(host, got),
         31 => show(host, got),
         _ => no_question(),
     }
@@ -57,23 +54,15 @@ fn close(host: &mut [u8; 6], got: &mut [u64; 4608]) -> Asked {
     done(got, refusal)
 }
 
-fn services_reply(
+pub fn host_receive(
+    service: ServiceId,
     arguments: &[u64; 4608],
-    input: &[u8],
+    information: &[u8],
     host: &mut [u8; 6],
     got: &mut [u64; 4608],
 ) -> Asked {
-    let answer = cvr_host_services_reply(&mut host[..], word_at(arguments, 0), input);
-    event(got, answer)
-}
-
-fn version_reply(
-    arguments: &[u64; 4608],
-    input: &[u8],
-    host: &mut [u8; 6],
-    got: &mut [u64; 4608],
-) -> Asked {
-    let answer = cvr_host_version_reply(&mut host[..], word_at(arguments, 0), input);
+    let message = message_at(arguments, 0, service);
+    let answer = cvr_host_receive(&mut host[..], message, information);
     event(got, answer)
 }
 

@@ -1,7 +1,9 @@
-// Questions 14 to 20: messages and the assembly.
+// Questions 14 to 21: messages and the assembly.
 use crate::answers::Asked;
 use crate::answers::copy;
 use crate::answers::done;
+use crate::answers::least;
+use crate::answers::message_at;
 use crate::answers::no_question;
 use crate::answers::plain;
 use crate::answers::put_service;
@@ -11,19 +13,22 @@ use crate::answers::refused;
 use crate::answers::shows;
 use crate::answers::size_at;
 use crate::answers::word_at;
+use crate::answers::written;
 use culvertroost::assembly::cvr_assembly_empty;
-use culvertroost::assembly::cvr_assembly_feed;
+use culvertroost::assembly::cvr_receive;
 use culvertroost::messages::cvr_message_cut;
 use culvertroost::messages::cvr_message_judge;
+use culvertroost::messages::cvr_message_write;
 use culvertroost::messages::cvr_payload_kind;
 use culvertroost::messages::cvr_transaction_next;
-use flat::messages::FeedInfo;
+use flat::messages::ReceiveInfo;
 use message::MessageHeader;
 use protocol::service::ServiceId;
 use wire::u32_at;
 
 pub fn with_assembly(
     question: usize,
+    arguments: &[u64; 4608],
     input: &[u8],
     assembly: &mut [u8; 4144],
     out: &mut [u8],
@@ -31,9 +36,9 @@ pub fn with_assembly(
     shown: &mut [u8; 16640],
 ) -> Asked {
     match question {
-        15 => feed(input, assembly, out, got, shown),
-        16 => empty(assembly, got),
-        17 => show(assembly, got, shown),
+        16 => receive(arguments, input, assembly, out, got, shown),
+        17 => empty(assembly, got),
+        18 => show(assembly, got, shown),
         _ => no_question(),
     }
 }
@@ -46,36 +51,45 @@ pub fn whole(input: &[u8], got: &mut [u64; 4608]) -> Asked {
     }
     put_word(got, 1, answer.message_type);
     put_word(got, 2, answer.transaction);
-    plain(3)
+    put_word(got, 3, answer.word);
+    plain(4)
 }
 
-fn feed(
+pub fn whole_write(arguments: &[u64; 4608], out: &mut [u8], got: &mut [u64; 4608]) -> Asked {
+    let answer = cvr_message_write(
+        word_at(arguments, 1),
+        word_at(arguments, 2),
+        word_at(arguments, 3),
+        out,
+    );
+    written(got, answer)
+}
+
+// Lends the front of the assembly's memory.
+fn receive(
+    arguments: &[u64; 4608],
     input: &[u8],
     assembly: &mut [u8; 4144],
     out: &mut [u8],
     got: &mut [u64; 4608],
     shown: &mut [u8; 16640],
 ) -> Asked {
-    let answer = cvr_assembly_feed(&mut assembly[..], input, out);
+    let size = least(size_at(arguments, 1), 4144);
+    let memory = &mut assembly[..];
+    let answer = cvr_receive(&mut memory[..size], input, out);
+    put_received(answer, got, shown)
+}
+
+fn put_received(answer: ReceiveInfo, got: &mut [u64; 4608], shown: &mut [u8; 16640]) -> Asked {
     let refusal = answer.refusal;
     if refusal.number != 0 {
         return refused(got, refusal);
     }
-    put_word(got, 1, answer.complete);
-    put_word(got, 2, answer.dropped);
-    if answer.complete == 0 {
-        return plain(3);
-    }
-    complete(answer, got, shown)
-}
-
-fn complete(answer: FeedInfo, got: &mut [u64; 4608], shown: &mut [u8; 16640]) -> Asked {
     let message = answer.message;
     let length = answer.length;
-    put_word(got, 3, message.message_type);
-    put_word(got, 4, message.transaction);
-    put_word(got, 5, message.cid);
-    put_word(got, 6, message.word);
+    put_word(got, 1, answer.received);
+    put_word(got, 2, answer.dropped);
+    put_message(got, message);
     put_size(got, 7, length);
     put_service(shown, message.service);
     Asked {
@@ -84,6 +98,13 @@ fn complete(answer: FeedInfo, got: &mut [u64; 4608], shown: &mut [u8; 16640]) ->
         written: length,
         listed: 0,
     }
+}
+
+fn put_message(got: &mut [u64; 4608], message: MessageHeader) {
+    put_word(got, 3, message.message_type);
+    put_word(got, 4, message.transaction);
+    put_word(got, 5, message.cid);
+    put_word(got, 6, message.word);
 }
 
 fn empty(assembly: &mut [u8; 4144], got: &mut [u64; 4608]) -> Asked {
@@ -119,13 +140,7 @@ pub fn cut(
     out: &mut [u8],
     got: &mut [u64; 4608],
 ) -> Asked {
-    let message = MessageHeader {
-        message_type: word_at(arguments, 2),
-        transaction: word_at(arguments, 3),
-        service,
-        cid: word_at(arguments, 4),
-        word: word_at(arguments, 5),
-    };
+    let message = message_at(arguments, 2, service);
     let answer = cvr_message_cut(message, size_at(arguments, 1), information, out);
     let refusal = answer.refusal;
     if refusal.number != 0 {

@@ -2,6 +2,8 @@
 use crate::answers::Asked;
 use crate::answers::done;
 use crate::answers::half_at;
+use crate::answers::least;
+use crate::answers::message_at;
 use crate::answers::no_question;
 use crate::answers::plain;
 use crate::answers::put_half;
@@ -9,22 +11,23 @@ use crate::answers::put_size;
 use crate::answers::put_word;
 use crate::answers::refused;
 use crate::answers::shows;
-use crate::answers::word_at;
+use crate::answers::size_at;
 use culvertroost::modems::cvr_modem_close;
-use culvertroost::modems::cvr_modem_command;
 use culvertroost::modems::cvr_modem_make;
 use culvertroost::modems::cvr_modem_open;
+use culvertroost::modems::cvr_modem_receive;
 use protocol::service::ServiceId;
 use wire::u16_at;
 
 pub fn with_modem(
     question: usize,
     arguments: &[u64; 4608],
+    input: &[u8],
     modem: &mut [u8; 10],
     got: &mut [u64; 4608],
 ) -> Asked {
     match question {
-        27 => make(arguments, modem, got),
+        27 => make(arguments, input, modem, got),
         28 => open(modem, got),
         29 => close(modem, got),
         32 => show(modem, got),
@@ -32,12 +35,20 @@ pub fn with_modem(
     }
 }
 
-fn make(arguments: &[u64; 4608], modem: &mut [u8; 10], got: &mut [u64; 4608]) -> Asked {
+// Lends the front of the modem's memory.
+fn make(
+    arguments: &[u64; 4608],
+    services: &[u8],
+    modem: &mut [u8; 10],
+    got: &mut [u64; 4608],
+) -> Asked {
+    let size = least(size_at(arguments, 2), 10);
+    let memory = &mut modem[..];
     let refusal = cvr_modem_make(
-        &mut modem[..],
+        &mut memory[..size],
         half_at(arguments, 0),
         half_at(arguments, 1),
-        word_at(arguments, 2),
+        services,
     );
     done(got, refusal)
 }
@@ -52,22 +63,16 @@ fn close(modem: &mut [u8; 10], got: &mut [u64; 4608]) -> Asked {
     done(got, refusal)
 }
 
-pub fn command(
+pub fn modem_receive(
     service: ServiceId,
     arguments: &[u64; 4608],
-    payload: &[u8],
+    information: &[u8],
     modem: &mut [u8; 10],
     out: &mut [u8],
     got: &mut [u64; 4608],
 ) -> Asked {
-    let answer = cvr_modem_command(
-        &mut modem[..],
-        service,
-        word_at(arguments, 1),
-        word_at(arguments, 2),
-        payload,
-        out,
-    );
+    let message = message_at(arguments, 1, service);
+    let answer = cvr_modem_receive(&mut modem[..], message, information, out);
     let refusal = answer.refusal;
     if refusal.number != 0 {
         return refused(got, refusal);
@@ -75,9 +80,10 @@ pub fn command(
     put_word(got, 1, answer.action);
     put_word(got, 2, answer.status);
     put_word(got, 3, answer.kind);
-    put_size(got, 4, answer.place);
-    put_size(got, 5, answer.length);
-    shows(answer.length, 6)
+    put_half(got, 4, answer.version);
+    put_size(got, 5, answer.place);
+    put_size(got, 6, answer.length);
+    shows(answer.length, 7)
 }
 
 // The modem's memory: native and advertised version, whether VERSION is listed, stage and version.

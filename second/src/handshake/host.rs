@@ -1,7 +1,8 @@
 //! The host's end of the handshake.
 
 use crate::device_services;
-use crate::payload::{CID_VERSION, EXTENSIONS};
+use crate::message::{Header, COMMAND_DONE};
+use crate::payload::{self, Kind, CID_VERSION, EXTENSIONS};
 use crate::refusal::{Refusal, ABOVE_HOST, OUTPUT_TOO_SMALL, VERSION_NOT_LISTED};
 use crate::version::Version;
 use crate::version_info;
@@ -101,8 +102,21 @@ impl Host {
         }
     }
 
+    /// Takes a message. Only a DONE of DEVICE_SERVICES or VERSION is a reply that
+    /// the handshake looks at, whatever its transaction is.
+    pub fn receive(&mut self, header: &Header, information: &[u8]) -> ReplyAnswer {
+        if header.message_type != COMMAND_DONE {
+            return ReplyAnswer::Unchanged;
+        }
+        match payload::kind(&header.service, header.cid) {
+            Ok(Kind::DeviceServices) => self.services_reply(header.word, information),
+            Ok(Kind::Version) => self.version_reply(header.word, information),
+            _ => ReplyAnswer::Unchanged,
+        }
+    }
+
     /// A reply to DEVICE_SERVICES. Its payload is read in every state, if the status is 0.
-    pub fn services_reply(&mut self, status: u32, payload: &[u8]) -> ReplyAnswer {
+    fn services_reply(&mut self, status: u32, payload: &[u8]) -> ReplyAnswer {
         if status != 0 {
             return ReplyAnswer::Unchanged;
         }
@@ -116,7 +130,7 @@ impl Host {
     }
 
     /// A reply to VERSION. Its payload is read in every state, if the status is 0.
-    pub fn version_reply(&mut self, status: u32, payload: &[u8]) -> ReplyAnswer {
+    fn version_reply(&mut self, status: u32, payload: &[u8]) -> ReplyAnswer {
         let answered = match status {
             0 => version_info::read(payload).map(Some),
             _ => Ok(None),
@@ -255,6 +269,38 @@ mod tests {
             assert_eq!(host.services_reply(0, &list(&[])), ReplyAnswer::Unchanged);
             assert_eq!(host, before);
         }
+    }
+
+    #[test]
+    fn only_a_done_of_either_cid_is_a_reply() {
+        let basic = crate::payload::BASIC_CONNECT;
+        let header = |message_type, service, cid| Header {
+            message_type,
+            transaction: 0,
+            service,
+            cid,
+            word: 0,
+        };
+        let mut host = opened(0x0200, 0x0100);
+        let before = host;
+        for (message_type, service, cid) in [
+            (3, basic, 16),
+            (0x8000_0007, basic, 16),
+            (1, basic, 16),
+            (COMMAND_DONE, basic, 11),
+            (COMMAND_DONE, basic, 15),
+            (COMMAND_DONE, EXTENSIONS, 16),
+            (COMMAND_DONE, [0; 16], 15),
+        ] {
+            let answer = host.receive(&header(message_type, service, cid), &[]);
+            assert_eq!(answer, ReplyAnswer::Unchanged);
+            assert_eq!(host, before);
+        }
+        let services = header(COMMAND_DONE, basic, 16);
+        assert_eq!(host.receive(&services, &[]), ReplyAnswer::Refused(Refusal::new(1, 0)));
+        assert_eq!(host.receive(&services, &list(&[15])), ReplyAnswer::AsksVersion);
+        let version = header(COMMAND_DONE, EXTENSIONS, 15);
+        assert_eq!(host.receive(&version, &ANSWER_V2), ReplyAnswer::Settled(Version::V2));
     }
 
     #[test]

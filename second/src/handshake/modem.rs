@@ -1,11 +1,13 @@
 //! The modem's end of the handshake.
 
-use crate::message::QUERY;
-use crate::payload::{self, Kind};
-use crate::refusal::{require, Refusal, OUTPUT_TOO_SMALL, VERSION_OUTSIDE_TABLE};
+use crate::device_services;
+use crate::message::{Header, COMMAND, MESSAGE_TYPE, QUERY, TRANSACTION};
+use crate::payload::{self, Kind, CID_VERSION, EXTENSIONS};
+use crate::refusal::{
+    require, Refusal, OUTPUT_TOO_SMALL, OUTSIDE_TABLE, UNKNOWN_KIND, VERSION_OUTSIDE_TABLE,
+};
 use crate::version::Version;
 use crate::version_info;
-use crate::ServiceId;
 
 /// MBIM_STATUS_NO_DEVICE_SUPPORT.
 pub const STATUS_NO_DEVICE_SUPPORT: u32 = 9;
@@ -33,24 +35,29 @@ pub enum State {
 /// What a command brought.
 #[derive(Clone, Copy, Debug, PartialEq, Eq)]
 pub enum CommandAnswer {
-    /// Status 0 as far as the handshake goes, beside the command's kind or its 3.
-    Serve { kind: Result<Kind, Refusal> },
+    /// Status 0 as far as the handshake goes, for a command of this kind.
+    Serve { kind: Kind },
     /// Status 0 to VERSION; its 4 bytes stand at the start of the output.
     Version { version: Version },
+    /// As far as the handshake goes it would be served, but what stands at this
+    /// place, its service or its CID, is not known: this status.
+    Unknown { status: u32, place: usize },
     /// Status 9, nothing changed.
     Failed { status: u32 },
-    /// Output too small, nothing changed.
+    /// No command, or output too small; nothing changed.
     Refused(Refusal),
 }
 
 const FAILED: CommandAnswer = CommandAnswer::Failed { status: STATUS_NO_DEVICE_SUPPORT };
 
 impl Modem {
-    /// A modem at its start; a number outside the table, or advertised above native, is 12.
-    pub fn make(native: u16, advertised: u16, lists_version: bool) -> Result<Modem, Refusal> {
+    /// A modem at its start that serves this list of services. A number outside the
+    /// table, or advertised above native, is 12; then the list is judged.
+    pub fn make(native: u16, advertised: u16, services: &[u8]) -> Result<Modem, Refusal> {
         let native = Version::from_bcd(native)?;
         let advertised = Version::from_bcd(advertised)?;
         require(advertised <= native, VERSION_OUTSIDE_TABLE, 0)?;
+        let lists_version = device_services::listed(services, &EXTENSIONS, CID_VERSION)?;
         Ok(Modem { native, advertised, lists_version, state: State::Start })
     }
 
@@ -86,19 +93,21 @@ impl Modem {
         self.state = State::Start;
     }
 
-    /// Takes a command. The output is written for an answered VERSION only.
-    pub fn command(
+    /// Takes a message: 3 unless it is a COMMAND, 9 for transaction 0, then what its
+    /// kind wants. The output is written for an answered VERSION only.
+    pub fn receive(
         &mut self,
-        service: &ServiceId,
-        cid: u32,
-        command_type: u32,
-        payload: &[u8],
+        header: &Header,
+        information: &[u8],
         out: &mut [u8],
     ) -> CommandAnswer {
-        let kind = payload::kind(service, cid);
+        if let Err(refusal) = judge(header) {
+            return CommandAnswer::Refused(refusal);
+        }
+        let kind = payload::kind(&header.service, header.cid);
         match kind {
             Ok(Kind::DeviceServices) => self.services(),
-            Ok(Kind::Version) => self.answer_version(command_type, payload, out),
+            Ok(Kind::Version) => self.answer_version(header.word, information, out),
             _ => self.other(kind),
         }
     }
@@ -108,7 +117,7 @@ impl Modem {
         if self.state == State::Start {
             self.state = State::Listed;
         }
-        CommandAnswer::Serve { kind: Ok(Kind::DeviceServices) }
+        CommandAnswer::Serve { kind: Kind::DeviceServices }
     }
 
     fn answer_version(
@@ -140,9 +149,24 @@ impl Modem {
             (State::Start, _) | (State::Listed, Version::V2) => FAILED,
             (State::Listed, Version::V1) => {
                 self.state = State::Settled { version: Version::V1 };
-                CommandAnswer::Serve { kind }
+                serve(kind)
             }
-            (State::Settled { .. }, _) => CommandAnswer::Serve { kind },
+            (State::Settled { .. }, _) => serve(kind),
+        }
+    }
+}
+
+/// A modem takes commands only, and no reply to transaction 0 could be cut.
+fn judge(header: &Header) -> Result<(), Refusal> {
+    require(header.message_type == COMMAND, UNKNOWN_KIND, MESSAGE_TYPE)?;
+    require(header.transaction != 0, OUTSIDE_TABLE, TRANSACTION)
+}
+
+fn serve(kind: Result<Kind, Refusal>) -> CommandAnswer {
+    match kind {
+        Ok(kind) => CommandAnswer::Serve { kind },
+        Err(refusal) => {
+            CommandAnswer::Unknown { status: STATUS_NO_DEVICE_SUPPORT, place: refusal.place }
         }
     }
 }
@@ -150,42 +174,90 @@ impl Modem {
 #[cfg(test)]
 mod tests {
     use super::*;
-    use crate::payload::{BASIC_CONNECT, EXTENSIONS};
+    use crate::device_services::Element;
+    use crate::payload::BASIC_CONNECT;
+    use crate::ServiceId;
 
     const ASK_V1: [u8; 4] = [0, 1, 0, 1];
     const ASK_V2: [u8; 4] = [0, 1, 0, 2];
+    const SIGNAL: CommandAnswer = CommandAnswer::Serve { kind: Kind::SignalState };
+
+    fn list(cids: &[u32]) -> Vec<u8> {
+        let mut out = [0; 100];
+        let element =
+            Element { device_service_id: EXTENSIONS, dss_payload: 0, max_dss_instances: 0, cids };
+        let length = device_services::write(0, &[element], &mut out).unwrap();
+        out[..length].to_vec()
+    }
+
+    fn make(native: u16, advertised: u16) -> Modem {
+        Modem::make(native, advertised, &list(&[15])).unwrap()
+    }
+
+    fn command(service: ServiceId, cid: u32, word: u32) -> Header {
+        Header { message_type: COMMAND, transaction: 1, service, cid, word }
+    }
+
+    fn serve_list(modem: &mut Modem) {
+        let answer = modem.receive(&command(BASIC_CONNECT, 16, 1), &[1], &mut []);
+        assert_eq!(answer, CommandAnswer::Serve { kind: Kind::DeviceServices });
+    }
 
     fn listed(native: u16, advertised: u16) -> Modem {
-        let mut modem = Modem::make(native, advertised, true).unwrap();
-        let answer = modem.command(&BASIC_CONNECT, 16, 1, &[1], &mut []);
-        assert_eq!(answer, CommandAnswer::Serve { kind: Ok(Kind::DeviceServices) });
+        let mut modem = make(native, advertised);
+        serve_list(&mut modem);
         modem
     }
 
     fn ask(modem: &mut Modem, payload: &[u8]) -> CommandAnswer {
-        modem.command(&EXTENSIONS, 15, 0, payload, &mut [0; 4])
+        modem.receive(&command(EXTENSIONS, 15, 0), payload, &mut [0; 4])
     }
 
     fn signal(modem: &mut Modem) -> CommandAnswer {
-        modem.command(&BASIC_CONNECT, 11, 0, &[], &mut [])
+        modem.receive(&command(BASIC_CONNECT, 11, 0), &[], &mut [])
     }
 
     #[test]
     fn numbers_outside_the_table_or_advertised_above_native() {
         let refused = Err(Refusal::new(12, 0));
-        assert_eq!(Modem::make(0x0300, 0x0100, true), refused);
-        assert_eq!(Modem::make(0x0200, 0x0300, true), refused);
-        assert_eq!(Modem::make(0x0100, 0x0200, true), refused);
-        assert!(Modem::make(0x0200, 0x0200, false).is_ok());
+        assert_eq!(Modem::make(0x0300, 0x0100, &[]), refused);
+        assert_eq!(Modem::make(0x0200, 0x0300, &[]), refused);
+        assert_eq!(Modem::make(0x0100, 0x0200, &[]), refused);
+    }
+
+    #[test]
+    fn the_list_is_judged_and_says_whether_version_is_in_it() {
+        assert_eq!(Modem::make(0x0200, 0x0100, &[]), Err(Refusal::new(1, 0)));
+        let bad = [33, 0, 0, 0, 0, 0, 0, 0];
+        assert_eq!(Modem::make(0x0200, 0x0100, &bad), Err(Refusal::new(15, 0)));
+        let modem = |cids: &[u32]| Modem::make(0x0200, 0x0200, &list(cids)).unwrap();
+        assert!(modem(&[14, 15]).lists_version());
+        assert!(!modem(&[14, 16]).lists_version());
+    }
+
+    #[test]
+    fn only_a_command_with_a_transaction_is_taken() {
+        let mut modem = listed(0x0200, 0x0100);
+        let before = modem;
+        let good = command(BASIC_CONNECT, 11, 0);
+        for message_type in [0, 1, 0x8000_0003, 0x8000_0007] {
+            let header = Header { message_type, transaction: 0, ..good };
+            let answer = modem.receive(&header, &[], &mut []);
+            assert_eq!(answer, CommandAnswer::Refused(Refusal::new(3, 0)));
+        }
+        let header = Header { transaction: 0, ..good };
+        let answer = modem.receive(&header, &[], &mut []);
+        assert_eq!(answer, CommandAnswer::Refused(Refusal::new(9, 8)));
+        assert_eq!(modem, before);
     }
 
     #[test]
     fn before_the_list_everything_else_fails() {
-        let mut modem = Modem::make(0x0200, 0x0100, true).unwrap();
+        let mut modem = make(0x0200, 0x0100);
         let before = modem;
         assert_eq!(ask(&mut modem, &ASK_V2), FAILED);
         assert_eq!(signal(&mut modem), FAILED);
-        assert_eq!(modem.command(&[0; 16], 0, 0, &[], &mut []), FAILED);
+        assert_eq!(modem.receive(&command([0; 16], 0, 0), &[], &mut []), FAILED);
         assert_eq!(modem, before);
     }
 
@@ -202,17 +274,18 @@ mod tests {
     fn a_version_that_fails_changes_nothing() {
         let mut modem = listed(0x0200, 0x0100);
         let before = modem;
-        let set = modem.command(&EXTENSIONS, 15, 1, &ASK_V2, &mut [0; 4]);
+        let set = modem.receive(&command(EXTENSIONS, 15, 1), &ASK_V2, &mut [0; 4]);
         assert_eq!(set, FAILED);
         assert_eq!(ask(&mut modem, &[0; 4]), FAILED);
         assert_eq!(ask(&mut modem, &[]), FAILED);
         let mut small = [9; 3];
-        let refused = modem.command(&EXTENSIONS, 15, 0, &ASK_V2, &mut small);
+        let query = command(EXTENSIONS, 15, 0);
+        let refused = modem.receive(&query, &ASK_V2, &mut small);
         assert_eq!(refused, CommandAnswer::Refused(Refusal::new(11, 4)));
         assert_eq!((modem, small), (before, [9; 3]));
-        assert_eq!(modem.command(&EXTENSIONS, 15, 0, &[], &mut small), FAILED);
-        let mut unlisted = Modem::make(0x0200, 0x0200, false).unwrap();
-        unlisted.command(&BASIC_CONNECT, 16, 0, &[], &mut []);
+        assert_eq!(modem.receive(&query, &[], &mut small), FAILED);
+        let mut unlisted = Modem::make(0x0200, 0x0200, &list(&[])).unwrap();
+        serve_list(&mut unlisted);
         assert_eq!(ask(&mut unlisted, &ASK_V2), FAILED);
     }
 
@@ -223,11 +296,13 @@ mod tests {
         assert_eq!(signal(&mut waiting), FAILED);
         assert_eq!(waiting, before);
         let mut modem = listed(0x0200, 0x0100);
-        let unknown = modem.command(&EXTENSIONS, 16, 0, &[], &mut []);
-        assert_eq!(unknown, CommandAnswer::Serve { kind: Err(Refusal::new(3, 36)) });
+        let unknown = modem.receive(&command(EXTENSIONS, 16, 0), &[], &mut []);
+        assert_eq!(unknown, CommandAnswer::Unknown { status: 9, place: 36 });
         assert_eq!(modem.version(), Some(Version::V1));
+        let unknown = modem.receive(&command([0; 16], 16, 0), &[], &mut []);
+        assert_eq!(unknown, CommandAnswer::Unknown { status: 9, place: 20 });
         assert_eq!(ask(&mut modem, &ASK_V2), FAILED);
-        assert_eq!(signal(&mut modem), CommandAnswer::Serve { kind: Ok(Kind::SignalState) });
+        assert_eq!(signal(&mut modem), SIGNAL);
     }
 
     #[test]
@@ -235,11 +310,11 @@ mod tests {
         let mut modem = listed(0x0200, 0x0200);
         ask(&mut modem, &ASK_V2);
         assert_eq!(ask(&mut modem, &ASK_V2), FAILED);
-        assert_eq!(signal(&mut modem), CommandAnswer::Serve { kind: Ok(Kind::SignalState) });
-        modem.command(&BASIC_CONNECT, 16, 0, &[], &mut []);
+        assert_eq!(signal(&mut modem), SIGNAL);
+        serve_list(&mut modem);
         assert_eq!(modem.version(), Some(Version::V2));
         modem.open();
-        assert_eq!(modem, Modem::make(0x0200, 0x0200, true).unwrap());
+        assert_eq!(modem, make(0x0200, 0x0200));
         ask(&mut listed(0x0200, 0x0200), &ASK_V2);
         modem.close();
         assert_eq!(modem.state(), State::Start);

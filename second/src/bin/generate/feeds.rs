@@ -1,9 +1,10 @@
-//! Samples of the assembler: single fragments, and streams of them.
+//! Samples of fragments received: single ones, and streams of them.
 
 use crate::damage::{resized, two_faults, with_word, with_words, words};
 use crate::random::Random;
 use crate::samples::Samples;
-use second::flat::question::{CUT, EMPTY_ASSEMBLY, FEED, SHOW_ASSEMBLY};
+use second::flat::question::{CUT, EMPTY_ASSEMBLY, RECEIVE, SHOW_ASSEMBLY};
+use second::flat::ASSEMBLY_SIZE;
 use second::message::{COMMAND, COMMAND_DONE, INDICATE_STATUS};
 use second::payload::{BASIC_CONNECT, EXTENSIONS};
 
@@ -46,22 +47,26 @@ pub fn pieces(
     pieces
 }
 
-fn message(samples: &mut Samples, message_type: u32, length: u8) -> Vec<Vec<u8>> {
+pub fn message(samples: &mut Samples, message_type: u32, length: u8) -> Vec<Vec<u8>> {
     let transaction = if message_type == INDICATE_STATUS { 0 } else { 7 };
     let information: Vec<u8> = (1..=length).collect();
     pieces(samples, 64, [message_type, transaction, 11, 1], &information)
 }
 
-fn feed(samples: &mut Samples, piece: &[u8]) {
-    samples.ask(FEED, &[ROOM], piece);
+pub fn feed(samples: &mut Samples, piece: &[u8]) {
+    feed_into(samples, ROOM, piece);
 }
 
-fn show(samples: &mut Samples) {
+fn feed_into(samples: &mut Samples, room: u64, piece: &[u8]) {
+    samples.ask(RECEIVE, &[room, ASSEMBLY_SIZE], piece);
+}
+
+pub fn show(samples: &mut Samples) {
     samples.ask(SHOW_ASSEMBLY, &[], &[]);
 }
 
 /// Begins a message that stays pending.
-fn begin(samples: &mut Samples, pending: &[Vec<u8>]) {
+pub fn begin(samples: &mut Samples, pending: &[Vec<u8>]) {
     samples.ask(EMPTY_ASSEMBLY, &[], &[]);
     feed(samples, &pending[0]);
 }
@@ -82,7 +87,7 @@ fn single(samples: &mut Samples) {
         feed(samples, &resized(&words(&[9, field, 7, 0, 9]), 4097));
     }
     let faults = [(4, 63), (0, 9), (12, 0), (12, 129), (16, 5), (40, 2), (44, 4097), (44, 3)];
-    two_faults(samples, FEED, &[ROOM], &pending[0], &faults);
+    two_faults(samples, RECEIVE, &[ROOM, ASSEMBLY_SIZE], &pending[0], &faults);
     for message_type in [0, 1, 2, 4, 6, 0x103, 0x8000_0001, 0x8000_0004, u32::MAX] {
         begin(samples, &pending);
         feed(samples, &words(&[message_type, 20, 7, 0, 9]));
@@ -207,7 +212,7 @@ fn gathered(samples: &mut Samples) {
             samples.ask(EMPTY_ASSEMBLY, &[], &[]);
             feed(samples, &with_word(&stream[0], field, declared));
             for piece in &stream[1..] {
-                samples.ask(FEED, &[0], piece);
+                feed_into(samples, 0, piece);
             }
             show(samples);
         }
@@ -229,9 +234,9 @@ fn rooms(samples: &mut Samples) {
             let (last, before) = stream.split_last().expect("a fragment");
             for room in [0, length.saturating_sub(1), length, length + 1] {
                 for piece in before {
-                    samples.ask(FEED, &[0], piece);
+                    feed_into(samples, 0, piece);
                 }
-                samples.ask(FEED, &[room.into()], last);
+                feed_into(samples, room.into(), last);
             }
             show(samples);
         }
@@ -240,7 +245,7 @@ fn rooms(samples: &mut Samples) {
     let short = message(samples, COMMAND_DONE, 8);
     for room in [7, 8] {
         begin(samples, &pending);
-        samples.ask(FEED, &[room], &short[0]);
+        feed_into(samples, room, &short[0]);
         show(samples);
     }
 }
@@ -287,7 +292,7 @@ fn random_streams(samples: &mut Samples) {
             let place = random.below(piece.len().min(48));
             piece[place] ^= 1 << random.below(8);
         }
-        samples.ask(FEED, &[random.pick(&[ROOM, ROOM, ROOM, 100, 60, 30])], &piece);
+        feed_into(samples, random.pick(&[ROOM, ROOM, ROOM, 100, 60, 30]), &piece);
         next += 1;
         if random.below(6) == 0 {
             show(samples);

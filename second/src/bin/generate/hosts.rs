@@ -4,8 +4,10 @@ use crate::damage::{resized, with_word, words};
 use crate::random::Random;
 use crate::samples::Samples;
 use second::flat::question::{
-    HOST_CLOSE, HOST_NEXT, HOST_OPEN, HOST_SERVICES_REPLY, HOST_VERSION_REPLY, MAKE_HOST, SHOW_HOST,
+    HOST_CLOSE, HOST_NEXT, HOST_OPEN, HOST_RECEIVE, MAKE_HOST, SHOW_HOST,
 };
+use second::flat::Answer;
+use second::message::{COMMAND, COMMAND_DONE, INDICATE_STATUS};
 use second::payload::{BASIC_CONNECT, EXTENSIONS};
 
 const VERSIONS: [u64; 2] = [0x0100, 0x0200];
@@ -34,7 +36,23 @@ pub fn all(samples: &mut Samples) {
             }
         }
     }
+    for stage in 0..4 {
+        messages_at(samples, stage);
+    }
     walk(samples);
+}
+
+/// Gives the host a message: type, transaction, CID and word.
+fn receive(samples: &mut Samples, service: [u8; 16], head: [u64; 4], information: &[u8]) -> Answer {
+    samples.ask(HOST_RECEIVE, &head, &[&service[..], information].concat())
+}
+
+fn services_reply(samples: &mut Samples, status: u64, list: &[u8]) -> Answer {
+    receive(samples, BASIC_CONNECT, [COMMAND_DONE.into(), 1, 16, status], list)
+}
+
+fn version_reply(samples: &mut Samples, status: u64, payload: &[u8]) -> Answer {
+    receive(samples, EXTENSIONS, [COMMAND_DONE.into(), 2, 15, status], payload)
 }
 
 /// A list of one element with these CIDs.
@@ -89,12 +107,12 @@ fn show(samples: &mut Samples) {
 /// One list at a closed and at an opened host, failed and good.
 fn lists_at(samples: &mut Samples, native: u64, advertised: u64, list: &[u8]) {
     samples.ask(MAKE_HOST, &[native], &[]);
-    samples.ask(HOST_SERVICES_REPLY, &[0], list);
+    services_reply(samples, 0, list);
     samples.ask(HOST_OPEN, &[advertised], &[]);
-    samples.ask(HOST_SERVICES_REPLY, &[9], list);
-    samples.ask(HOST_SERVICES_REPLY, &[0], list);
+    services_reply(samples, 9, list);
+    services_reply(samples, 0, list);
     show(samples);
-    samples.ask(HOST_SERVICES_REPLY, &[0], list);
+    services_reply(samples, 0, list);
     samples.ask(HOST_NEXT, &[4], &[]);
     samples.ask(HOST_CLOSE, &[], &[]);
     show(samples);
@@ -105,18 +123,62 @@ fn run(samples: &mut Samples, native: u64, advertised: u64, listed: bool, reply:
     let good = list(EXTENSIONS, if listed { &[15] } else { &[] });
     let (status, payload) = reply;
     samples.ask(MAKE_HOST, &[native], &[]);
-    samples.ask(HOST_VERSION_REPLY, &[*status], payload);
+    version_reply(samples, *status, payload);
     samples.ask(HOST_OPEN, &[advertised], &[]);
     samples.ask(HOST_NEXT, &[0], &[]);
-    samples.ask(HOST_VERSION_REPLY, &[*status], payload);
-    samples.ask(HOST_SERVICES_REPLY, &[0], &good);
+    version_reply(samples, *status, payload);
+    services_reply(samples, 0, &good);
     samples.ask(HOST_NEXT, &[3], &[]);
     samples.ask(HOST_NEXT, &[5], &[]);
-    samples.ask(HOST_VERSION_REPLY, &[*status], payload);
+    version_reply(samples, *status, payload);
     show(samples);
-    samples.ask(HOST_VERSION_REPLY, &[0], &[0, 1, 0, 2]);
+    version_reply(samples, 0, &[0, 1, 0, 2]);
     samples.ask(HOST_NEXT, &[0], &[]);
     show(samples);
+}
+
+/// A host of 2.00 at each stage: closed, opened, asking VERSION, settled.
+fn at_stage(samples: &mut Samples, stage: u64) {
+    samples.ask(MAKE_HOST, &[0x0200], &[]);
+    if stage > 0 {
+        samples.ask(HOST_OPEN, &[0x0100], &[]);
+    }
+    if stage > 1 {
+        services_reply(samples, 0, &list(EXTENSIONS, &[15]));
+    }
+    if stage > 2 {
+        version_reply(samples, 0, &[0, 1, 0, 1]);
+    }
+}
+
+/// Messages that are no reply to the handshake, with information that is refused, or
+/// would change the host, if they were; then replies of any transaction.
+fn messages_at(samples: &mut Samples, stage: u64) {
+    let good = list(EXTENSIONS, &[15]);
+    at_stage(samples, stage);
+    for message_type in [0, 1, 2, COMMAND, 4, 0x8000_0001, INDICATE_STATUS, 0x103, u32::MAX] {
+        for information in [&good[..], &[]] {
+            receive(samples, BASIC_CONNECT, [message_type.into(), 1, 16, 0], information);
+        }
+        receive(samples, EXTENSIONS, [message_type.into(), 1, 15, 0], &[0, 1, 0, 2]);
+    }
+    let mut printed = EXTENSIONS;
+    printed[8] = 0x9d;
+    for service in [BASIC_CONNECT, EXTENSIONS, printed, [0; 16]] {
+        for cid in [0, 9, 10, 11, 15, 16, 0x110, 0xFFFF_FFFF] {
+            if (service, cid) != (BASIC_CONNECT, 16) && (service, cid) != (EXTENSIONS, 15) {
+                receive(samples, service, [COMMAND_DONE.into(), 1, cid, cid % 2], &good);
+            }
+        }
+    }
+    show(samples);
+    for transaction in [0, 1, 0xFFFF_FFFF] {
+        at_stage(samples, stage);
+        receive(samples, BASIC_CONNECT, [COMMAND_DONE.into(), transaction, 16, 0], &good);
+        show(samples);
+        receive(samples, EXTENSIONS, [COMMAND_DONE.into(), transaction, 15, 0], &[0, 1, 0, 2]);
+        show(samples);
+    }
 }
 
 /// Random calls, each shown.
@@ -132,11 +194,12 @@ fn walk(samples: &mut Samples) {
             5..=9 => {
                 let any = random.below(lists.len());
                 let list = &lists[random.pick(&[8, 8, 8, 4, any])];
-                samples.ask(HOST_SERVICES_REPLY, &[random.pick(&[0, 0, 0, 2])], list)
+                let status = random.pick(&[0, 0, 0, 2]);
+                services_reply(samples, status, list)
             }
             10..=13 => {
                 let (status, payload) = &replies[random.below(replies.len())];
-                samples.ask(HOST_VERSION_REPLY, &[*status], payload)
+                version_reply(samples, *status, payload)
             }
             _ => samples.ask(HOST_NEXT, &[random.pick(&[0, 3, 4, 9])], &[]),
         };

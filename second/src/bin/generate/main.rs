@@ -2,6 +2,7 @@
 //! The same samples come out at every run.
 
 mod damage;
+mod doors;
 mod feeds;
 mod hosts;
 mod messages;
@@ -27,6 +28,7 @@ fn main() -> io::Result<()> {
     services::all(&mut samples);
     messages::all(&mut samples);
     feeds::all(&mut samples);
+    doors::all(&mut samples);
     hosts::all(&mut samples);
     modems::all(&mut samples);
     runs::all(&mut samples);

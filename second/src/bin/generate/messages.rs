@@ -3,7 +3,7 @@
 use crate::damage::{resized, words};
 use crate::random::Random;
 use crate::samples::Samples;
-use second::flat::question::{CUT, NEXT_TRANSACTION, PAYLOAD_KIND, WHOLE_MESSAGE};
+use second::flat::question::{CUT, NEXT_TRANSACTION, PAYLOAD_KIND, WHOLE_MESSAGE, WHOLE_WRITE};
 use second::message::{COMMAND, COMMAND_DONE, INDICATE_STATUS};
 use second::payload::{BASIC_CONNECT, EXTENSIONS};
 
@@ -28,6 +28,7 @@ const TYPES: [u32; 16] = [
 
 pub fn all(samples: &mut Samples) {
     whole(samples);
+    whole_writes(samples);
     cut_rules(samples);
     cut_lengths(samples);
     for transaction in [0, 1, 2, 0x7FFF_FFFF, 0x8000_0000, 0xFFFF_FFFE, 0xFFFF_FFFF] {
@@ -63,6 +64,22 @@ fn whole(samples: &mut Samples) {
     for length in [4096, 4097] {
         let message = words(&[1, length, 0]);
         samples.ask(WHOLE_MESSAGE, &[], &resized(&message, length as usize));
+    }
+}
+
+/// The writer of whole messages: every type with room around its limits, any
+/// transaction, any word; what was written is judged.
+fn whole_writes(samples: &mut Samples) {
+    for message_type in TYPES.map(u64::from) {
+        for room in [0, 1, 11, 12, 13, 15, 16, 17, 4096] {
+            samples.ask(WHOLE_WRITE, &[room, message_type, 77, 4096], &[]);
+        }
+        for (transaction, word) in [(0, 0), (1, 1), (0xFFFF_FFFF, 0), (0, 0xFFFF_FFFF)] {
+            let answer = samples.ask(WHOLE_WRITE, &[16, message_type, transaction, word], &[]);
+            if answer.numbers[0] == 0 {
+                samples.ask(WHOLE_MESSAGE, &[], &answer.output);
+            }
+        }
     }
 }
 

@@ -1,12 +1,17 @@
 //! Samples of the modem's end of the handshake.
 
+use crate::damage::{resized, with_word, words};
+use crate::hosts::list;
 use crate::random::Random;
 use crate::samples::Samples;
-use second::flat::question::{MAKE_MODEM, MODEM_CLOSE, MODEM_COMMAND, MODEM_OPEN, SHOW_MODEM};
+use second::flat::question::{MAKE_MODEM, MODEM_CLOSE, MODEM_OPEN, MODEM_RECEIVE, SHOW_MODEM};
+use second::flat::MODEM_SIZE;
+use second::message::{COMMAND, COMMAND_DONE, INDICATE_STATUS};
 use second::payload::{BASIC_CONNECT, EXTENSIONS};
 
 const NUMBERS: [u64; 5] = [0x0100, 0x0200, 0, 0x0101, 0x0300];
-/// Modems: native, advertised.
+/// Native and advertised version, and whether VERSION is in the list.
+type Modem = (u64, u64, bool);
 const MODEMS: [(u64, u64); 3] = [(0x0100, 0x0100), (0x0200, 0x0100), (0x0200, 0x0200)];
 const ASKS: [&[u8]; 6] =
     [&[0, 1, 0, 1], &[0, 1, 0, 2], &[0, 1, 0, 3], &[0, 2, 0, 2], &[0, 1, 0], &[0, 1, 0, 2, 0]];
@@ -21,20 +26,18 @@ const OTHERS: [([u8; 16], u64); 6] = [
 ];
 
 pub fn all(samples: &mut Samples) {
-    for native in NUMBERS {
-        for advertised in NUMBERS {
-            samples.ask(MAKE_MODEM, &[native, advertised, 0], &[]);
-            show(samples);
-        }
-    }
+    made(samples);
+    lists(samples);
     for (native, advertised) in MODEMS {
-        for lists_version in [0, 1] {
-            let modem = [native, advertised, lists_version];
+        for lists_version in [false, true] {
+            let modem = (native, advertised, lists_version);
             asks(samples, modem);
             others(samples, modem);
             rooms(samples, modem);
+            unknown(samples, modem);
         }
     }
+    no_commands(samples);
     walk(samples);
 }
 
@@ -42,27 +45,95 @@ fn show(samples: &mut Samples) {
     samples.ask(SHOW_MODEM, &[], &[]);
 }
 
-fn command(samples: &mut Samples, service: [u8; 16], head: [u64; 3], payload: &[u8]) {
-    let input = [&service[..], payload].concat();
-    samples.ask(MODEM_COMMAND, &head, &input);
+fn make(samples: &mut Samples, (native, advertised, lists_version): Modem) {
+    let services = list(EXTENSIONS, if lists_version { &[15] } else { &[14, 16] });
+    samples.ask(MAKE_MODEM, &[native, advertised, MODEM_SIZE], &services);
+}
+
+/// A COMMAND of transaction 5; the head is room, CID and command type.
+fn command(samples: &mut Samples, service: [u8; 16], head: [u64; 3], information: &[u8]) {
+    let [room, cid, command_type] = head;
+    receive(samples, service, [room, COMMAND.into(), 5, cid, command_type], information);
+}
+
+/// Any message; the head is room, type, transaction, CID and word.
+fn receive(samples: &mut Samples, service: [u8; 16], head: [u64; 5], information: &[u8]) {
+    let input = [&service[..], information].concat();
+    samples.ask(MODEM_RECEIVE, &head, &input);
 }
 
 fn serve_list(samples: &mut Samples, command_type: u64) {
     command(samples, BASIC_CONNECT, [0, 16, command_type], &[]);
 }
 
+/// Versions: 12 comes before a refused list, and that before memory too small.
+fn made(samples: &mut Samples) {
+    let good = list(EXTENSIONS, &[15]);
+    for native in NUMBERS {
+        for advertised in NUMBERS {
+            samples.ask(MAKE_MODEM, &[native, advertised, MODEM_SIZE], &good);
+            show(samples);
+            samples.ask(MAKE_MODEM, &[native, advertised, 0], &[]);
+        }
+    }
+    for size in [0, 1, 2, 8, 9, 10] {
+        samples.ask(MAKE_MODEM, &[0x0200, 0x0200, size], &good[..20]);
+        samples.ask(MAKE_MODEM, &[0x0200, 0x0200, size], &list(EXTENSIONS, &[]));
+        show(samples);
+    }
+}
+
+/// Lists with VERSION and without it, and refused ones, at a modem that stands already.
+fn lists(samples: &mut Samples) {
+    let good = list(EXTENSIONS, &[15]);
+    let mut twice = words(&[2, 0, 24, 32, 56, 32]);
+    twice.extend(&list(EXTENSIONS, &[14])[16..]);
+    twice.extend(&good[16..]);
+    let lists = [
+        words(&[0, 0]),
+        list(BASIC_CONNECT, &[15]),
+        list(EXTENSIONS, &[]),
+        list(EXTENSIONS, &[14, 16, 0x10F]),
+        list(EXTENSIONS, &[14, 15, 16]),
+        twice,
+        resized(&good, 4096),
+        vec![],
+        good[..7].to_vec(),
+        good[..15].to_vec(),
+        good[..47].to_vec(),
+        resized(&good, 4097),
+        with_word(&good, 0, 33),
+        with_word(&good, 0, 2),
+        with_word(&good, 8, 17),
+        with_word(&good, 12, 28),
+        with_word(&good, 12, 541),
+        with_word(&good, 40, 129),
+    ];
+    for services in &lists {
+        for (native, advertised) in MODEMS {
+            make(samples, (0x0200, 0x0200, false));
+            samples.ask(MAKE_MODEM, &[native, advertised, MODEM_SIZE], services);
+            show(samples);
+        }
+        serve_list(samples, 0);
+        command(samples, EXTENSIONS, [4, 15, 0], &[0, 1, 0, 2]);
+    }
+}
+
 /// VERSION before the list, after it, as a set, again, and after a new start.
-fn asks(samples: &mut Samples, modem: [u64; 3]) {
+fn asks(samples: &mut Samples, modem: Modem) {
     let asks = match modem {
-        [0x0200, 0x0100, 1] => &ASKS[..],
-        [_, _, 1] => &ASKS[..2],
+        (0x0200, 0x0100, true) => &ASKS[..],
+        (_, _, true) => &ASKS[..2],
         _ => &ASKS[1..2],
     };
     for ask in asks {
-        samples.ask(MAKE_MODEM, &modem, &[]);
+        make(samples, modem);
         command(samples, EXTENSIONS, [4, 15, 0], ask);
         serve_list(samples, 0);
-        command(samples, EXTENSIONS, [4, 15, 1], ask);
+        for command_type in [1, 2, 0x100, 0xFFFF_FFFF] {
+            command(samples, EXTENSIONS, [4, 15, command_type], ask);
+        }
         command(samples, EXTENSIONS, [9, 15, 0], ask);
         show(samples);
         command(samples, EXTENSIONS, [9, 15, 0], &[0, 1, 0, 2]);
@@ -78,13 +149,13 @@ fn asks(samples: &mut Samples, modem: [u64; 3]) {
 }
 
 /// Another first command before the list and after it; VERSION then comes late.
-fn others(samples: &mut Samples, modem: [u64; 3]) {
+fn others(samples: &mut Samples, modem: Modem) {
     let others = match modem {
-        [0x0200, _, 1] => &OTHERS[..],
+        (0x0200, _, true) => &OTHERS[..],
         _ => &OTHERS[2..4],
     };
     for (service, cid) in others.iter().copied() {
-        samples.ask(MAKE_MODEM, &modem, &[]);
+        make(samples, modem);
         command(samples, service, [0, cid, 0], &[]);
         show(samples);
         serve_list(samples, 1);
@@ -99,8 +170,8 @@ fn others(samples: &mut Samples, modem: [u64; 3]) {
 }
 
 /// Too little room changes nothing, and status 9 needs none.
-fn rooms(samples: &mut Samples, modem: [u64; 3]) {
-    samples.ask(MAKE_MODEM, &modem, &[]);
+fn rooms(samples: &mut Samples, modem: Modem) {
+    make(samples, modem);
     command(samples, EXTENSIONS, [0, 15, 0], &[0, 1, 0, 2]);
     serve_list(samples, 0);
     for room in [0, 3] {
@@ -114,16 +185,66 @@ fn rooms(samples: &mut Samples, modem: [u64; 3]) {
     show(samples);
 }
 
+/// Services and CIDs nearly known, at every stage: before the list, after it, settled by
+/// VERSION or by themselves.
+fn unknown(samples: &mut Samples, modem: Modem) {
+    let mut printed = EXTENSIONS;
+    printed[8] = 0x9d;
+    let commands =
+        [(BASIC_CONNECT, 0), (BASIC_CONNECT, 0x109), (EXTENSIONS, 9), (printed, 15), ([0; 16], 16)];
+    for settled in [false, true] {
+        make(samples, modem);
+        for (service, cid) in commands {
+            command(samples, service, [0, cid, 0], &[]);
+        }
+        serve_list(samples, 0);
+        if settled {
+            command(samples, EXTENSIONS, [4, 15, 0], &[0, 1, 0, 2]);
+        }
+        for (service, cid) in commands {
+            command(samples, service, [0, cid, 1], &[0, 1, 0, 2]);
+            show(samples);
+        }
+    }
+}
+
+/// What is no COMMAND, and a COMMAND of transaction 0: refused at every stage, with both
+/// faults together too.
+fn no_commands(samples: &mut Samples) {
+    for stage in 0..3 {
+        make(samples, (0x0200, 0x0100, true));
+        if stage > 0 {
+            serve_list(samples, 0);
+        }
+        if stage > 1 {
+            command(samples, EXTENSIONS, [4, 15, 0], &[0, 1, 0, 2]);
+        }
+        for message_type in [0, 1, 2, 4, 0x103, COMMAND_DONE, INDICATE_STATUS, u32::MAX, COMMAND] {
+            for transaction in [0, 1] {
+                if (message_type, transaction) == (COMMAND, 1) {
+                    continue;
+                }
+                let number = message_type.into();
+                receive(samples, BASIC_CONNECT, [4, number, transaction, 16, 0], &[]);
+                receive(samples, EXTENSIONS, [4, number, transaction, 15, 0], &[0, 1, 0, 2]);
+                receive(samples, [0; 16], [0, number, transaction, 15, 2], &[]);
+            }
+        }
+        show(samples);
+        receive(samples, EXTENSIONS, [4, COMMAND.into(), 0xFFFF_FFFF, 15, 0], &[0, 1, 0, 2]);
+        show(samples);
+    }
+}
+
 /// Random calls, each shown.
 fn walk(samples: &mut Samples) {
     let mut random = Random::new(9);
-    samples.ask(MAKE_MODEM, &[0x0200, 0x0100, 1], &[]);
-    for _ in 0..50 {
+    make(samples, (0x0200, 0x0100, true));
+    for _ in 0..60 {
         match random.below(16) {
             0 | 1 => {
                 let (native, advertised) = random.pick(&MODEMS);
-                let lists_version = random.pick(&[0, 1, 1]);
-                samples.ask(MAKE_MODEM, &[native, advertised, lists_version], &[]);
+                make(samples, (native, advertised, random.pick(&[false, true, true])));
             }
             2 => drop(samples.ask(MODEM_OPEN, &[], &[])),
             3 => drop(samples.ask(MODEM_CLOSE, &[], &[])),

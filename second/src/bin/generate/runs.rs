@@ -1,9 +1,10 @@
-//! Whole runs: host and modem with writer, cutter, assembler and readers between them.
+//! Whole runs: host and modem with writer, cutter, door and readers between them.
 
 use crate::feeds::pieces;
 use crate::samples::Samples;
 use second::flat::question as q;
-use second::message::{COMMAND, COMMAND_DONE};
+use second::flat::{Answer, ASSEMBLY_SIZE, MODEM_SIZE};
+use second::message::{CLOSE, CLOSE_DONE, COMMAND, COMMAND_DONE, OPEN, OPEN_DONE};
 use second::payload::{BASIC_CONNECT, EXTENSIONS};
 
 const ROOM: u64 = 4096;
@@ -13,60 +14,73 @@ pub fn all(samples: &mut Samples) {
     for host in [0x0100, 0x0200] {
         for (native, advertised) in [(0x0100, 0x0100), (0x0200, 0x0100), (0x0200, 0x0200)] {
             for lists_version in [0, 1] {
+                let list = write_list(samples, lists_version);
                 samples.ask(q::MAKE_HOST, &[host], &[]);
-                samples.ask(q::MAKE_MODEM, &[native, advertised, lists_version], &[]);
+                samples.ask(q::MAKE_MODEM, &[native, advertised, MODEM_SIZE], &list);
+                carry_whole(samples, [OPEN, OPEN_DONE]);
                 samples.ask(q::HOST_OPEN, &[advertised], &[]);
                 samples.ask(q::MODEM_OPEN, &[], &[]);
-                run(samples, lists_version);
+                run(samples, &list);
+                carry_whole(samples, [CLOSE, CLOSE_DONE]);
+                samples.ask(q::HOST_CLOSE, &[], &[]);
+                samples.ask(q::MODEM_CLOSE, &[], &[]);
             }
         }
     }
 }
 
 /// The list and its reply; then, unless refused, VERSION or another command and its reply.
-fn run(samples: &mut Samples, lists_version: u64) {
+fn run(samples: &mut Samples, list: &[u8]) {
     samples.ask(q::HOST_NEXT, &[ROOM], &[]);
-    exchange(samples, 1, 16, &[]);
-    let list = write_list(samples, lists_version);
-    let list = carry(samples, [COMMAND_DONE, 1, 16, 0], &list);
-    let reply = samples.ask(q::HOST_SERVICES_REPLY, &[0], &list).numbers;
+    to_modem(samples, [COMMAND, 1, 16, 0], &[]);
+    let reply = to_host(samples, [COMMAND_DONE, 1, 16, 0], list).numbers;
     if reply[0] != 0 {
         samples.ask(q::SHOW_HOST, &[], &[]);
         return;
     }
     let next = samples.ask(q::HOST_NEXT, &[ROOM], &[]);
     if next.numbers[1] == 2 {
-        let answered = exchange(samples, 2, 15, &next.output);
-        let answered = carry(samples, [COMMAND_DONE, 2, 15, 0], &answered);
-        samples.ask(q::HOST_VERSION_REPLY, &[0], &answered);
+        let answered = to_modem(samples, [COMMAND, 2, 15, 0], &next.output);
+        to_host(samples, [COMMAND_DONE, 2, 15, 0], &answered.output);
     } else {
-        exchange(samples, 2, 11, &[]);
+        to_modem(samples, [COMMAND, 2, 11, 0], &[]);
     }
     samples.ask(q::SHOW_MODEM, &[], &[]);
     let version = samples.ask(q::SHOW_HOST, &[], &[]).numbers[3];
-    if lists_version == 1 {
-        payloads(samples, version);
+    payloads(samples, version);
+}
+
+/// A whole message and its reply, written, received and judged.
+fn carry_whole(samples: &mut Samples, types: [u32; 2]) {
+    for message_type in types {
+        let arguments = [16, message_type.into(), 9, 0];
+        let message = samples.ask(q::WHOLE_WRITE, &arguments, &[]).output;
+        samples.ask(q::RECEIVE, &[0, ASSEMBLY_SIZE], &message);
     }
 }
 
-/// A command on its way to the modem; gives what the modem wrote.
-fn exchange(samples: &mut Samples, transaction: u32, cid: u32, payload: &[u8]) -> Vec<u8> {
-    let information = carry(samples, [COMMAND, transaction, cid, 0], payload);
-    let service = if cid == 15 { EXTENSIONS } else { BASIC_CONNECT };
-    let input = [&service[..], &information].concat();
-    samples.ask(q::MODEM_COMMAND, &[ROOM, cid.into(), 0], &input).output
+/// A message on its way to the modem.
+fn to_modem(samples: &mut Samples, head: [u32; 4], information: &[u8]) -> Answer {
+    let input = carry(samples, head, information);
+    let [message_type, transaction, cid, word] = head.map(u64::from);
+    samples.ask(q::MODEM_RECEIVE, &[ROOM, message_type, transaction, cid, word], &input)
 }
 
-/// Cuts, feeds and gives the information that came together.
+/// A message on its way to the host.
+fn to_host(samples: &mut Samples, head: [u32; 4], information: &[u8]) -> Answer {
+    let input = carry(samples, head, information);
+    samples.ask(q::HOST_RECEIVE, &head.map(u64::from), &input)
+}
+
+/// Cuts, feeds and gives the service and the information that came together.
 fn carry(samples: &mut Samples, head: [u32; 4], information: &[u8]) -> Vec<u8> {
     let mut output = Vec::new();
     for piece in pieces(samples, 64, head, information) {
-        output = samples.ask(q::FEED, &[ROOM], &piece).output;
+        output = samples.ask(q::RECEIVE, &[ROOM, ASSEMBLY_SIZE], &piece).output;
     }
     let [message_type, _, cid, word] = head.map(u64::from);
-    let (service, information) = output.split_at(16);
-    samples.ask(q::PAYLOAD_KIND, &[message_type, cid, word], service);
-    information.to_vec()
+    samples.ask(q::PAYLOAD_KIND, &[message_type, cid, word], &output[..16]);
+    output
 }
 
 fn write_list(samples: &mut Samples, lists_version: u64) -> Vec<u8> {
@@ -94,7 +108,7 @@ fn payloads(samples: &mut Samples, version: u64) {
         (11, q::SIGNAL_READ, signal),
     ];
     for (cid, read, payload) in reads {
-        let payload = carry(samples, [COMMAND_DONE, 3, cid, 0], &payload);
-        samples.ask(read, &[version], &payload);
+        let carried = carry(samples, [COMMAND_DONE, 3, cid, 0], &payload);
+        samples.ask(read, &[version], &carried[16..]);
     }
 }

@@ -6,6 +6,8 @@ use std::fmt::Write;
 
 /// Runs of this many equal bytes are written as a count.
 const RUN: usize = 8;
+/// The most bytes of a line, its line feed included.
+const MOST_BYTES: usize = 16_640;
 
 pub struct Samples {
     second: Second,
@@ -35,7 +37,7 @@ impl Samples {
             groups(&answer.output),
         ];
         let line = fields.join("\t");
-        assert!(line.len() <= 65_536, "line too long");
+        assert!(line.len() < MOST_BYTES, "line too long");
         if has_state(question) || self.seen.insert(line.clone()) {
             self.text.push_str(&line);
             self.text.push('\n');
@@ -45,7 +47,7 @@ impl Samples {
 }
 
 fn has_state(asked: u32) -> bool {
-    (question::FEED..=question::SHOW_ASSEMBLY).contains(&asked)
+    (question::RECEIVE..=question::SHOW_ASSEMBLY).contains(&asked)
         || (question::MAKE_HOST..=question::SHOW_MODEM).contains(&asked)
 }
 
