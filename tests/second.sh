@@ -10,6 +10,8 @@ export CARGO_TARGET_DIR
 mkdir -p target/second
 cargo test -q --offline --manifest-path second/Cargo.toml >target/second/log 2>&1 || { cat target/second/log; exit 1; }
 echo 'second: its tests: ok'
-cargo run -q --offline --release --manifest-path second/Cargo.toml --bin generate >target/second/samples
-cmp target/second/samples crates/samples/stdin
+for kind in payload message; do
+    cargo run -q --offline --release --manifest-path second/Cargo.toml --bin generate -- "${kind}s" >"target/second/$kind"
+    cmp "target/second/$kind" "crates/${kind}_samples/stdin"
+done
 echo 'second: the samples are its own: ok'

@@ -592,11 +592,7 @@ fn next_command(host: &[u8; HOST_SIZE], asked: &Asked) -> Flat {
     let call = |out: &mut [u8]| c::host_next_command(host, out);
     let (answer, output) = lend(asked.number(0), call, |answer| answer.length)?;
     let AskAnswer { command, version, length, .. } = answer;
-    match command {
-        2 if version == 0 => with_output(&[2, length], output),
-        0..=3 if length == 0 => plain(&[command.into(), version.into()]),
-        _ => Err(Stop::Wrong("members of a next command")),
-    }
+    with_output(&[command.into(), version.into(), length], output)
 }
 
 fn ask_modem(modem: &mut [u8; MODEM_SIZE], question: u32, asked: &Asked) -> Flat {

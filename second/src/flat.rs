@@ -620,10 +620,10 @@ fn next_command(host: &Host, asked: &Asked) -> Flat {
     };
     let (next, output) = lend(asked.number(0), call)?;
     match next {
-        NextCommand::Nothing => plain(&[0, 0]),
-        NextCommand::Services => plain(&[1, 0]),
-        NextCommand::Version => with_output(&[2, output.len() as u64], output),
-        NextCommand::Free(version) => plain(&[3, version.bcd().into()]),
+        NextCommand::Nothing => plain(&[0, 0, 0]),
+        NextCommand::Services => plain(&[1, 0, 0]),
+        NextCommand::Version => with_output(&[2, 0, output.len() as u64], output),
+        NextCommand::Free(version) => plain(&[3, version.bcd().into(), 0]),
     }
 }
 

@@ -28,6 +28,12 @@ pub fn resized(bytes: &[u8], length: usize) -> Vec<u8> {
     bytes
 }
 
+/// So many bytes, of which the first thousand are not 0.
+pub fn information(length: usize) -> Vec<u8> {
+    let front = (0..length.min(1000)).map(|place| (place % 251) as u8 + 1);
+    resized(&front.collect::<Vec<u8>>(), length)
+}
+
 /// Numbers at and around a limit, and far above it.
 pub fn around(limit: u32) -> [u32; 5] {
     let far = limit | 0x8000_0000;

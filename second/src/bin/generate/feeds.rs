@@ -1,6 +1,6 @@
 //! Samples of fragments received: single ones, and streams of them.
 
-use crate::damage::{resized, two_faults, with_word, with_words, words};
+use crate::damage::{information, resized, two_faults, with_word, with_words, words};
 use crate::random::Random;
 use crate::samples::Samples;
 use second::flat::question::{CUT, EMPTY_ASSEMBLY, RECEIVE, SHOW_ASSEMBLY};
@@ -253,7 +253,7 @@ fn rooms(samples: &mut Samples) {
 /// As many fragments and bytes as there may be.
 fn many(samples: &mut Samples) {
     for size in [100, 2000, 4096] {
-        let stream = pieces(samples, size, [COMMAND_DONE, 1, 16, 0], &[3; 4096]);
+        let stream = pieces(samples, size, [COMMAND_DONE, 1, 16, 0], &information(4096));
         for (number, piece) in stream.iter().enumerate() {
             feed(samples, piece);
             if number % 40 == 30 {

@@ -1,5 +1,7 @@
-//! Prints the samples: questions with the answers of this program, one a line.
-//! The same samples come out at every run.
+//! Prints the samples of payloads or those of messages: questions with the answers of
+//! this program, one a line. The same samples come out at every run.
+//!
+//!     generate payloads|messages
 
 mod damage;
 mod doors;
@@ -17,10 +19,28 @@ mod services;
 mod signals;
 mod versions;
 
+use samples::Samples;
 use std::io::{self, Write};
+use std::process::ExitCode;
 
-fn main() -> io::Result<()> {
-    let mut samples = samples::Samples::new();
+fn main() -> ExitCode {
+    let samples = all();
+    let text = match std::env::args().nth(1).as_deref() {
+        Some("payloads") => samples.payloads(),
+        Some("messages") => samples.messages(),
+        _ => {
+            eprintln!("usage: generate payloads|messages");
+            return ExitCode::from(2);
+        }
+    };
+    match io::stdout().lock().write_all(text.as_bytes()) {
+        Ok(()) => ExitCode::SUCCESS,
+        Err(_) => ExitCode::FAILURE,
+    }
+}
+
+fn all() -> Samples {
+    let mut samples = Samples::default();
     versions::all(&mut samples);
     packets::all(&mut samples);
     registrations::all(&mut samples);
@@ -33,5 +53,5 @@ fn main() -> io::Result<()> {
     modems::all(&mut samples);
     runs::all(&mut samples);
     qualities::all(&mut samples);
-    io::stdout().lock().write_all(samples.text().as_bytes())
+    samples
 }

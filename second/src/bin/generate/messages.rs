@@ -1,6 +1,6 @@
 //! Samples of whole messages, the cutter, transactions and payload kinds.
 
-use crate::damage::{resized, words};
+use crate::damage::{information, resized, words};
 use crate::random::Random;
 use crate::samples::Samples;
 use second::flat::question::{CUT, NEXT_TRANSACTION, PAYLOAD_KIND, WHOLE_MESSAGE, WHOLE_WRITE};
@@ -132,8 +132,11 @@ fn cut_lengths(samples: &mut Samples) {
                 }
             }
         }
-        for (size, length) in [(64, 100), (64, 4096), (512, 4096), (4095, 4096), (4096, 4048)] {
-            let input = [&BASIC_CONNECT[..], &vec![7; length]].concat();
+        // The longest messages of one type are enough.
+        let long = [(64, 4096), (512, 4096), (4095, 4096)];
+        let some = if message_type == COMMAND_DONE { &long[..] } else { &long[2..] };
+        for (size, length) in [(64, 100), (4096, 4048)].iter().chain(some).copied() {
+            let input = [&BASIC_CONNECT[..], &information(length)].concat();
             let arguments = [6100, size, message_type.into(), transaction, 9, 1];
             samples.ask(CUT, &arguments, &input);
         }

@@ -4,24 +4,26 @@ use second::flat::{question, Answer, Second};
 use std::collections::BTreeSet;
 use std::fmt::Write;
 
-/// Runs of this many equal bytes are written as a count.
-const RUN: usize = 8;
 /// The most bytes of a line, its line feed included.
 const MOST_BYTES: usize = 16_640;
 
+#[derive(Default)]
 pub struct Samples {
     second: Second,
     seen: BTreeSet<String>,
-    text: String,
+    payloads: String,
+    messages: String,
 }
 
 impl Samples {
-    pub fn new() -> Samples {
-        Samples { second: Second::new(), seen: BTreeSet::new(), text: String::new() }
+    /// The samples of payloads and readings.
+    pub fn payloads(&self) -> &str {
+        &self.payloads
     }
 
-    pub fn text(&self) -> &str {
-        &self.text
+    /// The samples of messages and of both ends.
+    pub fn messages(&self) -> &str {
+        &self.messages
     }
 
     /// Asks, writes the sample and gives the answer. A question that depends on
@@ -29,18 +31,12 @@ impl Samples {
     pub fn ask(&mut self, question: u32, arguments: &[u64], input: &[u8]) -> Answer {
         let answer = self.second.ask(question, arguments, input);
         assert!(!answer.numbers.is_empty(), "not a sample");
-        let fields = [
-            question.to_string(),
-            numbers(arguments),
-            groups(input),
-            numbers(&answer.numbers),
-            groups(&answer.output),
-        ];
-        let line = fields.join("\t");
-        assert!(line.len() < MOST_BYTES, "line too long");
+        let line = line(question, arguments, input, &answer);
+        assert!(line.len() <= MOST_BYTES, "line too long");
         if has_state(question) || self.seen.insert(line.clone()) {
-            self.text.push_str(&line);
-            self.text.push('\n');
+            let is_message = (question::WHOLE_MESSAGE..=question::SHOW_MODEM).contains(&question);
+            let text = if is_message { &mut self.messages } else { &mut self.payloads };
+            text.push_str(&line);
         }
         answer
     }
@@ -51,29 +47,35 @@ fn has_state(asked: u32) -> bool {
         || (question::MAKE_HOST..=question::SHOW_MODEM).contains(&asked)
 }
 
-fn numbers(numbers: &[u64]) -> String {
-    let words: Vec<String> = numbers.iter().map(u64::to_string).collect();
-    words.join(" ")
+/// A sample as docs/samples.md has it.
+fn line(question: u32, arguments: &[u64], input: &[u8], answer: &Answer) -> String {
+    let mut asked = number(input.len() as u64);
+    for (place, argument) in arguments.iter().enumerate() {
+        let is_speed = question == question::PACKET_WRITE && place >= 7;
+        asked.extend(if is_speed { argument.to_le_bytes().to_vec() } else { number(*argument) });
+    }
+    let mut answered = number(answer.numbers[0]);
+    if answer.numbers[0] == 0 {
+        answered.extend(number(0));
+    }
+    for (place, shown) in answer.numbers.iter().enumerate().skip(1) {
+        let is_speed = question == question::PACKET_READ && place >= 7;
+        answered.extend(if is_speed { shown.to_le_bytes().to_vec() } else { number(*shown) });
+    }
+    let fields = [&[question as u8], &asked[..], input, &answered, &answer.output];
+    fields.map(hex).join("\t") + "\n"
 }
 
-/// Bytes as groups: plain hex, and long runs as a byte and a count.
-fn groups(bytes: &[u8]) -> String {
-    let mut groups: Vec<String> = Vec::new();
-    let mut plain = String::new();
-    for run in bytes.chunk_by(|one, next| one == next) {
-        if run.len() < RUN {
-            for byte in run {
-                let _ = write!(plain, "{byte:02x}");
-            }
-            continue;
-        }
-        if !plain.is_empty() {
-            groups.push(std::mem::take(&mut plain));
-        }
-        groups.push(format!("{:02x}*{}", run[0], run.len()));
-    }
-    if !plain.is_empty() {
-        groups.push(plain);
-    }
-    groups.join(",")
+/// A number of 32 bits as bytes.
+fn number(number: u64) -> Vec<u8> {
+    u32::try_from(number).expect("32 bits").to_le_bytes().to_vec()
+}
+
+/// The bytes in hexadecimal, but for zeros at the end.
+fn hex(bytes: &[u8]) -> String {
+    let end = bytes.iter().rposition(|byte| *byte != 0).map_or(0, |last| last + 1);
+    bytes[..end].iter().fold(String::new(), |mut text, byte| {
+        let _ = write!(text, "{byte:02x}");
+        text
+    })
 }

@@ -199,7 +199,9 @@ fn writes(samples: &mut Samples) {
         let mut parts = vec![part(128); 7];
         parts.push(part(last));
         write(samples, 4400, 8, &parts);
-        write(samples, 4095, 8, &parts);
+        if matches!(last, 54 | 55) {
+            write(samples, 4095, 8, &parts);
+        }
     }
 }
 

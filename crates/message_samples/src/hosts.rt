@@ -1,0 +1,82 @@
+// The host's end: questions 22 to 26 and 31.
+use crate::least;
+use crate::messages::message_at;
+use culvertroost::hosts::cvr_host_close;
+use culvertroost::hosts::cvr_host_make;
+use culvertroost::hosts::cvr_host_next_command;
+use culvertroost::hosts::cvr_host_open;
+use culvertroost::hosts::cvr_host_receive;
+use flat::ends::HostInfo;
+use protocol::service::id_at;
+use sample_lines::answers::Asked;
+use sample_lines::answers::half_at;
+use sample_lines::answers::plain;
+use sample_lines::answers::short;
+use sample_lines::answers::word_at;
+use sample_lines::answers::written;
+use wire::u16_at;
+
+pub fn with_host(
+    question: u8,
+    arguments: &[u8],
+    input: &[u8],
+    host: &mut [u8],
+    out: &mut [u8],
+) -> Asked {
+    match question {
+        22 => make(half_at(arguments, 1), host),
+        23 => event(cvr_host_open(host, half_at(arguments, 1))),
+        24 => event(cvr_host_close(host)),
+        25 => next_command(arguments, host, out),
+        26 => receive(arguments, input, host),
+        _ => show(host),
+    }
+}
+
+fn make(native: u16, host: &mut [u8]) -> Asked {
+    let refusal = cvr_host_make(host, native);
+    let mut numbers = [0u32; 16];
+    numbers[0] = refusal.number;
+    numbers[1] = short(refusal.place);
+    plain(numbers)
+}
+
+fn event(answer: HostInfo) -> Asked {
+    let refusal = answer.refusal;
+    let mut numbers = [0u32; 16];
+    numbers[0] = refusal.number;
+    numbers[1] = short(refusal.place);
+    numbers[2] = answer.event;
+    numbers[3] = answer.version as u32;
+    plain(numbers)
+}
+
+fn next_command(arguments: &[u8], host: &[u8], out: &mut [u8]) -> Asked {
+    let room = least(word_at(arguments, 1) as usize, out.len());
+    let answer = cvr_host_next_command(host, &mut out[..room]);
+    let refusal = answer.refusal;
+    let length = answer.length;
+    let mut numbers = [0u32; 16];
+    numbers[0] = refusal.number;
+    numbers[1] = short(refusal.place);
+    numbers[2] = answer.command;
+    numbers[3] = answer.version as u32;
+    numbers[4] = short(length);
+    written(numbers, length)
+}
+
+// The input is the service and the information.
+fn receive(arguments: &[u8], input: &[u8], host: &mut [u8]) -> Asked {
+    let message = message_at(arguments, 1, id_at(input, 0));
+    let from = least(16, input.len());
+    event(cvr_host_receive(host, message, &input[from..]))
+}
+
+// The memory: native version, stage and the stage's version.
+fn show(host: &[u8]) -> Asked {
+    let mut numbers = [0u32; 16];
+    numbers[2] = u16_at(host, 0) as u32;
+    numbers[3] = u16_at(host, 2) as u32;
+    numbers[4] = u16_at(host, 4) as u32;
+    plain(numbers)
+}

@@ -1,0 +1,83 @@
+// The modem's end: questions 27 to 30 and 32.
+use crate::least;
+use crate::messages::message_at;
+use culvertroost::modems::cvr_modem_close;
+use culvertroost::modems::cvr_modem_make;
+use culvertroost::modems::cvr_modem_open;
+use culvertroost::modems::cvr_modem_receive;
+use flat::ends::ModemInfo;
+use protocol::Refusal;
+use protocol::service::id_at;
+use sample_lines::answers::Asked;
+use sample_lines::answers::half_at;
+use sample_lines::answers::plain;
+use sample_lines::answers::short;
+use sample_lines::answers::word_at;
+use sample_lines::answers::written;
+use wire::u16_at;
+
+pub fn with_modem(
+    question: u8,
+    arguments: &[u8],
+    input: &[u8],
+    modem: &mut [u8],
+    out: &mut [u8],
+) -> Asked {
+    match question {
+        27 => done(make(arguments, input, modem)),
+        28 => done(cvr_modem_open(modem)),
+        29 => done(cvr_modem_close(modem)),
+        30 => receive(arguments, input, modem, out),
+        _ => show(modem),
+    }
+}
+
+fn done(refusal: Refusal) -> Asked {
+    let mut numbers = [0u32; 16];
+    numbers[0] = refusal.number;
+    numbers[1] = short(refusal.place);
+    plain(numbers)
+}
+
+// Lends the front of the memory. The input is the list of services.
+fn make(arguments: &[u8], input: &[u8], modem: &mut [u8]) -> Refusal {
+    let size = least(word_at(arguments, 3) as usize, modem.len());
+    let native = half_at(arguments, 1);
+    let advertised = half_at(arguments, 2);
+    cvr_modem_make(&mut modem[..size], native, advertised, input)
+}
+
+// The input is the service and the information.
+fn receive(arguments: &[u8], input: &[u8], modem: &mut [u8], out: &mut [u8]) -> Asked {
+    let room = least(word_at(arguments, 1) as usize, out.len());
+    let message = message_at(arguments, 2, id_at(input, 0));
+    let from = least(16, input.len());
+    let answer = cvr_modem_receive(modem, message, &input[from..], &mut out[..room]);
+    taken(answer)
+}
+
+fn taken(answer: ModemInfo) -> Asked {
+    let refusal = answer.refusal;
+    let length = answer.length;
+    let mut numbers = [0u32; 16];
+    numbers[0] = refusal.number;
+    numbers[1] = short(refusal.place);
+    numbers[2] = answer.action;
+    numbers[3] = answer.status;
+    numbers[4] = answer.kind;
+    numbers[5] = answer.version as u32;
+    numbers[6] = short(answer.place);
+    numbers[7] = short(length);
+    written(numbers, length)
+}
+
+// The memory: native and advertised version, whether VERSION is listed, stage and version.
+fn show(modem: &[u8]) -> Asked {
+    let mut numbers = [0u32; 16];
+    numbers[2] = u16_at(modem, 0) as u32;
+    numbers[3] = u16_at(modem, 2) as u32;
+    numbers[4] = u16_at(modem, 4) as u32;
+    numbers[5] = u16_at(modem, 6) as u32;
+    numbers[6] = u16_at(modem, 8) as u32;
+    plain(numbers)
+}

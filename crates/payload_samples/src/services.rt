@@ -1,0 +1,153 @@
+// The list of services: questions 10 to 13.
+use crate::least;
+use culvertroost::services::cvr_device_services_cids;
+use culvertroost::services::cvr_device_services_element;
+use culvertroost::services::cvr_device_services_listed;
+use culvertroost::services::cvr_device_services_write;
+use device_services::DeviceService;
+use flat::WrittenAnswer;
+use flat::services::ElementInfo;
+use protocol::service::id_at;
+use protocol::service::put_id;
+use sample_lines::answers::Asked;
+use sample_lines::answers::plain;
+use sample_lines::answers::short;
+use sample_lines::answers::word_at;
+use services_writer::ServiceElement;
+use services_writer::ServiceList;
+ghost use Prim.Native.Nat.{_≤_};
+
+// The element's service is put at the front of the output.
+pub fn element(
+    question: u8,
+    arguments: &[u8],
+    input: &[u8],
+    out: &mut [u8],
+    list: &mut [u32],
+) -> Asked {
+    let answer = chosen(question, arguments, input, list);
+    let refusal = answer.refusal;
+    let element = answer.element;
+    put_id(out, 0, element.device_service_id);
+    Asked {
+        numbers: [
+            refusal.number,
+            short(refusal.place),
+            answer.listed,
+            element.dss_payload,
+            element.max_dss_instances,
+            element.cid_count,
+            0,
+            0,
+            0,
+            0,
+            0,
+            0,
+            0,
+            0,
+            0,
+            0,
+        ],
+        count: 6,
+        written: 16,
+        listed: element.cid_count,
+    }
+}
+
+// By its number, or by the service at the front of the input.
+fn chosen(question: u8, arguments: &[u8], input: &[u8], list: &mut [u32]) -> ElementInfo {
+    if question == 10 {
+        return cvr_device_services_element(input, word_at(arguments, 2), list);
+    }
+    let service = id_at(input, 0);
+    let from = least(16, input.len());
+    cvr_device_services_cids(&input[from..], service, list)
+}
+
+pub fn listed(arguments: &[u8], input: &[u8]) -> Asked {
+    let service = id_at(input, 0);
+    let from = least(16, input.len());
+    let answer = cvr_device_services_listed(&input[from..], service, word_at(arguments, 1));
+    let refusal = answer.refusal;
+    let mut numbers = [0u32; 16];
+    numbers[0] = refusal.number;
+    numbers[1] = short(refusal.place);
+    numbers[2] = answer.listed;
+    plain(numbers)
+}
+
+pub fn services_write(arguments: &[u8], input: &[u8], out: &mut [u8]) -> WrittenAnswer {
+    let elements = elements_of(arguments, input);
+    let list = ServiceList {
+        device_services_count: word_at(arguments, 2),
+        max_dss_sessions: word_at(arguments, 3),
+        elements,
+    };
+    cvr_device_services_write(list, out)
+}
+
+// The elements stand one after another, and so do their services in the input.
+fn elements_of(arguments: &[u8], input: &[u8]) -> [ServiceElement; 32] {
+    let first = element_at(arguments, 4, input, 0);
+    let mut elements = [first; 32];
+    let mut place = after_element(arguments, 4);
+    let mut i: usize = 1;
+    while i < 32 {
+        let element = element_at(arguments, place, input, 16 * i);
+        elements[i] = element;
+        place = after_element(arguments, place);
+        i += 1;
+    }
+    elements
+}
+
+fn element_at(arguments: &[u8], place: u32, input: &[u8], service: usize) -> ServiceElement
+    requires { ⌜ place ≤ 65535 ⌝ }
+{
+    let device_service_id = id_at(input, service);
+    let fields = DeviceService {
+        device_service_id,
+        dss_payload: word_at(arguments, place),
+        max_dss_instances: word_at(arguments, place + 1),
+        cid_count: word_at(arguments, place + 2),
+    };
+    let cids = cids_at(arguments, place + 3);
+    ServiceElement { fields, cids }
+}
+
+// 128 of them; those past the element's count are the arguments that come next.
+fn cids_at(arguments: &[u8], place: u32) -> [u32; 128]
+    requires { ⌜ place ≤ 131071 ⌝ }
+{
+    let mut cids = [0u32; 128];
+    let mut i: u32 = 0;
+    while i < 128 {
+        cids[i as usize] = word_at(arguments, place + i);
+        i += 1;
+    }
+    cids
+}
+
+// Where the next element stands; no line is so long that the last place is reached.
+fn after_element(arguments: &[u8], place: u32) -> u32
+    requires { ⌜ place ≤ 65535 ⌝ }
+    ensures { λ r. ⌜ r ≤ 65535 ⌝ }
+{
+    let count = word_at(arguments, place + 2);
+    if 128 < count {
+        return next_place(place, 128);
+    }
+    next_place(place, count)
+}
+
+fn next_place(place: u32, count: u32) -> u32
+    requires { ⌜ place ≤ 65535 ⌝ }
+    requires { ⌜ count ≤ 128 ⌝ }
+    ensures { λ r. ⌜ r ≤ 65535 ⌝ }
+{
+    let next = place + 3 + count;
+    if 65535 < next {
+        return 65535;
+    }
+    next
+}

@@ -1,0 +1,62 @@
+// Numbers of a question, which are the words of its arguments, and those of its answer.
+use wire::u16_at;
+use wire::u32_at;
+ghost use mathlib.Core.Path.{_≡_};
+ghost use Prim.Native.Nat.{_*_, min};
+ghost use Rattle.wire.specs.Numbers.{u16At, u32At};
+ghost use Rattle.sample_lines.specs.Answers.{plainAnswer, writtenAnswer};
+
+// An answer: its numbers, of which the first `count` count, how many bytes of the output belong to
+// it, and how many numbers of the list.
+pub struct Asked {
+    pub numbers: [u32; 16],
+    pub count: u32,
+    pub written: usize,
+    pub listed: u32,
+}
+
+pub fn word_at(arguments: &[u8], place: u32) -> u32
+    ensures { λ r. ⌜ r ≡ u32At (now (arguments .entry)) (4 * place) ⌝ }
+{
+    u32_at(arguments, 4 * (place as usize))
+}
+
+pub fn half_at(arguments: &[u8], place: u32) -> u16
+    ensures { λ r. ⌜ r ≡ u16At (now (arguments .entry)) (4 * place) ⌝ }
+{
+    u16_at(arguments, 4 * (place as usize))
+}
+
+// A number as a word; the largest word stands for all that are none.
+pub fn short(n: usize) -> u32
+    ensures { λ r. ⌜ r ≡ min n 4294967295 ⌝ }
+{
+    if 4294967295 < n {
+        return 4294967295;
+    }
+    n as u32
+}
+
+// An answer of numbers alone.
+pub fn plain(numbers: [u32; 16]) -> Asked
+    ensures { λ r. ⌜ r ≡ plainAnswer numbers ⌝ }
+{
+    Asked {
+        numbers,
+        count: 16,
+        written: 0,
+        listed: 0,
+    }
+}
+
+// An answer of numbers and bytes.
+pub fn written(numbers: [u32; 16], length: usize) -> Asked
+    ensures { λ r. ⌜ r ≡ writtenAnswer numbers length ⌝ }
+{
+    Asked {
+        numbers,
+        count: 16,
+        written: length,
+        listed: 0,
+    }
+}
