@@ -4,6 +4,7 @@ use crate::put_row;
 use crate::put_text;
 use crate::put_text_row;
 use pairs::Range;
+use pairs::part_of;
 use protocol::Version;
 use registration::Registration;
 use registration::RegistrationForm;
@@ -69,9 +70,7 @@ fn put_range_row(out: &mut [u8], at: usize, name: &[u8], payload: &[u8], range: 
     ensures { λ r. ⌜ Put (now (out .entry)) at (textRow (now (name .entry)) (shownIn (now (payload .entry)) range)) (now (out .exit)) r ⌝ }
     ensures { λ r. ⌜ r ≤ at + 400 ⌝ }
 {
-    let start = range.start as usize;
-    let end = start + range.length as usize;
-    put_text_row(out, at, name, &payload[start..end])
+    put_text_row(out, at, name, part_of(payload, range))
 }
 
 // The rows from the flag on.

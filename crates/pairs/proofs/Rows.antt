@@ -22,8 +22,8 @@ use Rattle.protocol.proofs.Verdicts.{left-fits, right-fits, last-fits}
 use Rattle.pairs.specs.declared.Range.{Range}
 use Rattle.pairs.specs.declared.PairKind.the-variants.{Text}
 use Rattle.pairs.specs.Pair.{rangeAt, unfit, verdictOf, padded, rangeBytes}
-use Rattle.pairs.specs.Texts.{placeOf, limitOf, rangesAt, inTurn, eachVerdict, textsVerdict, sizeRules, laid, endOf, furthest, startOf, rangesBytes, textBytes, textsBytes, sizesOf, firstInside}
-use Rattle.pairs.specs.Claims.{RangeSized, TextsFit, SizesFit, TextsShown, Adjoining, RangesSized}
+use Rattle.pairs.specs.Texts.{placeOf, limitOf, rangesAt, inTurn, eachVerdict, textsVerdict, sizeRules, laid, endOf, startOf, rangesBytes, textBytes, textsBytes, sizesOf}
+use Rattle.pairs.specs.Claims.{RangeSized, TextsFit, SizesFit, TextsShown, Adjoining, RangesSized, firstInside}
 use Rattle.pairs.proofs.Laws.{size-said, said-size, fits-said, said-fits, absent-fits, placed-fits, placed-inside, placed-sized, placed-back}
 
 -- ---- verdicts in turn
@@ -131,7 +131,11 @@ pub end-aligned : (base : ℕ) (ks : List ℕ) → base % 4 ≡ 0 → endOf base
 end-aligned base [] h = h
 end-aligned base (k ∷ ks) h = end-aligned (base + padded k) ks (omega arith)
 
--- no further than the longest
+-- no further than the longest that fit
+abbrev pub furthest : ℕ → List (List ℕ) → ℕ
+furthest base [] = base
+furthest base (x ∷ xs) = furthest (base + padded (limitOf x)) xs
+
 pub end-within : (base most : ℕ) (rows : List (List ℕ)) (ks : List ℕ) → SizesFit rows ks → length ks ≤ length rows → base ≤ most → endOf base ks ≤ furthest most rows
 end-within base most [] [] f l h = h
 end-within base most [] (k ∷ ks) f l h = absurd (omega arith)

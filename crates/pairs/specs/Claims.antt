@@ -3,8 +3,12 @@
 use Prim.Native.Nat.{ℕ, _+_, _*_, _%_, _≤_, _<_, _^_}
 use mathlib.Core.Path.{_≡_}
 use mathlib.Core.Logic.{_⊎_}
+use mathlib.Core.Bool.{cond}
 use mathlib.Core.List.{List, [], _∷_}
+use lib.Dec.{eqb}
 use lib.ListN.{take, drop}
+use Rattle.protocol.specs.Refusal.{refusal, wrongOffset}
+use Rattle.protocol.specs.declared.Refusal.{Refusal}
 use Rattle.pairs.specs.declared.Range.{Range}
 use Rattle.pairs.specs.declared.PairKind.{PairKind}
 use Rattle.pairs.specs.declared.PairKind.the-variants.{Text, List as ListKind}
@@ -80,3 +84,9 @@ Adjoining at (x ∷ xs) = (placeOf x ≡ at) × Adjoining (at + 8) xs
 abbrev pub RangesSized : List Range → Type 0
 RangesSized [] = Unit
 RangesSized (p ∷ ps) = RangeSized p × RangesSized ps
+
+-- what a reader with a longer fixed part refuses of texts of these sizes: the first that there is; r where there is none
+abbrev pub firstInside : Refusal → List (List ℕ) → List ℕ → Refusal
+firstInside r [] ks = r
+firstInside r (x ∷ xs) [] = r
+firstInside r (x ∷ xs) (k ∷ ks) = cond (eqb k 0) (firstInside r xs ks) (refusal wrongOffset (placeOf x))

@@ -1,15 +1,12 @@
 -- The texts of a record: a row (place, limit) for each pair, in field order. In document 01 so: "pairs ProviderId 20, ProviderName 28,
 -- RoamingText 36 with limits 12, 40 and 126 bytes". How many there are is free.
--- In this order: the rows; the rules, in the order in which they are judged; where a writer puts the texts, and their bytes.
+-- In this order: the rows; the rules, in the order in which they are judged; where a writer puts the texts; their bytes.
 use Prim.Native.Nat.{ℕ, _+_}
-use mathlib.Core.Bool.{cond}
 use mathlib.Core.List.{List, [], _∷_, _++_}
-use lib.Dec.{eqb}
 use lib.ListN.{length, getD, take}
 use Rattle.wire.specs.Runs.{fitted}
-use Rattle.protocol.specs.Refusal.{refusal, wrongOffset, wrongSize}
+use Rattle.protocol.specs.Refusal.{wrongSize}
 use Rattle.protocol.specs.Verdict.{Rule, rule, firstOf}
-use Rattle.protocol.specs.declared.Refusal.{Refusal}
 use Rattle.protocol.specs.declared.Verdict.{Verdict}
 use Rattle.protocol.specs.declared.Verdict.the-variants.{Fits}
 use Rattle.pairs.specs.Pair.{rangeAt, unfit, verdictOf, padded, placed, rangeBytes}
@@ -19,7 +16,7 @@ use Rattle.pairs.specs.declared.PairKind.the-variants.{Text}
 -- ---- rows
 
 abbrev pub row : ℕ → ℕ → List ℕ
-row place limit = place ∷ (limit ∷ [])
+row place limit = place ∷ limit ∷ []
 
 abbrev pub placeOf : List ℕ → ℕ
 placeOf x = getD x 0 0
@@ -34,6 +31,7 @@ rangesAt s (x ∷ xs) = rangeAt s (placeOf x) ∷ rangesAt s xs
 
 -- ---- rules: pair by pair; the first fault decides
 
+-- v, then the others
 abbrev pub firstFrom : Verdict → List Verdict → Verdict
 firstFrom v [] = v
 firstFrom v (w ∷ ws) = firstOf v (firstFrom w ws)
@@ -51,7 +49,7 @@ eachVerdict fixed n (x ∷ xs) (p ∷ ps) = verdictOf Text fixed (limitOf x) (pl
 abbrev pub textsVerdict : ℕ → ℕ → List (List ℕ) → List Range → Verdict
 textsVerdict fixed n rows ps = inTurn (eachVerdict fixed n rows ps)
 
--- what is left of them for a writer: the sizes of the texts
+-- what is left of them for a writer, who sets the offsets: the sizes of the texts
 abbrev pub sizeRules : List (List ℕ) → List ℕ → List Rule
 sizeRules [] ks = []
 sizeRules (x ∷ xs) [] = []
@@ -63,14 +61,10 @@ abbrev pub laid : ℕ → List ℕ → List Range
 laid base [] = []
 laid base (k ∷ ks) = placed base k ∷ laid (base + padded k) ks
 
+-- where they end
 abbrev pub endOf : ℕ → List ℕ → ℕ
 endOf base [] = base
 endOf base (k ∷ ks) = endOf (base + padded k) ks
-
--- the end of the longest that fit
-abbrev pub furthest : ℕ → List (List ℕ) → ℕ
-furthest base [] = base
-furthest base (x ∷ xs) = furthest (base + padded (limitOf x)) xs
 
 -- text i: behind the first i, and its pair
 abbrev pub startOf : ℕ → List ℕ → ℕ → ℕ
@@ -96,10 +90,3 @@ textsBytes (t ∷ ts) = textBytes t ++ textsBytes ts
 abbrev pub sizesOf : List (List ℕ) → List ℕ
 sizesOf [] = []
 sizesOf (t ∷ ts) = length t ∷ sizesOf ts
-
--- ---- what a reader with a longer fixed part refuses: the first text that there is; r where there is none
-
-abbrev pub firstInside : Refusal → List (List ℕ) → List ℕ → Refusal
-firstInside r [] ks = r
-firstInside r (x ∷ xs) [] = r
-firstInside r (x ∷ xs) (k ∷ ks) = cond (eqb k 0) (firstInside r xs ks) (refusal wrongOffset (placeOf x))

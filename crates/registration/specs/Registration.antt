@@ -50,14 +50,14 @@ recordAt v s = record {
 
 -- "pairs ProviderId 20, ProviderName 28, RoamingText 36 with limits 12, 40 and 126 bytes"
 abbrev pub textRows : List (List ℕ)
-textRows = row 20 12 ∷ (row 28 40 ∷ (row 36 126 ∷ []))
+textRows = row 20 12 ∷ row 28 40 ∷ row 36 126 ∷ []
 
 abbrev pub texts : Range → Range → Range → RegistrationTexts
 texts id name roaming = record { «provider_id» = id; «provider_name» = name; «roaming_text» = roaming }
 
 -- the ranges of the texts in field order, and back
 abbrev pub rangesOf : RegistrationTexts → List Range
-rangesOf t = t .«provider_id» ∷ (t .«provider_name» ∷ (t .«roaming_text» ∷ []))
+rangesOf t = t .«provider_id» ∷ t .«provider_name» ∷ t .«roaming_text» ∷ []
 
 abbrev pub textsOf : List Range → RegistrationTexts
 textsOf ps = texts (getD ps 0 (range 0 0)) (getD ps 1 (range 0 0)) (getD ps 2 (range 0 0))
@@ -122,7 +122,7 @@ versionOf p = versionIn (p .form)
 
 -- three sizes or three texts, in field order
 abbrev pub three : {A : Type 0} → A → A → A → List A
-three a b c = a ∷ (b ∷ (c ∷ []))
+three a b c = a ∷ b ∷ c ∷ []
 
 -- the sizes of the texts; a pair that the writer places breaks no other rule (proofs/RoundTrip)
 unfoldable pub sizeRules : ℕ → ℕ → ℕ → List Rule

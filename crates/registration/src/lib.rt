@@ -106,7 +106,10 @@ pub fn read(version: Version, payload: &[u8]) -> RegistrationRead
     }
     let info = record_at(version, payload);
     match judge_fields(version, payload, info) {
-        Verdict::Fits => RegistrationRead::Info(info, texts_at(payload)),
+        Verdict::Fits => {
+            let texts = texts_at(payload);
+            RegistrationRead::Info(info, texts)
+        }
         Verdict::Fault(refusal) => RegistrationRead::Refused(refusal),
     }
 }
