@@ -109,6 +109,16 @@ unfolding firstIndex
 index-at t zero i e h q = absurd (omega arith)
 index-at t (suc n) i e h q = last i n h (λ l. rw (any-at t n i l q, index-at t n i e l q)) (λ l. rw (← l, e, q))
 
+-- where any does, the first is below n
+pub index-below : (t : ℕ → Bool) (n : ℕ) → anyOf t n ≡ true → firstIndex t n < n
+unfolding firstIndex anyOf
+index-below t zero e = let z : _≡_ {A = ℕ} 0 1 = cc in absurd (omega arith)
+index-below t (suc n) e = by-any (λ q. index-below t n q) (anyOf t n) refl
+  where
+    by-any : (anyOf t n ≡ true → firstIndex t n < n) → (b : Bool) → anyOf t n ≡ b → firstIndex t (suc n) < suc n
+    by-any before true q = let l = before q in rw q (omega (arith, l))
+    by-any before false q = let h : t n ≡ true = rw q at e in rw (q, h) (omega arith)
+
 -- where none does, the count
 pub index-none : (t : ℕ → Bool) (n : ℕ) → anyOf t n ≡ false → firstIndex t n ≡ n
 unfolding firstIndex anyOf

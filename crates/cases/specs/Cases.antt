@@ -2,8 +2,8 @@
 -- In this order: what a case says; the bytes that the cases are about; the cases.
 use Prim.Native.Nat.{ℕ}
 use mathlib.Core.Path.{_≡_}
-use mathlib.Core.List.{List, [], _∷_}
-use lib.ListN.{replicate}
+use mathlib.Core.List.{List, [], _∷_, _++_}
+use lib.ListN.{take, drop, replicate}
 use lib.Ieee.{binary32, ofBits}
 use Rattle.protocol.specs.Refusal.{refusal, tooShort, wrongLength, wrongOffset, pastEnd, outsideTable}
 use Rattle.protocol.specs.Verdict.{Writing}
@@ -30,6 +30,16 @@ use Rattle.signal_quality.specs.Decibels.{rsrpOf, snrOf}
 use Rattle.signal_quality.specs.declared.Reading.the-variants.{Dbm, Db}
 use Rattle.signal_quality.specs.declared.ReadingRead.{ReadingRead}
 use Rattle.signal_quality.specs.declared.ReadingRead.the-variants.{Info as Read}
+use Rattle.signal_state.specs.SignalState.{refused as signalRefused, readOf as signalRead}
+use Rattle.signal_state.specs.declared.SignalStateShown.{SignalStateShown}
+use Rattle.device_services.specs.DeviceServices.{readOf as servicesRead}
+use Rattle.device_services.specs.declared.DeviceServicesRead.{DeviceServicesRead}
+use Rattle.device_services.specs.declared.DeviceServicesRead.the-variants.{Refused as ServicesRefused}
+use Rattle.message.specs.Message.{wholeOf, fragmentOf}
+use Rattle.message.specs.declared.Whole.{Whole}
+use Rattle.message.specs.declared.Whole.the-variants as whole
+use Rattle.message.specs.declared.Fragment.{Fragment}
+use Rattle.message.specs.declared.Fragment.the-variants as fragment
 use Rattle.version_info.specs.VersionInfo.{readOf as versionRead, writeOf as versionWrite}
 use Rattle.version_info.specs.declared.VersionInfo.{VersionInfo}
 use Rattle.version_info.specs.declared.VersionInfoRead.{VersionInfoRead}
@@ -50,6 +60,11 @@ pub data Case : Type 0 where
   registrationShown : Version → List ℕ → RegistrationRead → Case
   -- the pair of a text, by fixed part, limit, place and payload length, is judged
   pairJudged : ℕ → ℕ → ℕ → ℕ → Range → Verdict → Case
+  signalShown : Version → List ℕ → SignalStateShown → Case
+  servicesShown : List ℕ → DeviceServicesRead → Case
+  -- a message is judged whole, and as a fragment
+  wholeJudged : List ℕ → Whole → Case
+  fragmentJudged : List ℕ → Fragment → Case
   -- a code is read
   rsrpRead : ℕ → ReadingRead → Case
   snrRead : ℕ → ReadingRead → Case
@@ -61,6 +76,10 @@ Holds (packetShown v s a) = packetRead v s ≡ a
 Holds (registrationWritten p id n w) = registrationWrite p id [] [] (replicate n 0) ≡ w
 Holds (registrationShown v s a) = registrationRead v s ≡ a
 Holds (pairJudged fixed limit place n p v) = verdictOf Text fixed limit place n p ≡ v
+Holds (signalShown v s a) = signalRead v s ≡ a
+Holds (servicesShown s a) = servicesRead s ≡ a
+Holds (wholeJudged s a) = wholeOf s ≡ a
+Holds (fragmentJudged s a) = fragmentOf s ≡ a
 Holds (rsrpRead c r) = rsrpOf c ≡ r
 Holds (snrRead c r) = snrOf c ≡ r
 
@@ -122,6 +141,10 @@ homeWritten =
     ∷ 0x00 ∷ 0x00 ∷ 0x00 ∷ 0x00 ∷ 0x00 ∷ 0x00 ∷ 0x00 ∷ 0x00
     ∷ 0x30 ∷ 0x00 ∷ 0x30 ∷ 0x00 ∷ 0x31 ∷ 0x00 ∷ 0x30 ∷ 0x00 ∷ 0x31 ∷ 0x00 ∷ 0x00 ∷ 0x00 ∷ []
 
+-- the pair of ProviderId replaced
+abbrev pub withPair : List ℕ → List ℕ
+withPair pair = take 20 homeWritten ++ (pair ++ drop 28 homeWritten)
+
 -- ---- the cases
 
 unfoldable pub cases : List Case
@@ -142,6 +165,13 @@ cases =
     ∷ packetShown V2 [] (PacketRefused (refusal tooShort 0))
     ∷ registrationShown V1 [] (RegistrationRefused (refusal tooShort 0))
     ∷ registrationShown V2 [] (RegistrationRefused (refusal tooShort 0))
+    ∷ signalShown V1 [] (signalRefused (refusal tooShort 0))
+    ∷ signalShown V2 [] (signalRefused (refusal tooShort 0))
+    ∷ servicesShown [] (ServicesRefused (refusal tooShort 0))
+    ∷ wholeJudged [] (whole.Refused (refusal tooShort 0))
+    ∷ fragmentJudged [] (fragment.Refused (refusal tooShort 0))
+    ∷ registrationShown V2 (withPair (0xFC ∷ 0xFF ∷ 0xFF ∷ 0xFF ∷ 8 ∷ 0 ∷ 0 ∷ 0 ∷ [])) (RegistrationRefused (refusal pastEnd 20))
+    ∷ registrationShown V2 (withPair (52 ∷ 0 ∷ 0 ∷ 0 ∷ 0 ∷ 0 ∷ 0 ∷ 0 ∷ [])) (RegistrationRefused (refusal wrongOffset 20))
     -- −156 and −31 dBm, −23 and 40 dB, by their bit patterns
     ∷ rsrpRead 1 (Read (Dbm (ofBits binary32 0xC31C0000)))
     ∷ rsrpRead 126 (Read (Dbm (ofBits binary32 0xC1F80000)))

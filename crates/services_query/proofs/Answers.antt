@@ -1,10 +1,10 @@
 -- The answers in words of elements: a CID is listed exactly when an element holds both; the element shown for a service is its first.
 -- Assumes nothing.
-use mathlib.Core.Path.{_≡_, refl}
+use mathlib.Core.Path.{_≡_, refl, ap}
 use mathlib.Core.Logic.{_↔_}
-use mathlib.Core.Bool.{Bool, true, false}
+use mathlib.Core.Bool.{Bool, true, false, cond}
 use mathlib.Core.List.{List}
-use Prim.Native.Nat.{ℕ, _≤_, _<_}
+use Prim.Native.Nat.{ℕ, _*_, _≤_, _<_}
 use native.Mathlib.Omega.{arith}
 use borrow.Author.Tests.{eq-eqb, eqb-true, lt-ltb, le-ltb}
 use Rattle.protocol.specs.declared.Verdict.{Verdict}
@@ -13,13 +13,18 @@ use Rattle.protocol.specs.declared.service.ServiceId.{ServiceId}
 use Rattle.protocol.proofs.Services.{same-said, said-same}
 use Rattle.protocol.proofs.Tests.{and-both, both-and}
 use Rattle.below.specs.Below.{anyOf, firstIndex}
-use Rattle.below.proofs.Laws.{some-of, each-none, any-at, index-at, index-none}
-use Rattle.device_services.specs.DeviceServices.{countOf, offsetOf, cidCountAt, elementAt, verdictOf}
-use Rattle.services_query.specs.declared.ElementAnswer.the-variants.{NotListed}
+use Rattle.below.proofs.Laws.{some-of, each-none, any-at, index-at, index-below, index-none}
+use Rattle.wire.specs.Runs.{over}
+use Rattle.protocol.specs.Refusal.{refusal, outputTooSmall}
+use Rattle.device_services.specs.DeviceServices.{countOf, offsetOf, cidCountAt, elementAt, cidsAt, verdictOf}
+use lib.Dec.{ltb}
+use lib.ListN.{length}
+use borrow.Author.Tests.{ltb-false}
+use Rattle.services_query.specs.declared.ElementAnswer.the-variants.{NotListed, Refused, Listed as Shows}
 use Rattle.services_query.specs.declared.ListedAnswer.the-variants.{Listed}
 use Rattle.services_query.specs.declared.ListedAnswer.the-variants as list
-use Rattle.services_query.specs.ServicesQuery.{isOf, isCid, hasCid, holds, plain, elementShown, chosenShown, elementOf, cidsOf, told, listedOf}
-use Rattle.services_query.specs.Claims.{Serves, Held, First}
+use Rattle.services_query.specs.ServicesQuery.{Shown, isOf, isCid, hasCid, holds, plain, judged, elementShown, chosenShown, elementOf, cidsOf, told, listedOf}
+use Rattle.services_query.specs.Claims.{Serves, Held, First, ElementNotListed, CidsNotListed}
 
 -- ---- a service and a CID
 
@@ -116,3 +121,45 @@ first-none s service out e h =
     let x : firstIndex (isOf s service) (countOf s) ≡ countOf s =
     index-none (isOf s service) (countOf s) (none-serves s service (countOf s) (omega arith) (λ j k. h j)) in
     rw (e, x, le-ltb (countOf s) (countOf s) (omega arith))
+
+-- ---- 'not listed', exactly
+
+-- an element that is there is shown or has too little room
+shown-some : (s : List ℕ) (i : ℕ) (out : List ℕ) → elementShown s i out .answer ≡ NotListed → ⊥
+unfolding elementShown
+shown-some s i out = by-room (ltb (length out) (cidCountAt s (offsetOf s i)))
+  where
+    by-room : (b : Bool) → cond b (plain (Refused (refusal outputTooSmall (4 * cidCountAt s (offsetOf s i)))) out) (plain (Shows (elementAt s (offsetOf s i))) (over (cidsAt s (offsetOf s i)) out)) .answer ≡ NotListed → ⊥
+    by-room true e = let z : _≡_ {A = ℕ} 0 1 = cc in absurd (omega arith)
+    by-room false e = let z : _≡_ {A = ℕ} 0 1 = cc in absurd (omega arith)
+
+chosen-none : (s : List ℕ) (i : ℕ) (out : List ℕ) → chosenShown s i out .answer ≡ NotListed → countOf s ≤ i
+unfolding chosenShown
+chosen-none s i out e = by-number (ltb i (countOf s)) refl e
+  where
+    by-number : (b : Bool) → ltb i (countOf s) ≡ b → cond b (elementShown s i out) (plain NotListed out) .answer ≡ NotListed → countOf s ≤ i
+    by-number true q e = absurd (shown-some s i out e)
+    by-number false q e = ltb-false i (countOf s) q
+
+judged-none : (d : Verdict) (x : Shown) (out : List ℕ) → judged d x out .answer ≡ NotListed → (d ≡ Fits) × (x .answer ≡ NotListed)
+judged-none Fits x out e = (refl, e)
+judged-none (Fault r) x out e = let z : _≡_ {A = ℕ} 0 1 = cc in absurd (omega arith)
+
+pub element-not-listed-exactly : ElementNotListed
+unfolding elementOf
+element-not-listed-exactly s i out = (
+  λ e. let d = judged-none (verdictOf s) (chosenShown s i out) out e in (d .0, chosen-none s i out (d .1)),
+  λ k. ap (λ (x : Shown). x .answer) (element-none s i out (k .0) (k .1)),
+)
+
+pub cids-not-listed-exactly : CidsNotListed
+unfolding cidsOf
+cids-not-listed-exactly s service out = (
+  λ e. let d = judged-none (verdictOf s) (chosenShown s (firstIndex (isOf s service) (countOf s)) out) out e in
+      (d .0, λ j h. none-below (anyOf (isOf s service) (countOf s)) refl (chosen-none s (firstIndex (isOf s service) (countOf s)) out (d .1)) j h),
+  λ k. ap (λ (x : Shown). x .answer) (first-none s service out (k .0) (k .1)),
+)
+  where
+    none-below : (b : Bool) → anyOf (isOf s service) (countOf s) ≡ b → countOf s ≤ firstIndex (isOf s service) (countOf s) → (j : ℕ) → Serves s service j → ⊥
+    none-below true e l j h = let x = index-below (isOf s service) (countOf s) e in absurd (omega (arith, x, l))
+    none-below false e l j h = let y = any-at (isOf s service) (countOf s) j (h .below) (said-serves s service j h) in let z : _≡_ {A = Bool} true false = cc in let w : _≡_ {A = ℕ} 0 1 = cc in absurd (omega arith)

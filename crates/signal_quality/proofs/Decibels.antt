@@ -14,10 +14,10 @@ use lib.Ieee.Exact.{odd-sign}
 use mir.Syntax.{w16}
 use mir.Val.{SFits, toZ, ofZ}
 use Rattle.signal_quality.specs.declared.Reading.{Reading}
-use Rattle.signal_quality.specs.declared.Reading.the-variants.{Dbm, Db}
+use Rattle.signal_quality.specs.declared.Reading.the-variants.{Dbm, Db, BelowRange}
 use Rattle.signal_quality.specs.declared.ReadingRead.the-variants.{Info}
 use Rattle.signal_quality.specs.Decibels.{exactly, isNegative, coded, rsrpOf, snrOf}
-use Rattle.signal_quality.specs.Claims.{Is}
+use Rattle.signal_quality.specs.Claims.{Is, Edges}
 use Rattle.signal_quality.proofs.Tables.{rows, agree}
 
 -- ---- the code's numbers: the difference fits 16 bits, and its float is the exact one
@@ -106,3 +106,8 @@ snr-exact c h l = (
   exactly (pos c -ℤ pos 47) 1,
   (known-read 128 _ _ c h l, (exact (pos c -ℤ pos 47) 1, rw (twice c l) (exact (pos c -ℤ pos 47) 0))),
 )
+
+-- code 0 is below the range, with its edge: −156 dBm and −23 dB
+pub edges-exact : Edges
+unfolding rsrpOf snrOf coded
+edges-exact = ((exactly (negsuc 155) 0, (refl, exact (negsuc 155) 0)), (exactly (negsuc 22) 0, (refl, exact (negsuc 22) 0)))
