@@ -15,13 +15,14 @@ use Rattle.protocol.specs.MessageType.{COMMAND-DONE, INDICATE-STATUS, isFragmen
 use Rattle.protocol.specs.Service.{basicConnect, extensions, idAt, sameId, among, kindOf as payloadKind}
 use Rattle.protocol.specs.declared.Verdict.{Verdict}
 use Rattle.protocol.specs.declared.Verdict.the-variants.{Fits}
+use Rattle.protocol.specs.declared.service.Kind.{Kind}
 use Rattle.protocol.specs.declared.service.Carried.the-variants as known
 use Rattle.protocol.proofs.Verdicts.{kept-fits}
 use Rattle.message.specs.Message.{wrongWord}
 use Rattle.message.specs.declared.MessageHeader.{MessageHeader}
 use Rattle.cutter.specs.Cut.{fragmentsOf, joined, wrongSize, wrongTransaction, messageRules, cutBy, cutAfter, cutOf}
 use Rattle.cutter.specs.declared.Cutting.the-variants.{Fragments}
-use Rattle.payload.specs.Payload.{isVersion, hides, shownBy, shownOf}
+use Rattle.payload.specs.Payload.{wayOf, rowOf, shownIn, shownBy, shownOf}
 use Rattle.payload.specs.declared.Shown.the-variants.{Payload}
 use Rattle.exchange.specs.Messages.{Fits32, carried}
 use Rattle.claims.specs.Transfer.{Record, registered, attached, heard, listed, versioned, serviceOf, cidOf, kindOf, Reply, Indication, Carries}
@@ -66,10 +67,19 @@ known-kind (heard p es) = refl
 known-kind (listed p) = refl
 known-kind (versioned i) = refl
 
-not-hidden : (m : MessageHeader) (r : Record) → Reply m ⊎ Indication m → hides (carried m) (kindOf r) ≡ false
-unfolding hides carried
-not-hidden m r (inl w) = rw (w .done, w .success)
-not-hidden m r (inr w) = rw (w .indicates)
+-- a good reply and an indication are answers
+answers : (m : MessageHeader) (k : Kind) → Reply m ⊎ Indication m → shownIn (rowOf k) (wayOf (carried m)) ≡ rowOf k .answer
+unfolding wayOf carried
+answers m k (inl w) = rw (w .done, w .success)
+answers m k (inr w) = rw (w .indicates)
+
+own-row : (r : Record) → rowOf (kindOf r) .answer ≡ Payload (kindOf r)
+unfolding kindOf
+own-row (registered p x y z) = refl
+own-row (attached p) = refl
+own-row (heard p es) = refl
+own-row (listed p) = refl
+own-row (versioned i) = refl
 
 kind-of-carried : (r : Record) (m : MessageHeader) → Carries r m → payloadKind (carried m .service) (carried m .cid) ≡ known.Payload (kindOf r)
 unfolding carried
@@ -80,12 +90,12 @@ unfolding isFragmented carried
 has-payload m (inl w) = rw (w .done)
 has-payload m (inr w) = rw (w .indicates)
 
--- the service and the CID are its own, and neither a good reply nor an indication hides its payload
+-- the service and the CID are its own, and their row has its payload
 pub shows : (r : Record) (m : MessageHeader) → Carries r m → shownOf (carried m) ≡ Payload (kindOf r)
 unfolding shownOf shownBy
 shows r m c =
     let k : payloadKind (carried m .service) (carried m .cid) ≡ known.Payload (kindOf r) = kind-of-carried r m c in
-    rw (has-payload m (c .way), k, not-hidden m r (c .way))
+    rw (has-payload m (c .way), k) (answers m (kindOf r) (c .way) ∙ own-row r)
 
 -- ---- the header's numbers are of their width
 

@@ -11,13 +11,20 @@ use protocol::service::Kind;
 use protocol::service::kind_of;
 ghost use mathlib.Core.Path.{_≡_};
 ghost use Rattle.protocol.specs.Service.{kindOf};
-ghost use Rattle.payload.specs.Payload.{isVersion, hides, shownBy, shownOf};
+ghost use Rattle.payload.specs.Payload.{wayOf, rowOf, shownIn, shownBy, shownOf};
 
 // What a message shows: a payload of some kind, none, or the refusal of its type, service or CID.
 pub enum Shown {
     Payload(Kind),
     NoPayload,
     Refused(Refusal),
+}
+
+// Which way a message goes: an answer is a DONE of status 0 or an indication.
+enum Way {
+    Command,
+    Answer,
+    Failed,
 }
 
 pub fn payload_of(message: MessageHeader) -> Shown
@@ -39,36 +46,57 @@ fn shown_by_kind(message: MessageHeader) -> Shown
     let service = message.service;
     match kind_of(service, message.cid) {
         Carried::Refused(refusal) => Shown::Refused(refusal),
-        Carried::Payload(kind) => {
-            if hides_payload(message, kind) {
-                return Shown::NoPayload;
-            }
-            Shown::Payload(kind)
-        }
+        Carried::Payload(kind) => shown_on(way_of(message), kind),
     }
 }
 
-// Whether the message is a failed reply, or a command other than VERSION.
-fn hides_payload(message: MessageHeader, kind: Kind) -> bool
-    ensures { λ r. ⌜ r ≡ hides message kind ⌝ }
+fn way_of(message: MessageHeader) -> Way
+    ensures { λ r. ⌜ r ≡ wayOf message ⌝ }
 {
-    if message.message_type == COMMAND_DONE {
-        return message.word != 0;
-    }
     if message.message_type == COMMAND {
-        return !is_version(kind);
+        return Way::Command;
     }
-    false
+    if message.message_type != COMMAND_DONE {
+        return Way::Answer;
+    }
+    if message.word != 0 {
+        return Way::Failed;
+    }
+    Way::Answer
 }
 
-fn is_version(kind: Kind) -> bool
-    ensures { λ r. ⌜ r ≡ isVersion kind ⌝ }
+fn shown_on(way: Way, kind: Kind) -> Shown
+    ensures { λ r. ⌜ r ≡ shownIn (rowOf kind) way ⌝ }
+{
+    match way {
+        Way::Command => in_command(kind),
+        Way::Answer => in_answer(kind),
+        Way::Failed => Shown::NoPayload,
+    }
+}
+
+// The table's first column.
+fn in_command(kind: Kind) -> Shown
+    ensures { λ r. ⌜ r ≡ rowOf kind .command ⌝ }
 {
     match kind {
-        Kind::VersionInfo => true,
-        Kind::RegisterState => false,
-        Kind::PacketService => false,
-        Kind::SignalState => false,
-        Kind::DeviceServices => false,
+        Kind::RegisterState => Shown::NoPayload,
+        Kind::PacketService => Shown::NoPayload,
+        Kind::SignalState => Shown::NoPayload,
+        Kind::DeviceServices => Shown::NoPayload,
+        Kind::VersionInfo => Shown::Payload(Kind::VersionInfo),
+    }
+}
+
+// The table's second column.
+fn in_answer(kind: Kind) -> Shown
+    ensures { λ r. ⌜ r ≡ rowOf kind .answer ⌝ }
+{
+    match kind {
+        Kind::RegisterState => Shown::Payload(Kind::RegisterState),
+        Kind::PacketService => Shown::Payload(Kind::PacketService),
+        Kind::SignalState => Shown::Payload(Kind::SignalState),
+        Kind::DeviceServices => Shown::Payload(Kind::DeviceServices),
+        Kind::VersionInfo => Shown::Payload(Kind::VersionInfo),
     }
 }

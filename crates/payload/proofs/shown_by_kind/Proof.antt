@@ -1,4 +1,4 @@
--- By the service and CID, then by the message.
+-- By what the service and the CID stand for.
 use borrow.Author.Needs.{needs}
 use Rattle.payload.specs.Payload.{shownBy}
 use Rattle.payload.proofs.shown_by_kind.Statement.{statement}
@@ -6,15 +6,11 @@ use Rattle.payload.proofs.shown_by_kind.Tie as tie
 
 returns : tie.Need-returns
 unfolding shownBy
-returns c = rw (← c .before .before .before .before .before .kind-of .ensures, c .before .before .before .kind .given .1, ← c .before .hides-payload .ensures, c .if1 .taken)
+returns c = rw (← c .before .before .before .kind-of .ensures, c .before .refusal .given .1)
 
 returns-2 : tie.Need-returns-2
 unfolding shownBy
-returns-2 c = rw (← c .before .before .before .kind-of .ensures, c .before .refusal .given .1)
-
-returns-3 : tie.Need-returns-3
-unfolding shownBy
-returns-3 c = rw (← c .before .before .before .before .before .kind-of .ensures, c .before .before .before .kind .given .1, ← c .before .hides-payload .ensures, c .if1 .left)
+returns-2 c = rw (← c .before .before .before .before .before .kind-of .ensures, c .before .before .before .kind .given .1, ← c .before .way-of .ensures) (c .shown-on .ensures)
 
 pub shown-by-kind-spec : {M : Type 1} → statement M
-shown-by-kind-spec = tie.close (tie.spec (λ c. search needs) (λ c. search needs) (λ c. search needs) (λ c. search needs) returns returns-2 returns-3)
+shown-by-kind-spec = tie.close (tie.spec (λ c. search needs) (λ c. search needs) (λ c. search needs) (λ c. search needs) (λ c. search needs) returns returns-2)
