@@ -155,7 +155,7 @@ fn numbers(numbers: &[u64]) -> String {
     words.join(" ")
 }
 
-/// Bytes as docs/samples.md has them: hex, and runs of 8 or more as a byte and a count.
+/// Bytes in hex, and runs of 8 or more as a byte and a count.
 fn groups(bytes: &[u8]) -> String {
     let mut groups = String::new();
     let mut plain = false;

@@ -1,3 +1,4 @@
+-- Each turn keeps no more of a line than there is room for, and the turns count down.
 use borrow.Author.Needs.{needs}
 use Prim.Native.Nat.{_≤_}
 use native.Mathlib.Omega.{arith}

@@ -1,3 +1,4 @@
+-- Each turn takes some of the chunk, and keeps no more of a line than there is room for.
 use borrow.Author.Needs.{needs}
 use mathlib.Core.Path.{ap}
 use Prim.Native.Nat.{_≤_, _-_}

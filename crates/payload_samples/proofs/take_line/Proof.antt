@@ -1,3 +1,4 @@
+-- What is kept of the line lies within its array.
 use borrow.Author.Needs.{needs}
 use mathlib.Core.Path.{sym}
 use native.Mathlib.Omega.{arith}

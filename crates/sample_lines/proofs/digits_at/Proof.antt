@@ -1,3 +1,4 @@
+-- From the end of the line on there are none; else the run of the rest.
 use borrow.Author.Needs.{needs}
 use mathlib.Core.Path.{sym}
 use Rattle.sample_lines.proofs.Laws.{none-at, rest-digits}

@@ -1,3 +1,4 @@
+-- The loop's invariant: none of the first i bytes is another one.
 use borrow.Author.Needs.{needs}
 use mathlib.Core.Path.{_≡_, refl, sym, ap}
 use mathlib.Core.Bool.{false, not}

@@ -1,3 +1,4 @@
+-- By where the line ends, by the digits being even, and by the byte behind them.
 use borrow.Author.Needs.{needs}
 use native.Mathlib.Omega.{arith}
 use Rattle.sample_lines.proofs.Laws.{next-none, next-odd, next-other, next-some}

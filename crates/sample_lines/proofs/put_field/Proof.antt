@@ -1,3 +1,4 @@
+-- From the end of the line on there is nothing; else what the digits of the rest spell.
 use borrow.Author.Needs.{needs}
 use mathlib.Core.Path.{_≡_, refl, sym, ap, _∙_}
 use native.Mathlib.Omega.{arith}

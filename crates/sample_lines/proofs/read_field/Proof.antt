@@ -1,3 +1,4 @@
+-- The two parts, with the same digits.
 use borrow.Author.Needs.{needs}
 use mathlib.Core.Path.{_≡_, refl, sym, ap, _∙_}
 use Rattle.sample_lines.specs.Lines.{fieldNext}

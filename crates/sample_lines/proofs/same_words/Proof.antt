@@ -1,3 +1,4 @@
+-- The loop's invariant: none of the first i words differs.
 use borrow.Author.Needs.{needs}
 use mathlib.Core.Path.{_≡_, refl, sym, ap, _∙_}
 use mathlib.Core.Bool.{false, not}

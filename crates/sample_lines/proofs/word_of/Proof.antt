@@ -1,3 +1,4 @@
+-- Past the end the default is read.
 use borrow.Author.Needs.{needs}
 use mathlib.Core.Path.{sym}
 use lib.ListN.{List·getD-eq-default}

@@ -1,3 +1,4 @@
+-- The input lies within its array, and the assembly's memory within the state.
 use borrow.Author.Needs.{needs}
 use mathlib.Core.Path.{sym}
 use native.Mathlib.Omega.{arith}

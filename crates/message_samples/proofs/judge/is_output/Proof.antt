@@ -1,3 +1,4 @@
+-- What was written lies within both arrays.
 use borrow.Author.Needs.{needs}
 use mathlib.Core.Path.{sym}
 use native.Mathlib.Omega.{arith}

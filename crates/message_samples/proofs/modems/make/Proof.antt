@@ -1,3 +1,4 @@
+-- The lent memory lies within the modem's.
 use borrow.Author.Needs.{needs}
 use mathlib.Core.Path.{sym}
 use native.Mathlib.Omega.{arith}

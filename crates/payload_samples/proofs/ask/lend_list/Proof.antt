@@ -1,3 +1,4 @@
+-- The room lies within the list.
 use borrow.Author.Needs.{needs}
 use mathlib.Core.Path.{sym}
 use native.Mathlib.Omega.{arith}

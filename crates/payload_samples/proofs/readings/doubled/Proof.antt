@@ -1,3 +1,4 @@
+-- The number of turns grows to 2000.
 use borrow.Author.Needs.{needs}
 use Prim.Native.Nat.{_≤_, _-_}
 use Rattle.payload_samples.proofs.readings.doubled.Statement.{statement}

@@ -1,3 +1,4 @@
+-- The index grows to the count of CIDs.
 use borrow.Author.Needs.{needs}
 use Prim.Native.Nat.{_≤_, _-_}
 use Rattle.payload_samples.proofs.services.cids_at.Statement.{statement}

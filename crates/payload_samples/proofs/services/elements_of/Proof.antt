@@ -1,3 +1,4 @@
+-- The index grows to the count of elements, and the place stays within the arguments.
 use borrow.Author.Needs.{needs}
 use Prim.Native.Nat.{_≤_, _-_}
 use native.Mathlib.Omega.{arith}

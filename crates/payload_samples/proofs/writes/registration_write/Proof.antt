@@ -1,3 +1,4 @@
+-- Each text ends within the input.
 use borrow.Author.Needs.{needs}
 use mathlib.Core.Path.{sym}
 use native.Mathlib.Omega.{arith}
