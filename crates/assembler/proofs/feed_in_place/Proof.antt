@@ -1,3 +1,4 @@
+-- An array has its length.
 use borrow.Author.Needs.{needs}
 use Rattle.assembler.proofs.feed_in_place.Statement.{statement}
 use Rattle.assembler.proofs.feed_in_place.Tie as tie

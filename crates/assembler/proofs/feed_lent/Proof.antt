@@ -1,3 +1,4 @@
+-- By the length of the buffer; what lies past 4,096 bytes stays.
 use borrow.Author.Needs.{needs}
 use mathlib.Core.Path.{_≡_, refl, _∙_, sym, ap}
 use borrow.Author.Tests.{lt-ltb, le-ltb}

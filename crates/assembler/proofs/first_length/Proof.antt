@@ -1,3 +1,4 @@
+-- The place of the information length is at most 44.
 use borrow.Author.Needs.{needs}
 use native.Mathlib.Omega.{arith}
 use Rattle.message.proofs.Headers.{place-most}

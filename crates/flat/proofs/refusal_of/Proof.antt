@@ -1,3 +1,4 @@
+-- By the verdict.
 use borrow.Author.Needs.{needs}
 use Rattle.flat.proofs.refusal_of.Statement.{statement}
 use Rattle.flat.proofs.refusal_of.Tie as tie

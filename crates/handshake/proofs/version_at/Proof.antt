@@ -1,3 +1,4 @@
+-- The number judged, then its version.
 use borrow.Author.Needs.{needs}
 use Rattle.handshake.specs.Versions.{numbered}
 use Rattle.handshake.proofs.version_at.Statement.{statement}

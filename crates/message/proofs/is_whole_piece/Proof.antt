@@ -1,3 +1,4 @@
+-- By the length, then by the type.
 use borrow.Author.Needs.{needs}
 use borrow.Author.Tests.{lt-ltb, le-ltb}
 use Rattle.message.specs.Message.{isWholePiece}

@@ -1,3 +1,4 @@
+-- By the verdict on the header, then by the number.
 use borrow.Author.Needs.{needs}
 use borrow.Author.Tests.{eq-eqb, ne-eqb}
 use Rattle.message.specs.Message.{fragmentBy, fragmentOf}

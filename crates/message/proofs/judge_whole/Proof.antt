@@ -1,3 +1,4 @@
+-- The verdict is that of the rules, one after another; then the members at their places.
 use borrow.Author.Needs.{needs}
 use Rattle.protocol.specs.Verdict.{judgeFrom}
 use Rattle.message.specs.Message.{wholeOf, wholeBy}

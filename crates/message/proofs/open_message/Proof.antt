@@ -1,3 +1,4 @@
+-- By the verdict on what a first fragment has.
 use borrow.Author.Needs.{needs}
 use Rattle.message.specs.Message.{openedBy}
 use Rattle.message.proofs.open_message.Statement.{statement}

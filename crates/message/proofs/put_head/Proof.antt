@@ -1,3 +1,4 @@
+-- Three numbers stored one after another.
 use borrow.Author.Needs.{needs}
 use mathlib.Core.Path.{_≡_, refl}
 use mathlib.Core.List.{_++_}

@@ -1,3 +1,4 @@
+-- The head, and behind it the number where there is one.
 use borrow.Author.Needs.{needs}
 use mathlib.Core.Path.{_≡_, refl, _∙_, sym}
 use mathlib.Core.List.{append-nil}

@@ -1,3 +1,4 @@
+-- By the type.
 use borrow.Author.Needs.{needs}
 use borrow.Author.Tests.{eq-eqb, ne-eqb}
 use Rattle.message.specs.Message.{wholeWordAt}

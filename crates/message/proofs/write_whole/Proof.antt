@@ -1,3 +1,4 @@
+-- The judgement and the stores are those of a writing.
 use borrow.Author.Needs.{needs}
 use mathlib.Core.Path.{_≡_, refl, _∙_}
 use mathlib.Core.Bool.{not}

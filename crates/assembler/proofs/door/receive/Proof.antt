@@ -1,3 +1,4 @@
+-- By whether the piece is a whole message's.
 use borrow.Author.Needs.{needs}
 use mathlib.Core.Path.{refl}
 use Rattle.wire.specs.Runs.{over}

@@ -1,3 +1,4 @@
+-- By the feed's answer.
 use borrow.Author.Needs.{needs}
 use Rattle.assembler.specs.Door.{fedShown}
 use Rattle.assembler.proofs.door.show_fed.Statement.{statement}

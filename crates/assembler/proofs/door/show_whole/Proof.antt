@@ -1,3 +1,4 @@
+-- By the verdict on the message.
 use borrow.Author.Needs.{needs}
 use Rattle.assembler.specs.Door.{wholeShown}
 use Rattle.assembler.proofs.door.show_whole.Statement.{statement}

@@ -1,3 +1,4 @@
+-- The answer of the function behind it, in plain members.
 use borrow.Author.Needs.{needs}
 use Rattle.culvertroost.proofs.assembly.cvr_assembly_empty.Statement.{statement}
 use Rattle.culvertroost.proofs.assembly.cvr_assembly_empty.Tie as tie

@@ -1,3 +1,4 @@
+-- The answer of the function behind it, in plain members.
 use borrow.Author.Needs.{needs}
 use Rattle.culvertroost.proofs.hosts.cvr_host_open.Statement.{statement}
 use Rattle.culvertroost.proofs.hosts.cvr_host_open.Tie as tie

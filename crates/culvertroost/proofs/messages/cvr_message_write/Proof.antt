@@ -1,3 +1,4 @@
+-- The answer of the function behind it, in plain members.
 use borrow.Author.Needs.{needs}
 use Rattle.culvertroost.proofs.messages.cvr_message_write.Statement.{statement}
 use Rattle.culvertroost.proofs.messages.cvr_message_write.Tie as tie

@@ -1,3 +1,4 @@
+-- The answer of the function behind it, in plain members.
 use borrow.Author.Needs.{needs}
 use Rattle.culvertroost.proofs.modems.cvr_modem_make.Statement.{statement}
 use Rattle.culvertroost.proofs.modems.cvr_modem_make.Tie as tie

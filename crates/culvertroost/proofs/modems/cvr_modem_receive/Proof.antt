@@ -1,3 +1,4 @@
+-- The answer of the function behind it, in plain members.
 use borrow.Author.Needs.{needs}
 use Rattle.culvertroost.proofs.modems.cvr_modem_receive.Statement.{statement}
 use Rattle.culvertroost.proofs.modems.cvr_modem_receive.Tie as tie

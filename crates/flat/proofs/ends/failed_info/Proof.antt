@@ -1,3 +1,4 @@
+-- The members.
 use borrow.Author.Needs.{needs}
 use Rattle.flat.proofs.ends.failed_info.Statement.{statement}
 use Rattle.flat.proofs.ends.failed_info.Tie as tie

@@ -1,3 +1,4 @@
+-- By the answer.
 use borrow.Author.Needs.{needs}
 use Rattle.flat.specs.Ends.{modemInfo}
 use Rattle.flat.proofs.ends.modem_info.Statement.{statement}

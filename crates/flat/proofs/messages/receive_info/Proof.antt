@@ -1,3 +1,4 @@
+-- By what was received.
 use borrow.Author.Needs.{needs}
 use Rattle.flat.specs.Messages.{receiveInfo}
 use Rattle.flat.proofs.messages.receive_info.Statement.{statement}

@@ -1,3 +1,4 @@
+-- By what the message is a reply to.
 use borrow.Author.Needs.{needs}
 use Rattle.handshake.specs.Host.{receiveBy, receiveOf}
 use Rattle.handshake.proofs.host.receive.Statement.{statement}

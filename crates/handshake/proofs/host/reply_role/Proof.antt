@@ -1,3 +1,4 @@
+-- By the type, then by service and CID.
 use borrow.Author.Needs.{needs}
 use borrow.Author.Tests.{eq-eqb, ne-eqb}
 use Rattle.handshake.specs.Host.{replyRole}

@@ -1,3 +1,4 @@
+-- The two rules in their order.
 use borrow.Author.Needs.{needs}
 use borrow.Author.Tests.{eq-eqb, ne-eqb}
 use Rattle.protocol.specs.Verdict.{judgeFrom}

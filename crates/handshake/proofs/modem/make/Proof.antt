@@ -1,3 +1,4 @@
+-- The numbers are judged, then the list.
 use borrow.Author.Needs.{needs}
 use Rattle.handshake.specs.Modem.{madeOf}
 use Rattle.handshake.proofs.modem.make.Statement.{statement}

@@ -1,3 +1,4 @@
+-- By what the list says.
 use borrow.Author.Needs.{needs}
 use Rattle.handshake.specs.Modem.{listedBy}
 use Rattle.handshake.proofs.modem.make_listed.Statement.{statement}

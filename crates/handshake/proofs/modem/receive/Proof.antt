@@ -1,3 +1,4 @@
+-- By the verdict on the header.
 use borrow.Author.Needs.{needs}
 use mathlib.Core.Path.{refl}
 use Rattle.handshake.specs.Modem.{receiveBy, receiveOf}

@@ -1,3 +1,4 @@
+-- By what the command stands for.
 use borrow.Author.Needs.{needs}
 use Rattle.handshake.proofs.modem.serve.Statement.{statement}
 use Rattle.handshake.proofs.modem.serve.Tie as tie

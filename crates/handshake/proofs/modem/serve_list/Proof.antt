@@ -1,3 +1,4 @@
+-- The stage after the list.
 use borrow.Author.Needs.{needs}
 use Rattle.handshake.specs.Modem.{servicesOf}
 use Rattle.handshake.proofs.modem.serve_list.Statement.{statement}

@@ -1,3 +1,4 @@
+-- By the advertised version.
 use borrow.Author.Needs.{needs}
 use Rattle.handshake.proofs.modem.take_first_other.Statement.{statement}
 use Rattle.handshake.proofs.modem.take_first_other.Tie as tie

@@ -1,3 +1,4 @@
+-- By the stage.
 use borrow.Author.Needs.{needs}
 use Rattle.handshake.specs.Modem.{otherAt}
 use Rattle.handshake.proofs.modem.take_other.Statement.{statement}

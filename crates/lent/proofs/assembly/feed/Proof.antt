@@ -1,3 +1,4 @@
+-- By the verdict on the numbers.
 use borrow.Author.Needs.{needs}
 use mathlib.Core.Path.{refl, _∙_}
 use native.Mathlib.Omega.{arith}

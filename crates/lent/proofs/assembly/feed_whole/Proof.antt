@@ -1,3 +1,4 @@
+-- The core's step on the buffer in the memory, and its numbers put back.
 use borrow.Author.Needs.{needs}
 use mathlib.Core.Path.{_∙_, sym, ap}
 use mathlib.Core.List.{_++_}

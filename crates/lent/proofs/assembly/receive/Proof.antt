@@ -1,3 +1,4 @@
+-- By the room, then by whether the piece is a whole message's.
 use borrow.Author.Needs.{needs}
 use mathlib.Core.Path.{refl}
 use borrow.Author.Tests.{lt-ltb, le-ltb}

@@ -1,3 +1,4 @@
+-- The end is put back.
 use borrow.Author.Needs.{needs}
 use mathlib.Core.Path.{refl}
 use Rattle.lent.proofs.modem.keep.Statement.{statement}

@@ -1,3 +1,4 @@
+-- By the verdict on numbers and list, then by the room.
 use borrow.Author.Needs.{needs}
 use mathlib.Core.Path.{refl}
 use Rattle.lent.specs.LentModem.{makeIn}

@@ -1,3 +1,4 @@
+-- A restart.
 use borrow.Author.Needs.{needs}
 use Rattle.lent.proofs.modem.open.Statement.{statement}
 use Rattle.lent.proofs.modem.open.Tie as tie

@@ -1,3 +1,4 @@
+-- By what the memory holds.
 use borrow.Author.Needs.{needs}
 use mathlib.Core.Path.{refl}
 use Rattle.lent.specs.LentModem.{restartIn}
