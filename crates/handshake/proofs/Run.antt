@@ -22,13 +22,13 @@ use Rattle.protocol.specs.MessageType.{COMMAND, COMMAND-DONE}
 use Rattle.protocol.proofs.Verdicts.{both-written, written-front, kept-fits}
 use Rattle.version_info.specs.VersionInfo.{rules, verdictOf, readOf, bytesOf, writeOf}
 use Rattle.version_info.specs.declared.VersionInfoRead.the-variants.{Info}
-use Rattle.version_info.proofs.RoundTrip.{round-trip}
+use Rattle.version_info.proofs.RoundTrip.{bytes-read}
 use Rattle.handshake.specs.Versions.{numberOf, numberVerdict, versionOf, infoOf, larger, lower, above}
 use Rattle.message.specs.declared.MessageHeader.{MessageHeader}
 use Rattle.handshake.specs.Commands.{servicesCid, versionCid, roleOfKind, roleOf, versionListed}
 use Rattle.handshake.specs.Host.{end, unchanged, settledAt, madeOf, openedOf, askOf, listRules, listAt, answeredAt, answeredBy, servicesReplyOf, versionReplyOf, replyRole, receiveBy, receiveOf}
-use Rattle.handshake.specs.Modem.{end as modemEnd, madeRules, madeOf as modemMadeOf, startOf, servedAs, servicesOf, gave, giveOf, answerBy, canAnswer, versionOfCommand, otherAt, commandBy, commandOf, commandRules, receiveBy as commandedBy, receiveOf as modemReceives}
-use Rattle.handshake.specs.Run.{Message, headed, asksServices, asksVersion, sends, replyBy, both, heard, answered, delivered, Rooms, turn, run, expected, Outcome, listedAs, OtherCommand, Ready}
+use Rattle.handshake.specs.Modem.{noDeviceSupport, end as modemEnd, madeRules, madeOf as modemMadeOf, startOf, servedAs, servicesOf, gave, giveOf, answerBy, canAnswer, versionOfCommand, otherAt, commandBy, commandOf, commandRules, receiveBy as commandedBy, receiveOf as modemReceives}
+use Rattle.handshake.specs.Run.{Message, headed, asksServices, asksVersion, sends, replyTo, replyBy, Line, reaches, Passes, both, heard, answered, taken, delivered, Rooms, turn, run, expected, Outcome, listedAs, OtherCommand, Ready}
 use Rattle.handshake.specs.declared.host.HostStage.{HostStage}
 use Rattle.handshake.specs.declared.host.HostStage.the-variants as host
 use Rattle.handshake.specs.declared.host.Host.{Host}
@@ -66,8 +66,13 @@ written : (v : Version) (out : List ℕ) → 4 ≤ length out → writeOf (infoO
 unfolding writeOf bytesOf
 written v out h = both-written (verdictOf (infoOf v)) (bytesOf (infoOf v)) out (fits v) h
 
-read-back : (v : Version) (out : List ℕ) → 4 ≤ length out → readOf (take 4 (writeOf (infoOf v) out .output)) ≡ Info (infoOf v)
-read-back v out h = round-trip (infoOf v) out 4 (written v out h)
+-- the version that a payload carries
+number-in : (v : Version) → versionOf (infoOf v .«bcd_mbim_extended_version») ≡ v
+unfolding infoOf
+number-in v = number-back v
+
+bytes-back : (v : Version) → readOf (bytesOf (infoOf v)) ≡ Info (infoOf v)
+bytes-back v = bytes-read (infoOf v) (fits v)
 
 front : (v : Version) (out : List ℕ) → 4 ≤ length out → take 4 (writeOf (infoOf v) out .output) ≡ bytesOf (infoOf v)
 unfolding writeOf
@@ -112,64 +117,79 @@ version-heard : (h : Host) (t status : ℕ) (s : List ℕ) → receiveOf h (head
 unfolding receiveOf receiveBy replyRole roleOf roleOfKind
 version-heard h t status s = rw kind-version
 
-other-heard : (h : Host) (c : Carried) (x : MessageHeader) (out services : List ℕ) → roleOf (kindOf (x .service) (x .cid)) ≡ role.Other
-    → heard h (replyBy (servedAs c) x out services) ≡ unchanged h
+other-heard : (l : Line) (h : Host) (c : Carried) (x : Message) (out services : List ℕ) → roleOf (kindOf (x .header .service) (x .header .cid)) ≡ role.Other
+    → Passes l x 0 services → Passes l x noDeviceSupport [] → heard h (reaches (l .back) (replyBy (servedAs c) (x .header) out services)) ≡ unchanged h
 unfolding heard receiveOf receiveBy replyRole
-other-heard h (Payload k) x out services o = rw o
-other-heard h (Refused r) x out services o = rw o
+other-heard l h (Payload k) x out services o p q = rw (p .1, o)
+other-heard l h (Refused r) x out services o p q = rw (q .1, o)
 
-module _ (w : Rooms) (t : ℕ) (numbered : 0 < t) (given : Message) (s : List ℕ) where
+module _ (l : Line) (w : Rooms) (t : ℕ) (numbered : 0 < t) (given : Message) (s : List ℕ) where
   -- DEVICE_SERVICES and its reply
-  list-turn : (n k a : Version) (listed : Bool) → versionListed s ≡ listedAs listed
-      → turn w t given s (end n (host.Open a)) (modemEnd k a listed modem.Start)
+  list-turn : (n k a : Version) (listed : Bool) → Passes l (asksServices t) 0 s → versionListed s ≡ listedAs listed
+      → turn l w t given s (end n (host.Open a)) (modemEnd k a listed modem.Start)
       ≡ both (listAt (host.Open a) (end n (host.Open a)) listed) (modemEnd k a listed modem.Listed) (sends (asksServices t))
-  unfolding turn askOf delivered answered heard modemReceives commandedBy commandOf commandBy servicesOf roleOf roleOfKind
-  list-turn n k a listed e = rw (commanded (asksServices t .header) refl numbered, kind-services, services-heard (end n (host.Open a)) t 0 s, list-judged n a listed s e)
+  unfolding turn askOf delivered taken answered heard modemReceives commandedBy commandOf commandBy servicesOf roleOf roleOfKind
+  list-turn n k a listed p e =
+      rw (p .0, commanded (asksServices t .header) refl numbered, kind-services, p .1, services-heard (end n (host.Open a)) t 0 s, list-judged n a listed s e)
 
   -- VERSION and its reply
-  version-turn : (n k a : Version) → 4 ≤ length (w .host) → 4 ≤ length (w .modem)
-      → turn w t given s (end n (host.AwaitsVersion a)) (modemEnd k a true modem.Listed)
+  version-turn : (n k a : Version) → Passes l (asksVersion t (bytesOf (infoOf n))) 0 (bytesOf (infoOf (larger a (lower n k)))) → 4 ≤ length (w .host) → 4 ≤ length (w .modem)
+      → turn l w t given s (end n (host.AwaitsVersion a)) (modemEnd k a true modem.Listed)
       ≡ both (settledAt (end n (host.AwaitsVersion a)) (larger a (larger a (lower n k)))) (modemEnd k a true (modem.Settled (larger a (lower n k)))) (sends (asksVersion t (bytesOf (infoOf n))))
-  unfolding turn askOf delivered answered heard modemReceives commandedBy commandOf commandBy versionOfCommand canAnswer roleOf roleOfKind answerBy giveOf gave versionReplyOf answeredBy answeredAt infoOf
-  version-turn n k a p q =
+  unfolding turn askOf delivered taken answered heard modemReceives commandedBy commandOf commandBy versionOfCommand canAnswer roleOf roleOfKind answerBy giveOf gave versionReplyOf answeredBy answeredAt
+  version-turn n k a z p q =
       let v = larger a (lower n k) in
-      rw (written n (w .host) p, commanded (asksVersion t [] .header) refl numbered, kind-version, read-back n (w .host) p, number-back n, written v (w .modem) q, version-heard (end n (host.AwaitsVersion a)) t 0 (take 4 (writeOf (infoOf v) (w .modem) .output)), read-back v (w .modem) q, number-back v, front n (w .host) p)
+      let r = version-heard (end n (host.AwaitsVersion a)) t 0 (bytesOf (infoOf v)) in
+      rw (written n (w .host) p, front n (w .host) p, z .0, commanded (asksVersion t [] .header) refl numbered, kind-version, bytes-back n, number-in n, written v (w .modem) q, front v (w .modem) q, z .1, r, bytes-back v, number-in v)
 
   -- another command, to ends that run 1.00
-  other-turn : (n k : Version) (listed : Bool) → OtherCommand given
-      → turn w t given s (end n (host.Settled V1)) (modemEnd k V1 listed modem.Listed)
+  other-turn : (n k : Version) (listed : Bool) → OtherCommand given → Passes l given 0 s → Passes l given noDeviceSupport []
+      → turn l w t given s (end n (host.Settled V1)) (modemEnd k V1 listed modem.Listed)
       ≡ record { host = end n (host.Settled V1); modem = modemEnd k V1 listed (modem.Settled V1); answer = answer.Unchanged; sent = sends given }
-  unfolding turn askOf delivered answered modemReceives commandedBy commandOf commandBy otherAt
-  other-turn n k listed o =
+  unfolding turn askOf delivered taken answered modemReceives commandedBy commandOf commandBy otherAt
+  other-turn n k listed o p q =
       let x = given .header in
-      rw (commanded x (o .commands) (o .numbered), o .other, other-heard (end n (host.Settled V1)) (kindOf (x .service) (x .cid)) x (w .modem) s (o .other))
+      rw (p .0, commanded x (o .commands) (o .numbered), o .other, other-heard l (end n (host.Settled V1)) (kindOf (x .service) (x .cid)) given (w .modem) s (o .other) p q)
 
 -- ---- the run
 
-module _ (w₁ w₂ : Rooms) (t₁ t₂ : ℕ) (given : Message) (s : List ℕ) where
-  from-start : (n k a : Version) (listed : Bool) → Ready k a listed w₂ t₁ t₂ given s
-      → Outcome (expected n k a listed) n k a listed t₁ t₂ given (run w₁ w₂ t₁ t₂ given s (end n (host.Open a)) (modemEnd k a listed modem.Start))
+module _ (l₁ l₂ : Line) (w₁ w₂ : Rooms) (t₁ t₂ : ℕ) (given : Message) (s : List ℕ) (n k a : Version) (listed : Bool) (r : Ready n k a listed l₁ l₂ w₂ t₁ t₂ given s) where
+  first-turn : turn l₁ w₁ t₁ given s (end n (host.Open a)) (modemEnd k a listed modem.Start)
+      ≡ both (listAt (host.Open a) (end n (host.Open a)) listed) (modemEnd k a listed modem.Listed) (sends (asksServices t₁))
+  first-turn = list-turn l₁ w₁ t₁ (r .first-numbered) given s n k a listed (r .services-passes) (r .list)
+
+  last-other : turn l₂ w₂ t₂ given s (end n (host.Settled V1)) (modemEnd k V1 listed modem.Listed)
+      ≡ record { host = end n (host.Settled V1); modem = modemEnd k V1 listed (modem.Settled V1); answer = answer.Unchanged; sent = sends given }
+  last-other = other-turn l₂ w₂ t₂ (r .second-numbered) given s n k listed (r .other) (r .served-passes) (r .unknown-passes)
+
+  last-version : turn l₂ w₂ t₂ given s (end n (host.AwaitsVersion a)) (modemEnd k a true modem.Listed)
+      ≡ both (settledAt (end n (host.AwaitsVersion a)) (larger a (larger a (lower n k)))) (modemEnd k a true (modem.Settled (larger a (lower n k)))) (sends (asksVersion t₂ (bytesOf (infoOf n))))
+  last-version = version-turn l₂ w₂ t₂ (r .second-numbered) given s n k a (r .version-passes) (r .room-host) (r .room-modem)
+
+module _ (l₁ l₂ : Line) (w₁ w₂ : Rooms) (t₁ t₂ : ℕ) (given : Message) (s : List ℕ) where
+  from-start : (n k a : Version) (listed : Bool) → Ready n k a listed l₁ l₂ w₂ t₁ t₂ given s
+      → Outcome (expected n k a listed) n k a listed t₁ t₂ given (run l₁ l₂ w₁ w₂ t₁ t₂ given s (end n (host.Open a)) (modemEnd k a listed modem.Start))
   unfolding run listAt listRules judgeFrom firstOf faultIf
   from-start V1 k V1 l r =
-      rw (list-turn w₁ t₁ (r .first-numbered) given s V1 k V1 l (r .list), other-turn w₂ t₂ (r .second-numbered) given s V1 k l (r .other))
+      rw (first-turn l₁ l₂ w₁ w₂ t₁ t₂ given s V1 k V1 l r, last-other l₁ l₂ w₁ w₂ t₁ t₂ given s V1 k V1 l r)
       (record { sent = refl; host = refl; modem = refl; below-host = refl; below-modem = refl })
-  from-start V1 k V2 l r = rw (list-turn w₁ t₁ (r .first-numbered) given s V1 k V2 l (r .list)) (record { sent = refl; answer = refl; host = refl; modem = refl })
+  from-start V1 k V2 l r = rw (first-turn l₁ l₂ w₁ w₂ t₁ t₂ given s V1 k V2 l r) (record { sent = refl; answer = refl; host = refl; modem = refl })
   from-start V2 k V1 false r =
-      rw (list-turn w₁ t₁ (r .first-numbered) given s V2 k V1 false (r .list), other-turn w₂ t₂ (r .second-numbered) given s V2 k false (r .other))
+      rw (first-turn l₁ l₂ w₁ w₂ t₁ t₂ given s V2 k V1 false r, last-other l₁ l₂ w₁ w₂ t₁ t₂ given s V2 k V1 false r)
       (record { sent = refl; host = refl; modem = refl; below-host = refl; below-modem = refl })
   from-start V2 V1 V1 true r =
-      rw (list-turn w₁ t₁ (r .first-numbered) given s V2 V1 V1 true (r .list), version-turn w₂ t₂ (r .second-numbered) given s V2 V1 V1 (r .room-host) (r .room-modem))
+      rw (first-turn l₁ l₂ w₁ w₂ t₁ t₂ given s V2 V1 V1 true r, last-version l₁ l₂ w₁ w₂ t₁ t₂ given s V2 V1 V1 true r)
       (record { sent = refl; host = refl; modem = refl; below-host = refl; below-modem = refl })
   from-start V2 V2 V1 true r =
-      rw (list-turn w₁ t₁ (r .first-numbered) given s V2 V2 V1 true (r .list), version-turn w₂ t₂ (r .second-numbered) given s V2 V2 V1 (r .room-host) (r .room-modem))
+      rw (first-turn l₁ l₂ w₁ w₂ t₁ t₂ given s V2 V2 V1 true r, last-version l₁ l₂ w₁ w₂ t₁ t₂ given s V2 V2 V1 true r)
       (record { sent = refl; host = refl; modem = refl; below-host = refl; below-modem = refl })
-  from-start V2 k V2 false r = rw (list-turn w₁ t₁ (r .first-numbered) given s V2 k V2 false (r .list)) (record { sent = refl; answer = refl; host = refl; modem = refl })
+  from-start V2 k V2 false r = rw (first-turn l₁ l₂ w₁ w₂ t₁ t₂ given s V2 k V2 false r) (record { sent = refl; answer = refl; host = refl; modem = refl })
   from-start V2 V1 V2 true r = let z : _≡_ {A = ℕ} 0 1 = cc (r .below) in absurd (omega arith)
   from-start V2 V2 V2 true r =
-      rw (list-turn w₁ t₁ (r .first-numbered) given s V2 V2 V2 true (r .list), version-turn w₂ t₂ (r .second-numbered) given s V2 V2 V2 (r .room-host) (r .room-modem))
+      rw (first-turn l₁ l₂ w₁ w₂ t₁ t₂ given s V2 V2 V2 true r, last-version l₁ l₂ w₁ w₂ t₁ t₂ given s V2 V2 V2 true r)
       (record { sent = refl; host = refl; modem = refl; below-host = refl; below-modem = refl })
 
   -- from ends just opened, whatever they were before
-  pub both-settle : (n k a : Version) (listed : Bool) (g : HostStage) (f : ModemStage) → Ready k a listed w₂ t₁ t₂ given s
-      → Outcome (expected n k a listed) n k a listed t₁ t₂ given (run w₁ w₂ t₁ t₂ given s (openedOf (end n g) (numberOf a) .host) (startOf (modemEnd k a listed f)))
+  pub both-settle : (n k a : Version) (listed : Bool) (g : HostStage) (f : ModemStage) → Ready n k a listed l₁ l₂ w₂ t₁ t₂ given s
+      → Outcome (expected n k a listed) n k a listed t₁ t₂ given (run l₁ l₂ w₁ w₂ t₁ t₂ given s (openedOf (end n g) (numberOf a) .host) (startOf (modemEnd k a listed f)))
   both-settle n k a listed g f r = rw (just-opened n g a) (from-start n k a listed r)

@@ -1,6 +1,7 @@
 -- The run of demand 3 (document 01, "The handshake"): "from ends just opened and with room for each output, is that command and its reply,
 -- then, unless the host refuses, its first command of another known CID (VERSION exactly where the rule below says so) and the reply".
--- In this order: messages; what is sent; one command and its reply; the run; what it comes to. Each call is given its end as the one before left it.
+-- In this order: messages; what is sent; how messages go; one command and its reply; the run; what it comes to.
+-- Each call is given its end as the one before left it.
 use Prim.Native.Nat.{ℕ, _≤_, _<_}
 use mathlib.Core.Path.{_≡_}
 use mathlib.Core.Bool.{Bool, false, not, cond, _&&_}
@@ -85,6 +86,20 @@ replyBy (modemAnswer.Refused r) c out services = nothing
 abbrev pub replyOf : Commanding → MessageHeader → List ℕ → Sent
 replyOf d c services = replyBy (d .step .answer) c (d .output) services
 
+-- ---- how messages go: what arrives of one that is sent to the modem, and of one that is sent back
+
+pub record Line : Type 0 where
+  pub to : Message → Sent
+  pub back : Message → Sent
+
+abbrev pub reaches : (Message → Sent) → Sent → Sent
+reaches way nothing = nothing
+reaches way (sends m) = way m
+
+-- a command and its reply arrive as they were sent
+abbrev pub Passes : Line → Message → ℕ → List ℕ → Type 0
+Passes l c status s = (l .to c ≡ sends c) × (l .back (replyTo (c .header) status s) ≡ sends (replyTo (c .header) status s))
+
 -- ---- one command and its reply
 
 -- both ends, the host's last answer, and the last command
@@ -101,21 +116,26 @@ unfoldable pub heard : Host → Sent → HostStep
 heard h nothing = unchanged h
 heard h (sends r) = receiveOf h (r .header) (r .information)
 
-unfoldable pub answered : Host → Message → Commanding → List ℕ → Both
-answered h c d services = both (heard h (replyOf d (c .header) services)) (d .step .modem) (sends c)
+-- the command c was sent, and d is what the modem did with what arrived of it
+unfoldable pub answered : Line → Host → Message → MessageHeader → Commanding → List ℕ → Both
+answered l h c arrived d services = both (heard h (reaches (l .back) (replyOf d arrived services))) (d .step .modem) (sends c)
 
-unfoldable pub delivered : Sent → Host → Modem → List ℕ → List ℕ → Both
-delivered nothing h m room services = both (unchanged h) m nothing
-delivered (sends c) h m room services = answered h c (modemReceives m (c .header) (c .information) room) services
+unfoldable pub taken : Line → Message → Sent → Host → Modem → List ℕ → List ℕ → Both
+taken l c nothing h m room services = both (unchanged h) m (sends c)
+taken l c (sends a) h m room services = answered l h c (a .header) (modemReceives m (a .header) (a .information) room) services
+
+unfoldable pub delivered : Line → Sent → Host → Modem → List ℕ → List ℕ → Both
+delivered l nothing h m room services = both (unchanged h) m nothing
+delivered l (sends c) h m room services = taken l c (l .to c) h m room services
 
 -- the rooms of a turn: the host's and the modem's lent output
 pub record Rooms : Type 0 where
   pub host : List ℕ
   pub modem : List ℕ
 
--- in a transaction
-unfoldable pub turn : Rooms → ℕ → Message → List ℕ → Host → Modem → Both
-turn w transaction given services h m = delivered (sentOf (askOf h (w .host)) transaction given) h m (w .modem) services
+-- over a line, in a transaction
+unfoldable pub turn : Line → Rooms → ℕ → Message → List ℕ → Host → Modem → Both
+turn l w transaction given services h m = delivered l (sentOf (askOf h (w .host)) transaction given) h m (w .modem) services
 
 -- ---- the run
 
@@ -127,12 +147,12 @@ unlessRefused answer.AsksVersion before after = after
 unlessRefused (answer.Settled v) before after = after
 unlessRefused (answer.Refused r) before after = before
 
-abbrev pub andThen : Both → Rooms → ℕ → Message → List ℕ → Both
-andThen b w transaction given services = unlessRefused (b .answer) b (turn w transaction given services (b .host) (b .modem))
+abbrev pub andThen : Both → Line → Rooms → ℕ → Message → List ℕ → Both
+andThen b l w transaction given services = unlessRefused (b .answer) b (turn l w transaction given services (b .host) (b .modem))
 
--- the two turns in two transactions
-unfoldable pub run : Rooms → Rooms → ℕ → ℕ → Message → List ℕ → Host → Modem → Both
-run w₁ w₂ t₁ t₂ given services h m = andThen (turn w₁ t₁ given services h m) w₂ t₂ given services
+-- the two turns in two transactions, each over a line of its own: a later one may have heard more
+unfoldable pub run : Line → Line → Rooms → Rooms → ℕ → ℕ → Message → List ℕ → Host → Modem → Both
+run l₁ l₂ w₁ w₂ t₁ t₂ given services h m = andThen (turn l₁ w₁ t₁ given services h m) l₂ w₂ t₂ given services
 
 -- ---- what it comes to
 
@@ -183,12 +203,16 @@ pub record OtherCommand (given : Message) : Type 0 where
   pub other : roleOf (kindOf (given .header .service) (given .header .cid)) ≡ role.Other
 
 -- what a run is given: a modem that advertises nothing above its own, its services list as accepted bytes that list VERSION or not,
--- another first command, transactions, and room
-pub record Ready (modem advertised : Version) (listed : Bool) (room : Rooms) (t₁ t₂ : ℕ) (given : Message) (services : List ℕ) : Type 0 where
+-- another first command, transactions, lines over which the messages of the run arrive as they were sent, and room
+pub record Ready (host modem advertised : Version) (listed : Bool) (l₁ l₂ : Line) (room : Rooms) (t₁ t₂ : ℕ) (given : Message) (services : List ℕ) : Type 0 where
   pub below : above advertised modem ≡ false
   pub list : versionListed services ≡ listedAs listed
   pub other : OtherCommand given
   pub first-numbered : 0 < t₁
   pub second-numbered : 0 < t₂
+  pub services-passes : Passes l₁ (asksServices t₁) 0 services
+  pub version-passes : Passes l₂ (asksVersion t₂ (bytesOf (infoOf host))) 0 (bytesOf (infoOf (larger advertised (lower host modem))))
+  pub served-passes : Passes l₂ given 0 services
+  pub unknown-passes : Passes l₂ given noDeviceSupport []
   pub room-host : 4 ≤ length (room .host)
   pub room-modem : 4 ≤ length (room .modem)
