@@ -45,17 +45,25 @@ room-fits : (v : Verdict) (b s : List ℕ) → v ≡ Fits → length b ≤ lengt
 unfolding withRoom firstOf faultIf
 room-fits v b s e h = rw (e, le-ltb (length s) (length b) h)
 
+-- what the cutter asks of a header
+abbrev pub HeaderKept : MessageHeader → Type 0
+HeaderKept m = (not (isFragmented (m .«message_type»)) ≡ false) × ((wrongTransaction m ≡ false) × (wrongWord m ≡ false))
+
 -- with room for its fragments, the message is accepted
-pub accepts : (m : MessageHeader) (size : ℕ) (information stream : List ℕ) → Reply m ⊎ Indication m → 64 ≤ size → size ≤ 4096 → length information ≤ 4096
+pub kept-accepted : (m : MessageHeader) (size : ℕ) (information stream : List ℕ) → HeaderKept m → 64 ≤ size → size ≤ 4096 → length information ≤ 4096
     → length (joined (fragmentsOf m size information)) ≤ length stream
     → cutOf m size information stream .answer ≡ Fragments (length (fragmentsOf m size information)) (length (joined (fragmentsOf m size information)))
 unfolding cutOf cutAfter cutBy
-accepts m size information stream w low high few room =
-    let k = way-kept m w in
+kept-accepted m size information stream k low high few room =
     let rules = messageRules m size (length information) in
     let fits : judge rules ≡ Fits = kept-fits rules (size-kept size low high, (k .0, (k .1 .0, (k .1 .1, (le-ltb 4096 (length information) few, tt))))) in
     let f : withRoom (judge rules) (joined (fragmentsOf m size information)) stream ≡ Fits = room-fits (judge rules) (joined (fragmentsOf m size information)) stream fits room in
     rw f
+
+pub accepts : (m : MessageHeader) (size : ℕ) (information stream : List ℕ) → Reply m ⊎ Indication m → 64 ≤ size → size ≤ 4096 → length information ≤ 4096
+    → length (joined (fragmentsOf m size information)) ≤ length stream
+    → cutOf m size information stream .answer ≡ Fragments (length (fragmentsOf m size information)) (length (joined (fragmentsOf m size information)))
+accepts m size information stream w = kept-accepted m size information stream (way-kept m w)
 
 -- ---- the payload that the message shows
 

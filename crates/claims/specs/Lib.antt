@@ -1,3 +1,4 @@
 pub mod Transfer
+pub mod Wire
 pub mod Settle
 pub mod Demand

@@ -1,6 +1,7 @@
 -- Demand 3: host and modem settle on the one version of the rule, or the host refuses in exactly two cases.
--- The run is `run` and the rule `expected` in handshake/specs/Run. Here the services list is any that the writer accepts. Proved in proofs/Settled.
-use Prim.Native.Nat.{ℕ, _≤_, _<_}
+-- The run is `run` and the rule `expected` in handshake/specs/Run. Here every command and reply goes over the wire, and the services list is any
+-- that the writer accepts. Proved in proofs/Settled.
+use Prim.Native.Nat.{ℕ, _≤_, _<_, _^_}
 use mathlib.Core.Path.{_≡_}
 use mathlib.Core.Bool.{Bool, false}
 use mathlib.Core.List.{List}
@@ -17,6 +18,7 @@ use Rattle.handshake.specs.Commands.{versionCid}
 use Rattle.handshake.specs.Host.{end, openedOf}
 use Rattle.handshake.specs.Modem.{startOf, end as modemEnd}
 use Rattle.handshake.specs.Run.{Message, OtherCommand, Rooms, run, expected, Outcome}
+use Rattle.claims.specs.Wire.{Way, Open, wire, Sendable}
 use Rattle.handshake.specs.declared.host.HostStage.{HostStage}
 use Rattle.handshake.specs.declared.modem.ModemStage.{ModemStage}
 
@@ -29,10 +31,12 @@ pub record ListWritten (p : ServiceList) (out : List ℕ) (n : ℕ) : Type 0 whe
   pub real : Sized p
   pub accepted : writeOf p out .answer ≡ Length n
 
--- any native versions, any advertised one not above the modem's, any list that the writer accepts, any other command, any transactions, ends just opened and room for VERSION
+-- any native versions, any advertised one not above the modem's, any list that the writer accepts, any other command, any transactions, any ways for the four
+-- messages, ends just opened and room for VERSION
 abbrev pub BothSettle : Type 0
 BothSettle = (host modem advertised : Version) → above advertised modem ≡ false → (p : ServiceList) (out : List ℕ) (n : ℕ) → ListWritten p out n
-    → (given : Message) → OtherCommand given → (t₁ t₂ : ℕ) → 0 < t₁ → 0 < t₂
+    → (given : Message) → OtherCommand given → Sendable given → (t₁ t₂ : ℕ) → 0 < t₁ → 0 < t₂ → t₁ < 2 ^ 32 → t₂ < 2 ^ 32
+    → (to₁ back₁ to₂ back₂ : Way) → Open to₁ → Open back₁ → Open to₂ → Open back₂
     → (w₁ w₂ : Rooms) → 4 ≤ length (w₂ .host) → 4 ≤ length (w₂ .modem) → (g : HostStage) (f : ModemStage)
     → Outcome (expected host modem advertised (listsVersion p)) host modem advertised (listsVersion p) t₁ t₂ given
-    (run w₁ w₂ t₁ t₂ given (take n (writeOf p out .output)) (openedOf (end host g) (numberOf advertised) .host) (startOf (modemEnd modem advertised (listsVersion p) f)))
+    (run (wire to₁ back₁) (wire to₂ back₂) w₁ w₂ t₁ t₂ given (take n (writeOf p out .output)) (openedOf (end host g) (numberOf advertised) .host) (startOf (modemEnd modem advertised (listsVersion p) f)))

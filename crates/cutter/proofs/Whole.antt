@@ -17,6 +17,8 @@ use Rattle.protocol.specs.Verdict.{faultIf, firstOf, withRoom}
 use Rattle.message.specs.Message.{firstLength}
 use Rattle.message.specs.declared.MessageHeader.{MessageHeader}
 use Rattle.cutter.specs.declared.Cutting.the-variants.{Fragments, Refused}
+use Rattle.message.proofs.Headers.{place-most}
+use Rattle.cutter.specs.Claims.{MostCut}
 use Rattle.cutter.specs.Cut.{firstBytes, laterCount, laterFragments, fragmentsBy, fragmentsOf, joined, cutBy, cutAfter, fittingOf, wrongSize}
 use Rattle.cutter.proofs.Stored.{length-fragment, length-first}
 use Rattle.cutter.proofs.Later.{cut-take, cut-drop}
@@ -80,6 +82,16 @@ whole-length m size information low small =
     let holds : length ys ≤ k * (size - 20) = simp length-drop (count-holds first (size - 20) (length information) (omega arith) small) in
     length-append (firstBytes m (1 + k) (length information) xs) (joined (laterFragments m (size - 20) (1 + k) 1 k ys))
     ∙ omega (arith, length-first m (1 + k) (length information) xs, later-length m (size - 20) (1 + k) k 1 ys holds, split-length first information)
+
+later-most : (first each n : ℕ) → 44 ≤ each → each ≤ first + 28 → n ≤ 4096 → laterCount first each n < 94
+unfolding laterCount
+later-most first each n h f s = div-lt-iff-lt-mul {k = each} (omega arith) .1 (omega arith)
+
+pub most-cut : MostCut
+most-cut m size information low small =
+    let p = place-most (m .«message_type») in
+    let k = later-most (size - firstLength (m .«message_type»)) (size - 20) (length information) (omega arith) (omega arith) small in
+    omega (arith, whole-length m size information low small, p .1, k)
 
 -- ---- the stores: the first fragment and then the others
 

@@ -30,7 +30,7 @@ run-append a [] qs = refl
 run-append a (p ∷ ps) qs = ap (andThen (seenOf (stepOf a (p .bytes) (p .room)))) (run-append (stepOf a (p .bytes) (p .room) .assembly) ps qs)
 
 -- the fragments themselves, fed to an assembly that earlier pieces left
-fragments-received : (m : MessageHeader) (size : ℕ) (information out : List ℕ) (count n : ℕ) → CutInto m size information out count n → (room : ℕ → ℕ) (earlier : List Piece)
+pub fragments-received : (m : MessageHeader) (size : ℕ) (information out : List ℕ) (count n : ℕ) → CutInto m size information out count n → (room : ℕ → ℕ) (earlier : List Piece)
     → runOf (runOf empty earlier .end) (pieces room 0 (fragmentsOf m size information))
     ≡ received m information (isPending (runOf empty earlier .end .progress)) (room (count - 1)) (count - 1)
 unfolding fragmentsOf
