@@ -137,7 +137,10 @@ typedef char slice_has_the_module_s_layout
 DEFINED = re.compile(
     r"^define (internal )?(?:noundef )?(?:zeroext )?([^@\n]*?) @(\"[^\"\n]+\"|\w+)\((.*)\) #0 \{$"
 )
-OTHER = r"(; .*|source_filename = .*|declare .* @llvm\.(memmove|memcpy|memset|ctpop|trap)\b.*|![\w.]+ = .*)?"
+OTHER = (
+    r"(; .*|source_filename = .*|declare .* @llvm\.(memmove|memcpy|memset|ctpop|trap)\b.*"
+    r"|![\w.]+ = .*)?"
+)
 # What would depend on the processor below the entry points.
 DEPENDS = re.compile(r"\b(ptrtoint|inttoptr|ptrtoaddr|asm|va_arg|addrspace)\b|\{|<")
 
@@ -146,7 +149,7 @@ class Module:
     """The module's parts: functions by name (the match of the first line, the lines), other lines."""
 
     def __init__(self, text):
-        self.functions, self.others, self.targets, self.attributes = {}, [], 0, 0
+        self.functions, self.others, self.targets = {}, [], 0
         lines = iter(text.split("\n"))
         for line in lines:
             if line.startswith("define "):
@@ -242,7 +245,8 @@ def without_entry_points(module, found):
         if head[1]:
             line = head[0]
             if name in found:
-                line = line.replace("define internal ", "define ").replace("noundef i32 @", "noundef signext i32 @")
+                line = line.replace("define internal ", "define ")
+                line = line.replace("noundef i32 @", "noundef signext i32 @")
             text += [line, *body, "}", ""]
     text = "\n".join(text)
     for name, short in found.items():
