@@ -238,16 +238,21 @@ def check_all(module, functions):
     return found
 
 
+def in_c_form(line):
+    """The first line of a function below an entry point, for C to call. A 32-bit result is extended as
+    callers on RISC-V expect it. Whatever comes after the answer's address is the entry point's own
+    memory, which nothing else points to: on x86-64 the compiler sees that by itself."""
+    line = line.replace("define internal ", "define ")
+    line = line.replace("noundef i32 @", "noundef signext i32 @")
+    return re.sub(r"\bptr noundef (%a[1-9])", r"ptr noalias noundef \1", line)
+
+
 def without_entry_points(module, found):
-    """The module for any processor. A 32-bit result is extended as C's callers on RISC-V expect it."""
+    """The module for any processor."""
     text = list(module.others)
     for name, (head, body) in module.functions.items():
         if head[1]:
-            line = head[0]
-            if name in found:
-                line = line.replace("define internal ", "define ")
-                line = line.replace("noundef i32 @", "noundef signext i32 @")
-            text += [line, *body, "}", ""]
+            text += [in_c_form(head[0]) if name in found else head[0], *body, "}", ""]
     text = "\n".join(text)
     for name, short in found.items():
         text = text.replace(f'@"{name}"', "@" + BELOW + short)

@@ -12,7 +12,7 @@ name=boards
 work=target/boards/test
 . tests/common.sh
 . boards/boards.sh
-need rt gcc python3
+need rt gcc
 mkdir -p "$work" || exit 2
 ulimit -c 0
 samples=crates/samples/stdin
@@ -192,6 +192,7 @@ try_board() {
 
 # lacking TRIPLE: what this machine has not
 lacking() {
+    command -v python3 >/dev/null || { echo 'no python3'; return; }
     command -v "$1-gcc" >/dev/null || { echo "no $1-gcc"; return; }
     command -v "$(runner "$1")" >/dev/null || { echo "no $(runner "$1")"; return; }
     echo '#include <stdio.h>' | "$1-gcc" -E -x c - >/dev/null 2>&1 || echo "no C library: $(library_package "$1")"
@@ -202,7 +203,7 @@ install_packages() {
     packages=
     for triple in $boards; do
         [ -z "$(lacking "$triple")" ] ||
-            packages="$packages qemu-user $(compiler_package "$triple") $(library_package "$triple")"
+            packages="$packages python3 qemu-user $(compiler_package "$triple") $(library_package "$triple")"
     done
     [ -n "$packages" ] && [ "$(id -u)" -eq 0 ] && command -v apt-get >/dev/null || return 0
     limits='-o Acquire::Retries=0 -o Acquire::http::Timeout=10 -o DPkg::Lock::Timeout=10'
@@ -216,8 +217,10 @@ step 'archive' tests/archive.sh
 step 'samples here' here
 step 'changed samples' changed
 step 'division' division
-step 'a changed header or module' refused
-step 'no cross compiler' no_compiler
+if command -v python3 >/dev/null; then
+    step 'a changed header or module' refused
+    step 'no cross compiler' no_compiler
+fi
 ran=
 not=
 for triple in $boards; do
