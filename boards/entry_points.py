@@ -71,7 +71,7 @@ class Function:
         self.is_plain = result == "uint32_t"
         if not self.is_plain and result not in structs:
             fail(f"{name}: a result of type {result} is not understood")
-        self.passed, self.slices = [], []
+        self.passed, self.slices = [], 0
         rest = [text.strip() for text in parameters.split(",")]
         while rest:
             self.take(rest, structs)
@@ -80,13 +80,14 @@ class Function:
         """Takes the next parameter, or a pointer and its length."""
         text = rest.pop(0)
         kind, _, name = text.rpartition(" ")
-        if re.fullmatch(r"(const )?(uint8_t|uint32_t) \*\w+", text):
+        pointer = re.fullmatch(r"(?:const )?(\w+) \*(\w+)", text)
+        if pointer and pointer[1] in structs | {"uint8_t", "uint32_t"}:
             length = re.fullmatch(r"size_t (\w+)", rest.pop(0) if rest else "")
             if not length:
                 fail(f"{self.name}: the pointer {text} has no length after it")
-            self.slices.append(name)
-            line = f"slice {name[1:]}_slice = {{{name[1:]}, {length[1]}}};"
-            self.passed.append(("ptr", "slice *", f"&{name[1:]}_slice", line))
+            self.slices += 1
+            line = f"slice {pointer[2]}_slice = {{{pointer[2]}, {length[1]}}};"
+            self.passed.append(("ptr", "slice *", f"&{pointer[2]}_slice", line))
         elif re.fullmatch(r"(uint16_t|uint32_t) \w+", text):
             self.passed.append(("i" + kind[4:6], kind, name, None))
         elif re.fullmatch(r"size_t \w+", text):
@@ -216,8 +217,8 @@ def check_entry_point(module, function, callee):
         r"store ptr %a(\d+), ptr (%r\d+), align 8\n  (%r\d+) = getelementptr i8, ptr \2, i64 8\n"
         r"  store i64 %a(\d+), ptr \3, align 8", text
     )
-    if len(slices) != len(function.slices) or any(int(s[3]) != int(s[0]) + 1 for s in slices):
-        fail(f"the entry point {function.name} doesn't make {len(function.slices)} slices")
+    if len(slices) != function.slices or any(int(s[3]) != int(s[0]) + 1 for s in slices):
+        fail(f"the entry point {function.name} doesn't make {function.slices} slices")
 
 
 def check_all(module, functions):

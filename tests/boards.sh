@@ -207,8 +207,11 @@ install_packages() {
     done
     [ -n "$packages" ] && [ "$(id -u)" -eq 0 ] && command -v apt-get >/dev/null || return 0
     limits='-o Acquire::Retries=0 -o Acquire::http::Timeout=10 -o DPkg::Lock::Timeout=10'
-    { timeout 30 apt-get $limits update && timeout 80 apt-get $limits install -y --no-install-recommends $packages; } \
-        >"$work/packages" 2>&1 || echo "$name: not installed:$packages; see $work/packages"
+    get="apt-get $limits install -y --no-install-recommends"
+    {
+        timeout 40 apt-get $limits update
+        timeout 80 $get --download-only $packages && DEBIAN_FRONTEND=noninteractive $get --no-download $packages
+    } >"$work/packages" 2>&1 || echo "$name: not installed:$packages; see $work/packages"
 }
 
 [ "${1:-}" != install ] || install_packages
