@@ -66,7 +66,7 @@
 #include <stddef.h>
 #include <stdint.h>
 
-/* The archive is for x86-64; a header that fits other boards is not yet a library for them. */
+/* There are archives for x86-64, AArch64, ARMv7 and RISC-V with 64 bits: docs/boards.md. */
 #if defined(__BYTE_ORDER__) && __BYTE_ORDER__ != __ORDER_LITTLE_ENDIAN__
 #error "culvertroost is for little-endian machines"
 #endif
