@@ -1,5 +1,5 @@
 -- What a modem's end in lent memory answers, as plain members.
-use Rattle.lent.specs.declared.modem.ModemReply.{ModemReply}
+use Rattle.lent_ends.specs.declared.modem.ModemReply.{ModemReply}
 use Rattle.flat.specs.Ends.{modemInfo}
 use Rattle.flat.specs.declared.ends.ModemInfo.{ModemInfo}
 

@@ -2,14 +2,14 @@
 use flat::ends::ModemInfo;
 use flat::ends::modem_info;
 use flat::refusal_of;
-use lent::modem::close;
-use lent::modem::make;
-use lent::modem::open;
-use lent::modem::receive;
+use lent_ends::modem::close;
+use lent_ends::modem::make;
+use lent_ends::modem::open;
+use lent_ends::modem::receive;
 use message::MessageHeader;
 use protocol::Refusal;
 ghost use mathlib.Core.Path.{_≡_};
-ghost use Rattle.lent.specs.LentModem.{makeIn, restartIn, receiveIn};
+ghost use Rattle.lent_ends.specs.LentModem.{makeIn, restartIn, receiveIn};
 ghost use Rattle.flat.specs.Answers.{refusalOf};
 ghost use Rattle.culvertroost.specs.Modems.{replyInfo};
 

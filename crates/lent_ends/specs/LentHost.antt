@@ -1,0 +1,123 @@
+-- The host's end in lent memory: native version at 0, stage at 2, the stage's version at 4, 16 bits each.
+-- In this order: stages as numbers; what the memory holds; the bytes of an end; an end made; a call on the end; what it asks.
+-- Memory that holds no end is refused, and stays as it was.
+use Prim.Native.Nat.{ℕ}
+use mathlib.Core.Bool.{Bool, not, cond}
+use mathlib.Core.List.{List, [], _∷_, _++_}
+use lib.Dec.{ltb, eqb}
+use lib.ListN.{length}
+use lib.Seq.{sets}
+use Rattle.wire.specs.Numbers.{u16At, digits}
+use Rattle.protocol.specs.Refusal.{outsideTable, outputTooSmall}
+use Rattle.protocol.specs.Verdict.{Rule, rule, judge}
+use Rattle.protocol.specs.declared.Verdict.{Verdict}
+use Rattle.protocol.specs.declared.Verdict.the-variants.{Fits, Fault}
+use Rattle.protocol.specs.declared.Version.{Version}
+use Rattle.version_info.specs.VersionInfo.{isExtension}
+use Rattle.handshake.specs.Versions.{numberOf, versionOf}
+use Rattle.message.specs.declared.MessageHeader.{MessageHeader}
+use Rattle.handshake.specs.Host.{step, madeOf, openedOf, closedOf, receiveOf, Asking, plain, askOf}
+use Rattle.handshake.specs.declared.host.Host.{Host}
+use Rattle.handshake.specs.declared.host.HostStep.{HostStep}
+use Rattle.handshake.specs.declared.host.HostMade.{HostMade}
+use Rattle.handshake.specs.declared.host.HostMade.the-variants as made
+use Rattle.handshake.specs.declared.host.HostAnswer.{HostAnswer}
+use Rattle.handshake.specs.declared.host.HostAnswer.the-variants as answer
+use Rattle.handshake.specs.declared.host.Ask.the-variants as ask
+use Rattle.handshake.specs.declared.host.HostStage.{HostStage}
+use Rattle.handshake.specs.declared.host.HostStage.the-variants.{Closed, Open, AwaitsVersion, Settled}
+use Rattle.lent.specs.Stored.{Stored, unstored, stored}
+use Rattle.lent_ends.specs.declared.host.HostHeld.{HostHeld}
+use Rattle.lent_ends.specs.declared.host.HostHeld.the-variants as held
+
+-- ---- stages: 0 closed, 1 open, 2 awaits VERSION, 3 settled
+
+abbrev pub stageOf : ℕ → Version → HostStage
+stageOf n v = cond (eqb n 0) Closed (cond (eqb n 1) (Open v) (cond (eqb n 2) (AwaitsVersion v) (Settled v)))
+
+abbrev pub stageNumber : HostStage → ℕ
+stageNumber Closed = 0
+stageNumber (Open v) = 1
+stageNumber (AwaitsVersion v) = 2
+stageNumber (Settled v) = 3
+
+-- the advertised version, or the one settled on
+abbrev pub stageVersion : HostStage → ℕ
+stageVersion Closed = 0
+stageVersion (Open v) = numberOf v
+stageVersion (AwaitsVersion v) = numberOf v
+stageVersion (Settled v) = numberOf v
+
+-- a closed end has no version
+abbrev pub wrongVersion : ℕ → ℕ → Bool
+wrongVersion stage version = cond (eqb stage 0) (not (eqb version 0)) (not (isExtension version))
+
+-- ---- what the memory holds
+
+abbrev pub hostSize : ℕ
+hostSize = 6
+
+abbrev pub hostRules : List ℕ → List Rule
+hostRules m =
+    rule (ltb (length m) hostSize) outputTooSmall hostSize
+    ∷ rule (not (isExtension (u16At m 0))) outsideTable 0
+    ∷ rule (ltb 3 (u16At m 2)) outsideTable 2
+    ∷ rule (wrongVersion (u16At m 2) (u16At m 4)) outsideTable 4
+    ∷ []
+
+abbrev pub heldBy : Verdict → Host → HostHeld
+heldBy Fits h = held.Held h
+heldBy (Fault r) h = held.Refused r
+
+unfoldable pub hostIn : List ℕ → HostHeld
+hostIn m =
+    heldBy (judge (hostRules m)) record {
+      native = versionOf (u16At m 0);
+      stage = stageOf (u16At m 2) (versionOf (u16At m 4));
+    }
+
+-- ---- the bytes of an end
+
+unfoldable pub hostBytes : Host → List ℕ
+hostBytes h = digits 2 (numberOf (h .native)) ++ (digits 2 (stageNumber (h .stage)) ++ digits 2 (stageVersion (h .stage)))
+
+-- ---- an end made: 12, then the room
+
+abbrev pub madeBy : HostMade → List ℕ → Stored
+madeBy (made.Made h) m = stored hostSize (hostBytes h) m
+madeBy (made.Refused r) m = unstored r m
+
+unfoldable pub makeIn : List ℕ → ℕ → Stored
+makeIn m native = madeBy (madeOf native) m
+
+-- ---- a call on the end in the memory m
+
+pub record HostCalled : Type 0 where
+  pub answer : HostAnswer
+  pub memory : List ℕ
+
+abbrev pub calledBy : HostHeld → List ℕ → (Host → HostStep) → HostCalled
+calledBy (held.Held h) m f = record { answer = f h .answer; memory = sets m 0 (hostBytes (f h .host)) }
+calledBy (held.Refused r) m f = record { answer = answer.Refused r; memory = m }
+
+abbrev pub called : List ℕ → (Host → HostStep) → HostCalled
+called m f = calledBy (hostIn m) m f
+
+unfoldable pub openIn : List ℕ → ℕ → HostCalled
+openIn m advertised = called m (λ h. openedOf h advertised)
+
+-- closing is answered by 'unchanged'
+unfoldable pub closeIn : List ℕ → HostCalled
+closeIn m = called m (λ h. step (closedOf h) answer.Unchanged)
+
+unfoldable pub receiveIn : List ℕ → MessageHeader → List ℕ → HostCalled
+receiveIn m message s = called m (λ h. receiveOf h message s)
+
+-- ---- what it asks
+
+abbrev pub askBy : HostHeld → List ℕ → Asking
+askBy (held.Held h) out = askOf h out
+askBy (held.Refused r) out = plain (ask.Refused r) out
+
+unfoldable pub askIn : List ℕ → List ℕ → Asking
+askIn m out = askBy (hostIn m) out

@@ -1,0 +1,2 @@
+pub mod LentHost
+pub mod LentModem
