@@ -32,7 +32,7 @@ impl Library {
         let answer = match question {
             q::RECEIVE => receive(&mut self.assembly, &asked),
             q::EMPTY_ASSEMBLY => empty(&mut self.assembly),
-            q::SHOW_ASSEMBLY => show_assembly(&self.assembly),
+            q::SHOW_ASSEMBLY => with_output(&[], self.assembly.to_vec()),
             q::MAKE_HOST => make_host(&mut self.host, &asked),
             q::MAKE_MODEM => make_modem(&mut self.modem, &asked),
             q::HOST_OPEN..=q::HOST_RECEIVE | q::SHOW_HOST => match &mut self.host {
@@ -142,9 +142,9 @@ fn words(numbers: &[u32]) -> Vec<u64> {
     numbers.iter().map(|number| u64::from(*number)).collect()
 }
 
-fn service_bytes(service: ServiceId) -> Vec<u8> {
+fn service_words(service: ServiceId) -> [u32; 4] {
     let ServiceId { word0, word1, word2, word3 } = service;
-    [word0, word1, word2, word3].iter().flat_map(|word| word.to_le_bytes()).collect()
+    [word0, word1, word2, word3]
 }
 
 // ---- refusals and lent outputs
@@ -411,8 +411,9 @@ fn shown(room: u64, call: impl FnOnce(&mut [u32]) -> ElementAnswer) -> Flat {
     match listed {
         0 if element == DeviceService::default() => plain(&[0]),
         1 if count <= room as usize => {
-            let head = [listed, element.dss_payload, element.max_dss_instances, element.cid_count];
-            with_output(&words(&[&head, cids].concat()), service_bytes(element.device_service_id))
+            let service = service_words(element.device_service_id);
+            let fields = [element.dss_payload, element.max_dss_instances, element.cid_count];
+            plain(&words(&[&[listed], &service[..], &fields, cids].concat()))
         }
         _ => Err(Stop::Wrong("members of an element")),
     }
@@ -499,9 +500,9 @@ fn receive(assembly: &mut [u8; ASSEMBLY_SIZE], asked: &Asked) -> Flat {
     }
     let (ReceiveAnswer { received, dropped, message, .. }, information) = answer?;
     let MessageHeader { message_type, transaction, service, cid, word } = message;
-    let length = information.len() as u32;
-    let numbers = words(&[received, dropped, message_type, transaction, cid, word, length]);
-    with_output(&numbers, [service_bytes(service), information].concat())
+    let head = [received, dropped, message_type, transaction];
+    let tail = [cid, word, information.len() as u32];
+    with_output(&words(&[&head[..], &service_words(service), &tail].concat()), information)
 }
 
 /// Whether a piece has the type of a message that is never fragmented.
@@ -521,14 +522,6 @@ pub const WHOLE: [u32; 6] = [
 fn empty(assembly: &mut [u8; ASSEMBLY_SIZE]) -> Flat {
     accepted(keep(assembly, c::assembly_empty)?)?;
     plain(&[])
-}
-
-/// The layout: type, transaction, service, CID, word, total, next, information length, gathered,
-/// then the buffer.
-fn show_assembly(assembly: &[u8; ASSEMBLY_SIZE]) -> Flat {
-    let word = |at: usize| u64::from(u32_at(assembly, at));
-    let numbers = [0, 4, 24, 28, 32, 36, 40, 44].map(word);
-    with_output(&numbers, [&assembly[8..24], &assembly[48..]].concat())
 }
 
 pub fn u32_at(bytes: &[u8], at: usize) -> u32 {
@@ -571,7 +564,7 @@ fn ask_host(host: &mut [u8; HOST_SIZE], question: u32, asked: &Asked) -> Flat {
         q::HOST_RECEIVE => {
             event(keep(host, |memory| c::host_receive(memory, message, information))?)
         }
-        _ => plain(&[0, 2, 4].map(|at| u16_at(host, at).into())),
+        _ => with_output(&[], host.to_vec()),
     }
 }
 
@@ -606,7 +599,7 @@ fn ask_modem(modem: &mut [u8; MODEM_SIZE], question: u32, asked: &Asked) -> Flat
             plain(&[])
         }
         q::MODEM_RECEIVE => modem_receive(modem, asked),
-        _ => plain(&[0, 2, 4, 6, 8].map(|at| u16_at(modem, at).into())),
+        _ => with_output(&[], modem.to_vec()),
     }
 }
 

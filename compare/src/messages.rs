@@ -228,5 +228,5 @@ pub fn carry(sides: &mut Sides, head: [u64; 4], service: [u8; 16], information: 
         output = sides.step(q::RECEIVE, &[4096, ASSEMBLY_SIZE], &piece).output;
     }
     sides.ask(q::PAYLOAD_KIND, &[head[0], head[2], head[3]], &service);
-    output.split_off(output.len().min(16))
+    output
 }

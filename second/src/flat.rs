@@ -2,6 +2,7 @@
 //! Lent outputs are filled with one byte first, and what must stay untouched is checked.
 
 use crate::assembler::Assembler;
+use crate::bytes::word;
 use crate::device_services::{self, Element, Shown};
 use crate::door::{self, Received};
 use crate::handshake::{host, modem};
@@ -397,10 +398,16 @@ fn shown(room: u64, call: impl FnOnce(&mut [u32]) -> Result<Option<Shown>, Refus
     let Some(shown) = answer? else {
         return plain(&[0]);
     };
-    let (a, b) = (shown.dss_payload.into(), shown.max_dss_instances.into());
-    let mut numbers = vec![1, a, b, count as u64];
-    numbers.extend(list[..count].iter().map(|cid| u64::from(*cid)));
-    with_output(&numbers, shown.device_service_id.to_vec())
+    let fields = [shown.dss_payload, shown.max_dss_instances, count as u32];
+    let mut numbers = vec![1];
+    numbers.extend(service_numbers(&shown.device_service_id));
+    numbers.extend(fields.iter().chain(&list[..count]).map(|number| u64::from(*number)));
+    plain(&numbers)
+}
+
+/// A service as four numbers.
+fn service_numbers(service: &ServiceId) -> [u64; 4] {
+    [0, 4, 8, 12].map(|place| word(service, place).into())
 }
 
 fn listed(asked: &Asked) -> Flat {
@@ -484,10 +491,9 @@ fn receive(assembler: &mut Assembler, asked: &Asked) -> Flat {
     };
     let (received, information) = lend(asked.number(0), call)?;
     let (case, dropped, header) = received_header(received);
-    let head = [case, dropped.into(), header.message_type, header.transaction];
-    let tail = [header.cid, header.word, information.len() as u32];
-    let numbers: Vec<u64> = head.into_iter().chain(tail).map(u64::from).collect();
-    with_output(&numbers, [&header.service[..], &information].concat())
+    let head = [case, dropped.into(), header.message_type, header.transaction].map(u64::from);
+    let tail = [header.cid, header.word, information.len() as u32].map(u64::from);
+    with_output(&[&head[..], &service_numbers(&header.service), &tail].concat(), information)
 }
 
 /// The case's number, whether something was dropped, and what is known of the message.
@@ -514,23 +520,21 @@ fn judge_memory(size: u64, needed: u64) -> Result<(), Refusal> {
     require(size >= needed, OUTPUT_TOO_SMALL, needed as usize)
 }
 
+/// The memory of an assembly: 48 bytes of numbers, all 0 where it is empty, and the bytes gathered.
 fn show_assembly(assembler: &Assembler) -> Flat {
-    let bytes = &assembler.bytes()[..];
-    let Some(progress) = assembler.progress() else {
-        return with_output(&[0; 8], [&[0; 16], bytes].concat());
-    };
-    let header = progress.header;
-    let numbers = [
-        header.message_type.into(),
-        header.transaction.into(),
-        header.cid.into(),
-        header.word.into(),
-        progress.total.into(),
-        progress.next.into(),
-        progress.declared as u64,
-        progress.gathered as u64,
-    ];
-    with_output(&numbers, [&header.service[..], bytes].concat())
+    let mut memory = vec![0; 48];
+    if let Some(progress) = assembler.progress() {
+        let header = progress.header;
+        let fields = [progress.total, progress.next, progress.declared as u32];
+        memory.clear();
+        memory.extend([header.message_type, header.transaction].map(u32::to_le_bytes).concat());
+        memory.extend(header.service);
+        memory.extend([header.cid, header.word].map(u32::to_le_bytes).concat());
+        memory.extend(fields.map(u32::to_le_bytes).concat());
+        memory.extend((progress.gathered as u32).to_le_bytes());
+    }
+    memory.extend(assembler.bytes());
+    with_output(&[], memory)
 }
 
 fn cut(asked: &Asked) -> Flat {
@@ -643,7 +647,12 @@ fn show_host(host: &Host) -> Flat {
         host::State::Awaiting { advertised } => (2, advertised.bcd()),
         host::State::Settled { version } => (3, version.bcd()),
     };
-    plain(&[host.native().bcd().into(), stage, version.into()])
+    memory(&[host.native().bcd(), stage, version])
+}
+
+/// The memory of an end, which is numbers of 16 bits.
+fn memory(numbers: &[u16]) -> Flat {
+    with_output(&[], numbers.iter().flat_map(|number| number.to_le_bytes()).collect())
 }
 
 fn ask_modem(modem: &mut Modem, question: u32, asked: &Asked) -> Flat {
@@ -687,13 +696,8 @@ fn show_modem(modem: &Modem) -> Flat {
         modem::State::Listed => (1, 0),
         modem::State::Settled { version } => (2, version.bcd()),
     };
-    plain(&[
-        modem.native().bcd().into(),
-        modem.advertised().bcd().into(),
-        modem.lists_version().into(),
-        stage,
-        version.into(),
-    ])
+    let (native, advertised) = (modem.native().bcd(), modem.advertised().bcd());
+    memory(&[native, advertised, modem.lists_version().into(), stage, version])
 }
 
 #[cfg(test)]
@@ -736,8 +740,8 @@ mod tests {
     #[test]
     fn an_empty_assembly_is_all_zero() {
         let shown = Second::new().ask(question::SHOW_ASSEMBLY, &[], &[]);
-        assert_eq!(shown.numbers, [0; 9]);
-        assert_eq!(shown.output, [0; 4112]);
+        assert_eq!(shown.numbers, [0]);
+        assert_eq!(shown.output, [0; 4144]);
     }
 
     #[test]
@@ -746,6 +750,6 @@ mod tests {
         assert!(second.ask(question::SHOW_HOST, &[], &[]).numbers.is_empty());
         second.ask(question::MAKE_HOST, &[0x0200], &[]);
         assert_eq!(second.ask(question::MAKE_HOST, &[0x0300], &[]).numbers, [12, 0]);
-        assert_eq!(second.ask(question::SHOW_HOST, &[], &[]).numbers, [0, 0x0200, 0, 0]);
+        assert_eq!(second.ask(question::SHOW_HOST, &[], &[]).output, [0, 2, 0, 0, 0, 0]);
     }
 }

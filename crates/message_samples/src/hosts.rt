@@ -14,7 +14,7 @@ use sample_lines::answers::plain;
 use sample_lines::answers::short;
 use sample_lines::answers::word_at;
 use sample_lines::answers::written;
-use wire::u16_at;
+use wire::put_run;
 
 pub fn with_host(
     question: u8,
@@ -29,7 +29,7 @@ pub fn with_host(
         24 => event(cvr_host_close(host)),
         25 => next_command(arguments, host, out),
         26 => receive(arguments, input, host),
-        _ => show(host),
+        _ => show(host, out),
     }
 }
 
@@ -72,11 +72,7 @@ fn receive(arguments: &[u8], input: &[u8], host: &mut [u8]) -> Asked {
     event(cvr_host_receive(host, message, &input[from..]))
 }
 
-// The memory: native version, stage and the stage's version.
-fn show(host: &[u8]) -> Asked {
-    let mut numbers = [0u32; 16];
-    numbers[2] = u16_at(host, 0) as u32;
-    numbers[3] = u16_at(host, 2) as u32;
-    numbers[4] = u16_at(host, 4) as u32;
-    plain(numbers)
+fn show(host: &[u8], out: &mut [u8]) -> Asked {
+    put_run(out, 0, host, 6);
+    written([0; 16], 6)
 }

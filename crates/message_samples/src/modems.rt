@@ -14,7 +14,7 @@ use sample_lines::answers::plain;
 use sample_lines::answers::short;
 use sample_lines::answers::word_at;
 use sample_lines::answers::written;
-use wire::u16_at;
+use wire::put_run;
 
 pub fn with_modem(
     question: u8,
@@ -28,7 +28,7 @@ pub fn with_modem(
         28 => done(cvr_modem_open(modem)),
         29 => done(cvr_modem_close(modem)),
         30 => receive(arguments, input, modem, out),
-        _ => show(modem),
+        _ => show(modem, out),
     }
 }
 
@@ -71,13 +71,7 @@ fn taken(answer: ModemInfo) -> Asked {
     written(numbers, length)
 }
 
-// The memory: native and advertised version, whether VERSION is listed, stage and version.
-fn show(modem: &[u8]) -> Asked {
-    let mut numbers = [0u32; 16];
-    numbers[2] = u16_at(modem, 0) as u32;
-    numbers[3] = u16_at(modem, 2) as u32;
-    numbers[4] = u16_at(modem, 4) as u32;
-    numbers[5] = u16_at(modem, 6) as u32;
-    numbers[6] = u16_at(modem, 8) as u32;
-    plain(numbers)
+fn show(modem: &[u8], out: &mut [u8]) -> Asked {
+    put_run(out, 0, modem, 10);
+    written([0; 16], 10)
 }

@@ -25,7 +25,7 @@ pub fn ask(
     match question {
         1 | 3 | 5 | 7 | 9 => read(question, numbers, input, list),
         2 | 4 | 6 | 8 | 13 => lend(question, numbers, input, room, &mut out[..]),
-        10 | 11 => lend_list(question, numbers, input, room, &mut out[..], &mut list[..]),
+        10 | 11 => lend_list(question, numbers, input, room, &mut list[..]),
         12 => listed(numbers, input),
         33 | 34 | 35 => reading(question, word_at(numbers, 1)),
         _ => no_question(),
@@ -39,14 +39,7 @@ fn lend(question: u8, arguments: &[u8], input: &[u8], room: usize, out: &mut [u8
 }
 
 // Lends the front of the list.
-fn lend_list(
-    question: u8,
-    arguments: &[u8],
-    input: &[u8],
-    room: usize,
-    out: &mut [u8],
-    list: &mut [u32],
-) -> Asked {
+fn lend_list(question: u8, arguments: &[u8], input: &[u8], room: usize, list: &mut [u32]) -> Asked {
     let n = least(room, list.len());
-    element(question, arguments, input, out, &mut list[..n])
+    element(question, arguments, input, &mut list[..n])
 }

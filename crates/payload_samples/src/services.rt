@@ -8,7 +8,6 @@ use device_services::DeviceService;
 use flat::WrittenAnswer;
 use flat::services::ElementInfo;
 use protocol::service::id_at;
-use protocol::service::put_id;
 use sample_lines::answers::Asked;
 use sample_lines::answers::plain;
 use sample_lines::answers::short;
@@ -17,39 +16,26 @@ use services_writer::ServiceElement;
 use services_writer::ServiceList;
 ghost use Prim.Native.Nat.{_≤_};
 
-// The element's service is put at the front of the output.
-pub fn element(
-    question: u8,
-    arguments: &[u8],
-    input: &[u8],
-    out: &mut [u8],
-    list: &mut [u32],
-) -> Asked {
+pub fn element(question: u8, arguments: &[u8], input: &[u8], list: &mut [u32]) -> Asked {
     let answer = chosen(question, arguments, input, list);
     let refusal = answer.refusal;
     let element = answer.element;
-    put_id(out, 0, element.device_service_id);
+    let service = element.device_service_id;
+    let mut numbers = [0u32; 16];
+    numbers[0] = refusal.number;
+    numbers[1] = short(refusal.place);
+    numbers[2] = answer.listed;
+    numbers[3] = service.word0;
+    numbers[4] = service.word1;
+    numbers[5] = service.word2;
+    numbers[6] = service.word3;
+    numbers[7] = element.dss_payload;
+    numbers[8] = element.max_dss_instances;
+    numbers[9] = element.cid_count;
     Asked {
-        numbers: [
-            refusal.number,
-            short(refusal.place),
-            answer.listed,
-            element.dss_payload,
-            element.max_dss_instances,
-            element.cid_count,
-            0,
-            0,
-            0,
-            0,
-            0,
-            0,
-            0,
-            0,
-            0,
-            0,
-        ],
-        count: 6,
-        written: 16,
+        numbers,
+        count: 10,
+        written: 0,
         listed: element.cid_count,
     }
 }

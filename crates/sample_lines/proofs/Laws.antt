@@ -1,19 +1,19 @@
 -- A field's part of a line, and tests of each element of a list.
 -- Assumes nothing.
 use mathlib.Core.Path.{_≡_, refl, sym, ap, _∙_}
-use mathlib.Core.Bool.{Bool, true, false, not}
+use mathlib.Core.Bool.{Bool, true, false, not, _&&_}
 use mathlib.Core.List.{List, []}
 use Prim.Native.Nat.{ℕ, _+_, _-_, _/_, _%_, _≤_, _<_}
 use native.Mathlib.Omega.{arith}
 use borrow.Author.Tests.{le-leb, lt-leb, eq-eqb, ne-eqb}
-use lib.Dec.{eqb}
+use lib.Dec.{leb, eqb}
 use lib.ListN.{length, getD, take, drop, drop-of-length-le}
 use lib.Seq.{length-take-le}
 use Rattle.wire.proofs.Laws.{take-rest}
 use Rattle.ascii.specs.Ascii.{hexRun, unhexed}
 use Rattle.ascii.proofs.Laws.{run-le}
 use Rattle.below.specs.Below.{anyOf}
-use Rattle.below.proofs.Laws.{any-at, none-next}
+use Rattle.below.proofs.Laws.{any-at, none-next, none-each, each-none}
 use Rattle.sample_lines.specs.Lines.{digitsAt, fieldBytes, noField, nextAfter}
 
 -- that two numbers are not the same
@@ -34,9 +34,26 @@ one-apart f g n i h d = sym (ap not (any-at (λ k. apart (f k) (g k)) n i h (are
 pub one-more : (f g : ℕ → ℕ) (i : ℕ) → anyOf (λ k. apart (f k) (g k)) i ≡ false → f i ≡ g i → anyOf (λ k. apart (f k) (g k)) (i + 1) ≡ false
 one-more f g i h e = none-next (λ k. apart (f k) (g k)) i h (not-apart (f i) (g i) e)
 
--- none that differs up to the end
-pub none-apart : (t : ℕ → Bool) (n i : ℕ) → i ≤ n → n ≤ i → anyOf t i ≡ false → true ≡ not (anyOf t n)
-none-apart t n i a b h = let e : n ≡ i = omega arith in sym (ap not (ap (anyOf t) e ∙ h))
+-- none below i is none below a smaller number
+none-below : (t : ℕ → Bool) (n i : ℕ) → n ≤ i → anyOf t i ≡ false → anyOf t n ≡ false
+none-below t n i h e = each-none t n (λ k l. none-each t i e k (omega arith))
+
+pub none-apart : (t : ℕ → Bool) (n i : ℕ) → n ≤ i → anyOf t i ≡ false → true ≡ not (anyOf t n)
+none-apart t n i h e = sym (ap not (none-below t n i h e))
+
+-- ---- from a place on
+
+abbrev pub stray : List ℕ → ℕ → ℕ → ℕ → Bool
+stray s from b k = leb from k && apart (getD s k 0) b
+
+pub none-before : (s : List ℕ) (from b : ℕ) → anyOf (stray s from b) from ≡ false
+none-before s from b = each-none (stray s from b) from (λ k h. rw (lt-leb from k h))
+
+pub one-stray : (s : List ℕ) (from b i : ℕ) → i < length s → from ≤ i → (getD s i 0 ≡ b → ⊥) → false ≡ not (anyOf (stray s from b) (length s))
+one-stray s from b i h l d = sym (ap not (any-at (stray s from b) (length s) i h (rw (le-leb from i l, are-apart (getD s i 0) b d))))
+
+pub no-stray : (s : List ℕ) (from b i : ℕ) → from ≤ i → anyOf (stray s from b) i ≡ false → getD s i 0 ≡ b → anyOf (stray s from b) (i + 1) ≡ false
+no-stray s from b i l h e = none-next (stray s from b) i h (rw (le-leb from i l, not-apart (getD s i 0) b e))
 
 -- ---- a field's part of a line
 

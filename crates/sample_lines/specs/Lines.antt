@@ -1,13 +1,14 @@
 -- Fields of a sample line (docs/samples.md): "A field is bytes, each two hexadecimal digits."
--- In this order: the field at a place of a line; what a call left against what a field says.
-use Prim.Native.Nat.{ℕ, _+_, _*_, _/_, _%_}
-use mathlib.Core.Bool.{Bool, cond, not}
+-- In this order: the field at a place of a line; the five fields; what a call left, and what its line says.
+use Prim.Native.Nat.{ℕ, zero, suc, _+_, _*_, _/_, _%_}
+use mathlib.Core.Bool.{Bool, cond, not, _&&_}
 use mathlib.Core.List.{List}
 use lib.Dec.{leb, eqb}
 use lib.ListN.{length, getD, take, drop}
 use Rattle.wire.specs.Numbers.{u32At}
 use Rattle.below.specs.Below.{anyOf}
 use Rattle.ascii.specs.Ascii.{hexRun, unhexed}
+use Rattle.sample_lines.specs.declared.answers.Asked.{Asked}
 
 -- ---- the field at a place
 
@@ -29,12 +30,33 @@ nextAfter line from n end =
 unfoldable pub fieldNext : List ℕ → ℕ → ℕ → ℕ
 fieldNext line from end = nextAfter line from (digitsAt line from) end
 
--- ---- what was left, and what a field says
+-- where the field with a number stands; each but the last ends at a tab
+unfoldable pub fieldAt : List ℕ → ℕ → ℕ
+fieldAt line zero = 0
+fieldAt line (suc k) = fieldNext line (fieldAt line k) 9
 
--- the first n words are those at the front of s
-unfoldable pub sameWords : List ℕ → ℕ → List ℕ → Bool
-sameWords words n s = not (anyOf (λ k. not (eqb (getD words k 0) (u32At s (4 * k)))) n)
+-- ---- what a call left, and what its line says
 
--- nothing but b
-unfoldable pub filledWith : List ℕ → ℕ → Bool
-filledWith s b = not (anyOf (λ k. not (eqb (getD s k 0) b)) (length s))
+-- the first n words are those of s from the word `at` on
+unfoldable pub sameWords : List ℕ → ℕ → List ℕ → ℕ → Bool
+sameWords words n s at = not (anyOf (λ k. not (eqb (getD words k 0) (u32At s (4 * (at + k))))) n)
+
+-- the first n bytes are the same
+unfoldable pub sameBytes : List ℕ → List ℕ → ℕ → Bool
+sameBytes s t n = not (anyOf (λ k. not (eqb (getD s k 0) (getD t k 0))) n)
+
+-- nothing but b from a place on
+unfoldable pub filledWith : List ℕ → ℕ → ℕ → Bool
+filledWith s from b = not (anyOf (λ k. leb from k && not (eqb (getD s k 0) b)) (length s))
+
+-- the list's numbers are those behind the first `count` of the answer, in which nothing else stands; past them the list is as it was
+unfoldable pub isListed : ℕ → ℕ → List ℕ → List ℕ → Bool
+isListed count listed list answer = sameWords list listed answer count && (filledWith answer (4 * (count + listed)) 0 && filledWith list listed 2863311530)
+
+-- the output is what the line says, and past it as it was
+unfoldable pub isOutput : ℕ → List ℕ → List ℕ → Bool
+isOutput written out output = sameBytes out output written && (filledWith output written 0 && filledWith out written 170)
+
+unfoldable pub isAnswer : Asked → List ℕ → List ℕ → List ℕ → List ℕ → Bool
+isAnswer asked list out answer output =
+    sameWords (asked .numbers) (asked .count) answer 0 && (isListed (asked .count) (asked .listed) list answer && isOutput (asked .written) out output)

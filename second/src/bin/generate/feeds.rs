@@ -32,7 +32,7 @@ pub fn pieces(
     information: &[u8],
 ) -> Vec<Vec<u8>> {
     let [message_type, transaction, cid, word] = head.map(u64::from);
-    let service = if cid == 15 { EXTENSIONS } else { BASIC_CONNECT };
+    let service = service(head[2]);
     let arguments = [16_000, size, message_type, transaction, cid, word];
     let input = [&service[..], information].concat();
     let answer = samples.ask(CUT, &arguments, &input);
@@ -45,6 +45,15 @@ pub fn pieces(
         rest = after;
     }
     pieces
+}
+
+/// The service that a CID is sent to here.
+pub fn service(cid: u32) -> [u8; 16] {
+    if cid == 15 {
+        EXTENSIONS
+    } else {
+        BASIC_CONNECT
+    }
 }
 
 pub fn message(samples: &mut Samples, message_type: u32, length: u8) -> Vec<Vec<u8>> {

@@ -1,6 +1,6 @@
 //! Whole runs: host and modem with writer, cutter, door and readers between them.
 
-use crate::feeds::pieces;
+use crate::feeds::{pieces, service};
 use crate::samples::Samples;
 use second::flat::question as q;
 use second::flat::{Answer, ASSEMBLY_SIZE, MODEM_SIZE};
@@ -46,8 +46,8 @@ fn run(samples: &mut Samples, list: &[u8]) {
         to_modem(samples, [COMMAND, 2, 11, 0], &[]);
     }
     samples.ask(q::SHOW_MODEM, &[], &[]);
-    let version = samples.ask(q::SHOW_HOST, &[], &[]).numbers[3];
-    payloads(samples, version);
+    let host = samples.ask(q::SHOW_HOST, &[], &[]).output;
+    payloads(samples, u16::from_le_bytes([host[4], host[5]]).into());
 }
 
 /// A whole message and its reply, written, received and judged.
@@ -72,11 +72,11 @@ fn to_host(samples: &mut Samples, head: [u32; 4], information: &[u8]) -> Answer 
     samples.ask(q::HOST_RECEIVE, &head.map(u64::from), &input)
 }
 
-/// Cuts, feeds and gives the service and the information that came together.
+/// Cuts, receives and gives the service and the information that came together.
 fn carry(samples: &mut Samples, head: [u32; 4], information: &[u8]) -> Vec<u8> {
-    let mut output = Vec::new();
+    let mut output = service(head[2]).to_vec();
     for piece in pieces(samples, 64, head, information) {
-        output = samples.ask(q::RECEIVE, &[ROOM, ASSEMBLY_SIZE], &piece).output;
+        output.extend(samples.ask(q::RECEIVE, &[ROOM, ASSEMBLY_SIZE], &piece).output);
     }
     let [message_type, _, cid, word] = head.map(u64::from);
     samples.ask(q::PAYLOAD_KIND, &[message_type, cid, word], &output[..16]);
