@@ -1,4 +1,4 @@
-/* A line of the stored samples (docs/samples.md): its form, and the numbers and bytes in it. */
+/* A line of the stored samples (docs/samples.md): five fields of bytes. */
 #ifndef SAMPLE_LINE_H
 #define SAMPLE_LINE_H
 
@@ -6,137 +6,56 @@
 #include <stdint.h>
 #include <string.h>
 
-#define MOST_NUMBERS 4608
-#define MOST_BYTES 16384
 #define MOST_LINE 16640
 
-typedef struct numbers {
-    size_t count;
-    uint64_t of[MOST_NUMBERS];
-} numbers;
+enum { QUESTION, ARGUMENTS, INPUT, ANSWER, OUTPUT, FIELDS };
 
-typedef struct bytes {
-    size_t count;
-    uint8_t of[MOST_BYTES];
-} bytes;
-
+/* What a field doesn't have is 0. */
 typedef struct sample {
-    uint64_t question;
-    numbers arguments;
-    bytes input;
-    numbers answer;
-    bytes output;
+    uint8_t field[FIELDS][MOST_LINE];
+    size_t length[FIELDS];
 } sample;
 
-/* What is left of a line. Each function below takes its part from the front, or gives 0. */
-typedef struct rest {
-    const char *at, *end;
-} rest;
-
-static int take_sign(rest *line, char sign)
+/* The value of a hexadecimal digit; 16 for any other sign. */
+static unsigned digit(char sign)
 {
-    if (line->at == line->end || *line->at != sign)
-        return 0;
-    line->at++;
-    return 1;
+    static const char digits[] = "0123456789abcdefABCDEF";
+    const char *found = sign ? strchr(digits, sign) : NULL;
+    size_t value = found ? (size_t)(found - digits) : 22;
+    return (unsigned)(value < 16 ? value : value - 6);
 }
 
-static int take_number(rest *line, uint64_t *number)
+/* Reads the bytes at the front of a text that a line feed ends; gives the sign behind them. */
+static const char *read_field(const char *text, uint8_t *field, size_t *length)
 {
-    const char *start = line->at;
-    *number = 0;
-    for (; line->at < line->end && *line->at >= '0' && *line->at <= '9'; line->at++) {
-        uint64_t digit = (uint64_t)(*line->at - '0');
-        if (*number > (UINT64_MAX - digit) / 10)
-            return 0;
-        *number = *number * 10 + digit;
-    }
-    return line->at > start;
+    for (*length = 0; digit(text[0]) < 16 && digit(text[1]) < 16; text += 2)
+        field[(*length)++] = (uint8_t)(digit(text[0]) << 4 | digit(text[1]));
+    return text;
 }
 
-static int take_numbers(rest *line, numbers *taken)
-{
-    do {
-        if (taken->count == MOST_NUMBERS || !take_number(line, &taken->of[taken->count]))
-            return 0;
-        taken->count++;
-    } while (take_sign(line, ' '));
-    return 1;
-}
-
-static int take_digit(rest *line, uint8_t *digit)
-{
-    static const char digits[] = "0123456789abcdef";
-    const char *found = line->at < line->end && *line->at ? strchr(digits, *line->at) : NULL;
-    if (!found)
-        return 0;
-    *digit = (uint8_t)(found - digits);
-    line->at++;
-    return 1;
-}
-
-static int take_byte(rest *line, uint8_t *byte)
-{
-    uint8_t high, low;
-    if (!take_digit(line, &high) || !take_digit(line, &low))
-        return 0;
-    *byte = (uint8_t)(high << 4 | low);
-    return 1;
-}
-
-static int add_bytes(bytes *taken, uint8_t byte, uint64_t count)
-{
-    if (count == 0 || count > MOST_BYTES - taken->count)
-        return 0;
-    memset(taken->of + taken->count, byte, (size_t)count);
-    taken->count += (size_t)count;
-    return 1;
-}
-
-/* Bytes digit by digit, or one byte many times. */
-static int take_group(rest *line, bytes *taken)
-{
-    uint64_t count = 1;
-    uint8_t byte;
-    if (!take_byte(line, &byte))
-        return 0;
-    if (take_sign(line, '*'))
-        return take_number(line, &count) && add_bytes(taken, byte, count);
-    if (!add_bytes(taken, byte, 1))
-        return 0;
-    while (line->at < line->end && !strchr(",\t\n", *line->at))
-        if (!take_byte(line, &byte) || !add_bytes(taken, byte, 1))
-            return 0;
-    return 1;
-}
-
-static int take_bytes(rest *line, bytes *taken)
-{
-    do {
-        if (!take_group(line, taken))
-            return 0;
-    } while (take_sign(line, ','));
-    return 1;
-}
-
-/* Whether a field that may be empty ends here. */
-static int is_at(const rest *line, char sign)
-{
-    return line->at < line->end && *line->at == sign;
-}
-
-/* Reads a line, its line feed included; gives 0 if it has not the form. */
+/* Reads a line of so many bytes; gives 0 if it has not the form. */
 static int read_sample(const char *text, size_t length, sample *read)
 {
-    rest line = {text, text + length};
-    read->arguments.count = read->answer.count = 0;
-    read->input.count = read->output.count = 0;
-    return length <= MOST_LINE && take_number(&line, &read->question) && take_sign(&line, '\t')
-           && (is_at(&line, '\t') || take_numbers(&line, &read->arguments)) && take_sign(&line, '\t')
-           && (is_at(&line, '\t') || take_bytes(&line, &read->input)) && take_sign(&line, '\t')
-           && take_numbers(&line, &read->answer) && take_sign(&line, '\t')
-           && (is_at(&line, '\n') || take_bytes(&line, &read->output)) && take_sign(&line, '\n')
-           && line.at == line.end;
+    const char *at = text;
+    int i;
+    memset(read, 0, sizeof *read);
+    if (length > MOST_LINE || text[length - 1] != '\n')
+        return 0;
+    for (i = 0; i < FIELDS; i++) {
+        at = read_field(at, read->field[i], &read->length[i]);
+        if (*at++ != (i == OUTPUT ? '\n' : '\t'))
+            return 0;
+    }
+    return at == text + length && read->length[QUESTION] <= 1;
+}
+
+/* The number at a place of a field. */
+static uint32_t number_at(const uint8_t *field, size_t place)
+{
+    const uint8_t *at = field + 4 * place;
+    if (place >= MOST_LINE / 4)
+        return 0;
+    return (uint32_t)at[0] | (uint32_t)at[1] << 8 | (uint32_t)at[2] << 16 | (uint32_t)at[3] << 24;
 }
 
 #endif

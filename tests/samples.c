@@ -1,7 +1,7 @@
 /*
  * Asks the library every question of the stored samples on standard input and compares its answers with
- * theirs (docs/samples.md): the same as crates/samples, in C, so that it runs on every board. What it
- * writes is the same too; the exit status is 1 where an answer differs or a line is bad.
+ * theirs (docs/samples.md): the same as crates/payload_samples and crates/message_samples, in C, so that
+ * it runs on every board. What it writes is the same too; the exit status is 1 where a line differs.
  *
  * Every range that is lent to a call ends at a page that faults. `samples past` shows that it does: it
  * reads one byte past a range.
@@ -12,15 +12,16 @@
 #include "fence.h"
 #include "sample_line.h"
 
-#include <inttypes.h>
-
 #define UNTOUCHED 0xAA
+#define MOST_ROOM 16384
 #define MOST_LIST 1024
 #define QUESTIONS 35
 
-static sample now;           /* the sample whose question is asked */
-static numbers got;          /* the answer's numbers, and the bytes that it shows */
-static bytes shown;
+static sample now; /* the sample whose question is asked; its input with the zeros at the end */
+static const uint8_t *given = now.field[INPUT];
+static size_t given_length;
+static uint8_t answered[MOST_LINE], shown[MOST_LINE]; /* what its last two fields should be */
+static size_t answered_length, shown_length;
 static int bad;              /* the question can't be asked */
 static size_t written, room; /* bytes written to the lent output, and its length */
 static size_t listed, list_room;
@@ -29,29 +30,21 @@ static fence input, output, list, service_input, memory, texts[3];
 /* What stands from line to line. */
 static uint8_t assembly[CVR_ASSEMBLY_SIZE], host[CVR_HOST_SIZE], modem[CVR_MODEM_SIZE];
 
-/* ---- arguments; one that is not there is 0 */
-
-static uint64_t argument(size_t at)
-{
-    return at < now.arguments.count ? now.arguments.of[at] : 0;
-}
+/* ---- what is asked */
 
 static uint32_t word(size_t at)
 {
-    return (uint32_t)argument(at);
+    return number_at(now.field[ARGUMENTS], at);
 }
 
 static uint16_t half(size_t at)
 {
-    return (uint16_t)argument(at);
+    return (uint16_t)word(at);
 }
 
-/* A length, which a board with pointers of 32 bits may not be able to pass. */
-static size_t length_at(size_t at)
+static uint64_t speed(size_t at)
 {
-    if (argument(at) > SIZE_MAX)
-        bad = 1;
-    return (size_t)argument(at);
+    return word(at) | (uint64_t)word(at + 1) << 32;
 }
 
 static size_t least(size_t a, size_t b)
@@ -59,39 +52,44 @@ static size_t least(size_t a, size_t b)
     return a < b ? a : b;
 }
 
+/* A number that has a limit. */
+static size_t limited(size_t at, size_t most)
+{
+    bad |= word(at) > most;
+    return bad ? 0 : word(at);
+}
+
 /* ---- what is lent */
 
 static const uint8_t *lend_input(void)
 {
-    return lend(input, now.input.of, now.input.count);
+    return lend(input, given, given_length);
 }
 
 /* Lends the input behind the service at its front. */
 static const uint8_t *lend_information(size_t *length)
 {
-    bad |= now.input.count < 16;
-    *length = bad ? 0 : now.input.count - 16;
-    return lend(input, now.input.of + 16, *length);
+    size_t from = least(16, given_length);
+    *length = given_length - from;
+    return lend(input, given + from, *length);
 }
 
-static cvr_service service(void)
+/* The service at a place of the input. */
+static cvr_service service_at(size_t place)
 {
-    return cvr_service_id(lend(service_input, now.input.of, 16), 16);
+    size_t from = least(place, given_length), length = least(16, given_length - from);
+    return cvr_service_id(lend(service_input, given + from, length), length);
 }
 
 static uint8_t *lend_output(void)
 {
-    room = length_at(0);
-    bad |= room > MOST_BYTES;
-    room = bad ? 0 : room;
+    room = limited(1, MOST_ROOM);
     return output.end - room;
 }
 
 static uint32_t *lend_list(void)
 {
-    list_room = length_at(0);
-    bad |= list_room > MOST_LIST;
-    list_room = bad ? 0 : list_room;
+    list_room = limited(1, MOST_LIST);
     return (uint32_t *)(void *)list.end - list_room;
 }
 
@@ -119,34 +117,30 @@ static int is_untouched(fence lent, size_t length, size_t changed)
 
 /* ---- answers */
 
+/* The largest number stands for all that have more than 4 bytes. */
 static void put(uint64_t number)
 {
-    if (got.count < MOST_NUMBERS)
-        got.of[got.count++] = number;
+    int i;
+    number = number > UINT32_MAX ? UINT32_MAX : number;
+    for (i = 0; i < 4 && answered_length < MOST_LINE; i++)
+        answered[answered_length++] = (uint8_t)(number >> 8 * i);
 }
 
 static void show(const uint8_t *from, size_t length)
 {
-    length = least(length, MOST_BYTES - shown.count);
-    memcpy(shown.of + shown.count, from, length);
-    shown.count += length;
-}
-
-static void show_word(uint32_t number)
-{
-    uint8_t four[4];
-    int i;
-    for (i = 0; i < 4; i++)
-        four[i] = (uint8_t)(number >> 8 * i);
-    show(four, 4);
+    length = least(length, MOST_LINE - shown_length);
+    memcpy(shown + shown_length, from, length);
+    shown_length += length;
 }
 
 static void show_service(cvr_service id)
 {
-    show_word(id.word0);
-    show_word(id.word1);
-    show_word(id.word2);
-    show_word(id.word3);
+    uint32_t words[4] = {id.word0, id.word1, id.word2, id.word3};
+    uint8_t bytes[16];
+    int i;
+    for (i = 0; i < 16; i++)
+        bytes[i] = (uint8_t)(words[i / 4] >> 8 * (i % 4));
+    show(bytes, 16);
 }
 
 /* Shows what was written to the lent output. */
@@ -156,76 +150,80 @@ static void show_output(uint64_t length)
     show(output.end - room, written);
 }
 
-static int refused(cvr_refusal refusal)
+/* What comes behind a refusal is 0. */
+static void put_refusal(cvr_refusal refusal)
 {
     put(refusal.number);
-    if (refusal.number != CVR_NO_REFUSAL)
-        put(refusal.place);
-    return refusal.number != CVR_NO_REFUSAL;
+    put(refusal.place);
 }
 
 static void put_written(cvr_written answer)
 {
-    if (refused(answer.refusal))
-        return;
+    put_refusal(answer.refusal);
     put(answer.length);
     show_output(answer.length);
 }
 
-/* A little-endian number of `size` bytes in what was lent. */
-static void put_number_at(const uint8_t *state, size_t at, size_t size)
+static const cvr_refusal none;
+
+/* The numbers of 2 bytes that an end's memory is. */
+static void put_halves(const uint8_t *state, size_t size)
 {
-    uint64_t number = 0;
-    while (size-- > 0)
-        number = number << 8 | state[at + size];
-    put(number);
+    size_t at;
+    put_refusal(none);
+    for (at = 0; at < size; at += 2)
+        put((uint64_t)state[at] | (uint64_t)state[at + 1] << 8);
 }
 
 /* ---- 1 to 8: payloads */
 
 static void version_read(void)
 {
-    cvr_version_info_answer answer = cvr_version_info_read(lend_input(), now.input.count);
-    if (refused(answer.refusal))
-        return;
+    cvr_version_info_answer answer = cvr_version_info_read(lend_input(), given_length);
+    put_refusal(answer.refusal);
     put(answer.info.bcd_mbim_version);
     put(answer.info.bcd_mbim_extended_version);
 }
 
 static void version_write(void)
 {
-    cvr_version_info info = {half(1), half(2)};
+    cvr_version_info info = {half(2), half(3)};
     uint8_t *out = lend_output();
     put_written(cvr_version_info_write(info, out, room));
 }
 
+static void put_speed(uint64_t bits)
+{
+    put(bits & UINT32_MAX);
+    put(bits >> 32);
+}
+
 static void packet_read(void)
 {
-    cvr_packet_service_answer answer = cvr_packet_service_read(half(0), lend_input(), now.input.count);
-    if (refused(answer.refusal))
-        return;
+    cvr_packet_service_answer answer = cvr_packet_service_read(half(1), lend_input(), given_length);
+    put_refusal(answer.refusal);
     put(answer.info.version);
     put(answer.info.nw_error);
     put(answer.info.packet_service_state);
     put(answer.info.highest_available_data_class);
     put(answer.info.current_data_class);
     put(answer.info.frequency_range);
-    put(answer.info.uplink_speed);
-    put(answer.info.downlink_speed);
+    put_speed(answer.info.uplink_speed);
+    put_speed(answer.info.downlink_speed);
 }
 
 static void packet_write(void)
 {
     cvr_packet_service info;
     uint8_t *out = lend_output();
-    info.version = half(1);
-    info.nw_error = word(2);
-    info.packet_service_state = word(3);
-    info.highest_available_data_class = word(4);
-    info.current_data_class = word(5);
-    info.frequency_range = word(6);
-    info.uplink_speed = argument(7);
-    info.downlink_speed = argument(8);
+    info.version = half(2);
+    info.nw_error = word(3);
+    info.packet_service_state = word(4);
+    info.highest_available_data_class = word(5);
+    info.current_data_class = word(6);
+    info.frequency_range = word(7);
+    info.uplink_speed = speed(8);
+    info.downlink_speed = speed(10);
     put_written(cvr_packet_service_write(info, out, room));
 }
 
@@ -237,9 +235,8 @@ static void put_range(cvr_range range)
 
 static void registration_read(void)
 {
-    cvr_registration_answer answer = cvr_registration_read(half(0), lend_input(), now.input.count);
-    if (refused(answer.refusal))
-        return;
+    cvr_registration_answer answer = cvr_registration_read(half(1), lend_input(), given_length);
+    put_refusal(answer.refusal);
     put(answer.info.version);
     put(answer.info.nw_error);
     put(answer.info.register_state);
@@ -255,13 +252,13 @@ static void registration_read(void)
 
 static void registration_write(void)
 {
-    cvr_registration info = {half(1), word(2), word(3), word(4), word(5), word(6), word(7), word(8)};
+    cvr_registration info = {half(2), word(3), word(4), word(5), word(6), word(7), word(8), word(9)};
     uint8_t *out = lend_output();
     const uint8_t *text[3];
     size_t length[3], i, from = 0;
     for (i = 0; i < 3; i++) {
-        length[i] = least(length_at(9 + i), now.input.count - from);
-        text[i] = lend(texts[i], now.input.of + from, length[i]);
+        length[i] = least(word(10 + i), given_length - from);
+        text[i] = lend(texts[i], given + from, length[i]);
         from += length[i];
     }
     put_written(cvr_registration_write(info, text[0], length[0], text[1], length[1], text[2], length[2],
@@ -270,10 +267,9 @@ static void registration_write(void)
 
 static void signal_read(void)
 {
-    cvr_signal_state_answer answer = cvr_signal_state_read(half(0), lend_input(), now.input.count);
-    uint32_t i;
-    if (refused(answer.refusal))
-        return;
+    cvr_signal_state_answer answer = cvr_signal_state_read(half(1), lend_input(), given_length);
+    size_t i;
+    put_refusal(answer.refusal);
     put(answer.info.version);
     put(answer.info.rssi);
     put(answer.info.error_rate);
@@ -281,7 +277,7 @@ static void signal_read(void)
     put(answer.info.rssi_threshold);
     put(answer.info.error_rate_threshold);
     put(answer.info.count);
-    for (i = 0; i < answer.info.count && i < CVR_MOST_ENTRIES; i++) {
+    for (i = 0; i < CVR_MOST_ENTRIES; i++) {
         put(answer.info.entries[i].rsrp);
         put(answer.info.entries[i].snr);
         put(answer.info.entries[i].rsrp_threshold);
@@ -295,15 +291,15 @@ static void signal_write(void)
     cvr_signal_state info;
     uint8_t *out = lend_output();
     size_t i;
-    info.version = half(1);
-    info.rssi = word(2);
-    info.error_rate = word(3);
-    info.signal_strength_interval = word(4);
-    info.rssi_threshold = word(5);
-    info.error_rate_threshold = word(6);
-    info.count = word(7);
+    info.version = half(2);
+    info.rssi = word(3);
+    info.error_rate = word(4);
+    info.signal_strength_interval = word(5);
+    info.rssi_threshold = word(6);
+    info.error_rate_threshold = word(7);
+    info.count = word(8);
     for (i = 0; i < CVR_MOST_ENTRIES; i++) {
-        size_t at = 8 + 5 * i;
+        size_t at = 9 + 5 * i;
         cvr_rsrp_snr entry = {word(at), word(at + 1), word(at + 2), word(at + 3), word(at + 4)};
         info.entries[i] = entry;
     }
@@ -314,9 +310,8 @@ static void signal_write(void)
 
 static void services_read(void)
 {
-    cvr_device_services_answer answer = cvr_device_services_read(lend_input(), now.input.count);
-    if (refused(answer.refusal))
-        return;
+    cvr_device_services_answer answer = cvr_device_services_read(lend_input(), given_length);
+    put_refusal(answer.refusal);
     put(answer.info.device_services_count);
     put(answer.info.max_dss_sessions);
 }
@@ -325,11 +320,8 @@ static void put_element(cvr_element_answer answer)
 {
     const uint32_t *cids = (const uint32_t *)(const void *)list.end - list_room;
     size_t i;
-    if (refused(answer.refusal))
-        return;
+    put_refusal(answer.refusal);
     put(answer.listed);
-    if (!answer.listed)
-        return;
     put(answer.element.dss_payload);
     put(answer.element.max_dss_instances);
     put(answer.element.cid_count);
@@ -342,7 +334,7 @@ static void put_element(cvr_element_answer answer)
 static void element(void)
 {
     uint32_t *cids = lend_list();
-    put_element(cvr_device_services_element(lend_input(), now.input.count, word(1), cids, list_room));
+    put_element(cvr_device_services_element(lend_input(), given_length, word(2), cids, list_room));
 }
 
 static void service_cids(void)
@@ -350,29 +342,26 @@ static void service_cids(void)
     uint32_t *cids = lend_list();
     size_t length;
     const uint8_t *payload = lend_information(&length);
-    put_element(cvr_device_services_cids(payload, length, service(), cids, list_room));
+    put_element(cvr_device_services_cids(payload, length, service_at(0), cids, list_room));
 }
 
 static void is_listed(void)
 {
     size_t length;
     const uint8_t *payload = lend_information(&length);
-    cvr_listed_answer answer = cvr_device_services_listed(payload, length, service(), word(0));
-    if (!refused(answer.refusal))
-        put(answer.listed);
+    cvr_listed_answer answer = cvr_device_services_listed(payload, length, service_at(0), word(1));
+    put_refusal(answer.refusal);
+    put(answer.listed);
 }
 
 /* The element whose numbers stand at a place of the arguments; gives the place behind them. */
 static size_t take_element(size_t at, size_t number, cvr_service_element *taken)
 {
-    uint8_t id[16] = {0};
-    size_t from = least(16 * number, now.input.count), i, count;
-    memcpy(id, now.input.of + from, least(16, now.input.count - from));
-    taken->fields.device_service_id = cvr_service_id(lend(service_input, id, 16), 16);
+    size_t i, count = least(word(at + 2), CVR_MOST_CIDS);
+    taken->fields.device_service_id = service_at(16 * number);
     taken->fields.dss_payload = word(at);
     taken->fields.max_dss_instances = word(at + 1);
     taken->fields.cid_count = word(at + 2);
-    count = least(word(at + 2), CVR_MOST_CIDS);
     for (i = 0; i < count; i++)
         taken->cids[i] = word(at + 3 + i);
     return at + 3 + count;
@@ -382,10 +371,10 @@ static void services_write(void)
 {
     static cvr_service_list written_list;
     uint8_t *out = lend_output();
-    size_t at = 3, i;
+    size_t at = 4, i;
     memset(&written_list, UNTOUCHED, sizeof written_list);
-    written_list.device_services_count = word(1);
-    written_list.max_dss_sessions = word(2);
+    written_list.device_services_count = word(2);
+    written_list.max_dss_sessions = word(3);
     for (i = 0; i < CVR_MOST_SERVICES; i++)
         at = take_element(at, i, &written_list.elements[i]);
     put_written(cvr_device_services_write(written_list, out, room));
@@ -396,15 +385,14 @@ static void services_write(void)
 /* The message of the input's service; its type, transaction, CID and word stand at a place. */
 static cvr_message_header message_at(size_t at)
 {
-    cvr_message_header message = {word(at), word(at + 1), service(), word(at + 2), word(at + 3)};
+    cvr_message_header message = {word(at), word(at + 1), service_at(0), word(at + 2), word(at + 3)};
     return message;
 }
 
 static void whole(void)
 {
-    cvr_whole_answer answer = cvr_message_judge(lend_input(), now.input.count);
-    if (refused(answer.refusal))
-        return;
+    cvr_whole_answer answer = cvr_message_judge(lend_input(), given_length);
+    put_refusal(answer.refusal);
     put(answer.message_type);
     put(answer.transaction);
     put(answer.word);
@@ -413,18 +401,17 @@ static void whole(void)
 static void whole_write(void)
 {
     uint8_t *out = lend_output();
-    put_written(cvr_message_write(word(1), word(2), word(3), out, room));
+    put_written(cvr_message_write(word(2), word(3), word(4), out, room));
 }
 
 static void receive(void)
 {
-    size_t size = least(length_at(1), sizeof assembly);
+    size_t size = limited(2, sizeof assembly);
     uint8_t *out = lend_output();
     uint8_t *lent = lend(memory, assembly, size);
-    cvr_receive_answer answer = cvr_receive(lent, size, lend_input(), now.input.count, out, room);
+    cvr_receive_answer answer = cvr_receive(lent, size, lend_input(), given_length, out, room);
     keep(assembly, size);
-    if (refused(answer.refusal))
-        return;
+    put_refusal(answer.refusal);
     put(answer.received);
     put(answer.dropped);
     put(answer.message.message_type);
@@ -439,18 +426,18 @@ static void receive(void)
 static void empty(void)
 {
     uint8_t *lent = lend(memory, assembly, sizeof assembly);
-    refused(cvr_assembly_empty(lent, sizeof assembly));
+    put_refusal(cvr_assembly_empty(lent, sizeof assembly));
     keep(assembly, sizeof assembly);
 }
 
 /* Type and transaction, the service, CID and word, four counts, and the bytes gathered. */
 static void show_assembly(void)
 {
-    static const size_t places[] = {0, 4, 24, 28, 32, 36, 40, 44};
     size_t i;
-    put(CVR_NO_REFUSAL);
-    for (i = 0; i < sizeof places / sizeof places[0]; i++)
-        put_number_at(assembly, places[i], 4);
+    put_refusal(none);
+    for (i = 0; i < 12; i++)
+        if (i < 2 || i >= 6)
+            put(number_at(assembly, i));
     show(assembly + 8, 16);
     show(assembly + 48, CVR_MOST_INFORMATION);
 }
@@ -458,11 +445,10 @@ static void show_assembly(void)
 static void cut(void)
 {
     uint8_t *out = lend_output();
-    size_t length, size = length_at(1);
+    size_t length, size = word(2);
     const uint8_t *information = lend_information(&length);
-    cvr_cut_answer answer = cvr_message_cut(message_at(2), size, information, length, out, room);
-    if (refused(answer.refusal))
-        return;
+    cvr_cut_answer answer = cvr_message_cut(message_at(3), size, information, length, out, room);
+    put_refusal(answer.refusal);
     put(answer.count);
     put(answer.length);
     show_output(answer.length);
@@ -470,17 +456,16 @@ static void cut(void)
 
 static void next_transaction(void)
 {
-    put(CVR_NO_REFUSAL);
-    put(cvr_transaction_next(word(0)));
+    put_refusal(none);
+    put(cvr_transaction_next(word(1)));
 }
 
 static void kind(void)
 {
-    cvr_message_header message = {word(0), 0, service(), word(1), word(2)};
+    cvr_message_header message = {word(1), 0, service_at(0), word(2), word(3)};
     cvr_kind_answer answer = cvr_payload_kind(message);
-    bad |= now.input.count < 16;
-    if (!refused(answer.refusal))
-        put(answer.kind);
+    put_refusal(answer.refusal);
+    put(answer.kind);
 }
 
 /* ---- 22 to 26 and 31: the host's end */
@@ -488,30 +473,25 @@ static void kind(void)
 static void put_event(cvr_host_answer answer)
 {
     keep(host, sizeof host);
-    if (refused(answer.refusal))
-        return;
+    put_refusal(answer.refusal);
     put(answer.event);
     put(answer.version);
 }
 
 static void host_make(void)
 {
-    refused(cvr_host_make(lend(memory, host, sizeof host), sizeof host, half(0)));
+    put_refusal(cvr_host_make(lend(memory, host, sizeof host), sizeof host, half(1)));
     keep(host, sizeof host);
 }
 
 static void host_open(void)
 {
-    put_event(cvr_host_open(lend(memory, host, sizeof host), sizeof host, half(0)));
+    put_event(cvr_host_open(lend(memory, host, sizeof host), sizeof host, half(1)));
 }
 
-/* Closing says nothing but that it is done: another event would be one number too many. */
 static void host_close(void)
 {
-    cvr_host_answer answer = cvr_host_close(lend(memory, host, sizeof host), sizeof host);
-    keep(host, sizeof host);
-    if (!refused(answer.refusal) && answer.event != CVR_EVENT_UNCHANGED)
-        put(answer.event);
+    put_event(cvr_host_close(lend(memory, host, sizeof host), sizeof host));
 }
 
 static void next_command(void)
@@ -519,10 +499,10 @@ static void next_command(void)
     uint8_t *out = lend_output();
     cvr_ask_answer answer = cvr_host_next_command(lend(memory, host, sizeof host), sizeof host, out, room);
     keep(host, sizeof host);
-    if (refused(answer.refusal))
-        return;
+    put_refusal(answer.refusal);
     put(answer.command);
-    put(answer.command == CVR_COMMAND_VERSION ? answer.length : answer.version);
+    put(answer.version);
+    put(answer.length);
     show_output(answer.length);
 }
 
@@ -531,36 +511,33 @@ static void host_receive(void)
     size_t length;
     const uint8_t *information = lend_information(&length);
     uint8_t *lent = lend(memory, host, sizeof host);
-    put_event(cvr_host_receive(lent, sizeof host, message_at(0), information, length));
+    put_event(cvr_host_receive(lent, sizeof host, message_at(1), information, length));
 }
 
 static void show_host(void)
 {
-    size_t at;
-    put(CVR_NO_REFUSAL);
-    for (at = 0; at < sizeof host; at += 2)
-        put_number_at(host, at, 2);
+    put_halves(host, sizeof host);
 }
 
 /* ---- 27 to 30 and 32: the modem's end */
 
 static void modem_make(void)
 {
-    size_t size = least(length_at(2), sizeof modem);
+    size_t size = limited(3, sizeof modem);
     uint8_t *lent = lend(memory, modem, size);
-    refused(cvr_modem_make(lent, size, half(0), half(1), lend_input(), now.input.count));
+    put_refusal(cvr_modem_make(lent, size, half(1), half(2), lend_input(), given_length));
     keep(modem, size);
 }
 
 static void modem_open(void)
 {
-    refused(cvr_modem_open(lend(memory, modem, sizeof modem), sizeof modem));
+    put_refusal(cvr_modem_open(lend(memory, modem, sizeof modem), sizeof modem));
     keep(modem, sizeof modem);
 }
 
 static void modem_close(void)
 {
-    refused(cvr_modem_close(lend(memory, modem, sizeof modem), sizeof modem));
+    put_refusal(cvr_modem_close(lend(memory, modem, sizeof modem), sizeof modem));
     keep(modem, sizeof modem);
 }
 
@@ -570,10 +547,9 @@ static void modem_receive(void)
     size_t length;
     const uint8_t *information = lend_information(&length);
     cvr_modem_answer answer =
-        cvr_modem_receive(lent, sizeof modem, message_at(1), information, length, out, room);
+        cvr_modem_receive(lent, sizeof modem, message_at(2), information, length, out, room);
     keep(modem, sizeof modem);
-    if (refused(answer.refusal))
-        return;
+    put_refusal(answer.refusal);
     put(answer.action);
     put(answer.status);
     put(answer.kind);
@@ -585,43 +561,41 @@ static void modem_receive(void)
 
 static void show_modem(void)
 {
-    size_t at;
-    put(CVR_NO_REFUSAL);
-    for (at = 0; at < sizeof modem; at += 2)
-        put_number_at(modem, at, 2);
+    put_halves(modem, sizeof modem);
 }
 
 /* ---- 33 to 35: decibels and bars */
 
-/* Twice the value plus 1000 is a whole number below 2000. */
+/* Twice a value plus 1,000 is a whole number below 2,000; 2,000 stands for any other. */
+static uint32_t doubled(float value)
+{
+    float sought = value * 2 + 1000;
+    uint32_t number = sought >= 0 && sought < 2000 ? (uint32_t)sought : 2000;
+    return (float)number == sought ? number : 2000;
+}
+
 static void put_reading(cvr_reading_answer answer)
 {
-    float doubled = answer.value * 2 + 1000;
-    uint64_t number = doubled >= 0 && doubled < 2000 ? (uint64_t)doubled : 2000;
-    if (refused(answer.refusal))
-        return;
+    int has_value = answer.kind >= CVR_READING_DBM && answer.kind <= CVR_READING_BELOW_RANGE;
+    put_refusal(answer.refusal);
     put(answer.kind);
-    if (answer.kind == CVR_READING_UNKNOWN)
-        put(answer.value == 0 ? 0 : 2000);
-    else
-        put((float)number == doubled ? number : 2000);
+    put(has_value ? doubled(answer.value) : answer.value == 0 ? 0 : 2000);
 }
 
 static void rsrp(void)
 {
-    put_reading(cvr_rsrp(word(0)));
+    put_reading(cvr_rsrp(word(1)));
 }
 
 static void snr(void)
 {
-    put_reading(cvr_snr(word(0)));
+    put_reading(cvr_snr(word(1)));
 }
 
 static void bars(void)
 {
-    cvr_bars_answer answer = cvr_bars(word(0));
-    if (refused(answer.refusal))
-        return;
+    cvr_bars_answer answer = cvr_bars(word(1));
+    put_refusal(answer.refusal);
     put(answer.reading);
     put(answer.bars);
 }
@@ -638,67 +612,44 @@ static void (*const questions[QUESTIONS + 1])(void) = {
 
 static void ask(void)
 {
-    got.count = shown.count = 0;
+    memset(answered, 0, sizeof answered);
+    memset(shown, 0, sizeof shown);
+    answered_length = shown_length = 0;
     written = room = listed = list_room = 0;
-    bad = 0;
     fill(output);
     fill(list);
-    questions[now.question]();
+    bad = 0;
+    given_length = limited(0, MOST_LINE);
+    bad |= now.length[INPUT] > given_length;
+    questions[now.field[QUESTION][0]]();
 }
 
 static int is_same(void)
 {
     return is_untouched(output, room, written) && is_untouched(list, 4 * list_room, 4 * listed)
-           && got.count == now.answer.count && shown.count == now.output.count
-           && memcmp(got.of, now.answer.of, got.count * sizeof got.of[0]) == 0
-           && memcmp(shown.of, now.output.of, shown.count) == 0;
+           && memcmp(answered, now.field[ANSWER], MOST_LINE) == 0
+           && memcmp(shown, now.field[OUTPUT], MOST_LINE) == 0;
 }
 
-static unsigned long counts[QUESTIONS + 1], differ[QUESTIONS + 1];
-
-/* Gives 1 if the line is bad or its answer differs. */
-static int judge(unsigned long number, const char *text, size_t length)
+/* Whether a line has the form, and the library answers as it says. */
+static int is_right(const char *text, size_t length)
 {
-    if (!read_sample(text, length, &now) || now.question < 1 || now.question > QUESTIONS) {
-        printf("%lu\tbad line\n", number);
-        return 1;
-    }
-    ask();
-    if (bad) {
-        printf("%lu\tbad line\n", number);
-        return 1;
-    }
-    counts[now.question]++;
-    if (is_same())
+    if (!read_sample(text, length, &now) || now.field[QUESTION][0] < 1 || now.field[QUESTION][0] > QUESTIONS)
         return 0;
-    differ[now.question]++;
-    printf("%lu\t%" PRIu64 "\tdiffers\n", number, now.question);
-    return 1;
-}
-
-static void print_table(void)
-{
-    unsigned long all = 0, all_differ = 0;
-    int i;
-    printf("question\tsamples\tdiffer\n");
-    for (i = 1; i <= QUESTIONS; i++) {
-        printf("%d\t%lu\t%lu\n", i, counts[i], differ[i]);
-        all += counts[i];
-        all_differ += differ[i];
-    }
-    printf("samples %lu differ %lu\n", all, all_differ);
+    ask();
+    return !bad && is_same();
 }
 
 static void make_fences(void)
 {
     size_t i;
-    input = make_fence(MOST_BYTES);
-    output = make_fence(MOST_BYTES);
+    input = make_fence(MOST_LINE);
+    output = make_fence(MOST_ROOM);
     list = make_fence(4 * MOST_LIST);
     service_input = make_fence(16);
     memory = make_fence(sizeof assembly);
     for (i = 0; i < 3; i++)
-        texts[i] = make_fence(MOST_BYTES);
+        texts[i] = make_fence(MOST_LINE);
 }
 
 int main(int argc, char **argv)
@@ -706,14 +657,18 @@ int main(int argc, char **argv)
     char *line = NULL;
     size_t room_of_line = 0;
     ssize_t length;
-    unsigned long number = 0;
-    int failed = 0;
+    unsigned long lines = 0, differ = 0;
     make_fences();
     if (argc > 1 && strcmp(argv[1], "past") == 0)
-        return *(volatile uint8_t *)(lend(input, now.input.of, 1) + 1);
-    while ((length = getline(&line, &room_of_line, stdin)) > 0)
-        failed |= judge(++number, line, (size_t)length);
+        return *(volatile uint8_t *)(lend(input, given, 1) + 1);
+    while ((length = getline(&line, &room_of_line, stdin)) > 0) {
+        lines++;
+        if (!is_right(line, (size_t)length)) {
+            differ++;
+            printf("%lu\tdiffers\n", lines);
+        }
+    }
     free(line);
-    print_table();
-    return failed || number == 0;
+    printf("samples %lu differ %lu\n", lines, differ);
+    return differ > 0 || lines == 0;
 }
