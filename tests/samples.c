@@ -133,14 +133,12 @@ static void show(const uint8_t *from, size_t length)
     shown_length += length;
 }
 
-static void show_service(cvr_service id)
+static void put_service(cvr_service id)
 {
-    uint32_t words[4] = {id.word0, id.word1, id.word2, id.word3};
-    uint8_t bytes[16];
-    int i;
-    for (i = 0; i < 16; i++)
-        bytes[i] = (uint8_t)(words[i / 4] >> 8 * (i % 4));
-    show(bytes, 16);
+    put(id.word0);
+    put(id.word1);
+    put(id.word2);
+    put(id.word3);
 }
 
 /* Shows what was written to the lent output. */
@@ -165,15 +163,6 @@ static void put_written(cvr_written answer)
 }
 
 static const cvr_refusal none;
-
-/* The numbers of 2 bytes that an end's memory is. */
-static void put_halves(const uint8_t *state, size_t size)
-{
-    size_t at;
-    put_refusal(none);
-    for (at = 0; at < size; at += 2)
-        put((uint64_t)state[at] | (uint64_t)state[at + 1] << 8);
-}
 
 /* ---- 1 to 8: payloads */
 
@@ -322,10 +311,10 @@ static void put_element(cvr_element_answer answer)
     size_t i;
     put_refusal(answer.refusal);
     put(answer.listed);
+    put_service(answer.element.device_service_id);
     put(answer.element.dss_payload);
     put(answer.element.max_dss_instances);
     put(answer.element.cid_count);
-    show_service(answer.element.device_service_id);
     listed = least(answer.element.cid_count, list_room);
     for (i = 0; i < listed; i++)
         put(cids[i]);
@@ -416,10 +405,10 @@ static void receive(void)
     put(answer.dropped);
     put(answer.message.message_type);
     put(answer.message.transaction);
+    put_service(answer.message.service);
     put(answer.message.cid);
     put(answer.message.word);
     put(answer.length);
-    show_service(answer.message.service);
     show_output(answer.length);
 }
 
@@ -430,16 +419,10 @@ static void empty(void)
     keep(assembly, sizeof assembly);
 }
 
-/* Type and transaction, the service, CID and word, four counts, and the bytes gathered. */
 static void show_assembly(void)
 {
-    size_t i;
     put_refusal(none);
-    for (i = 0; i < 12; i++)
-        if (i < 2 || i >= 6)
-            put(number_at(assembly, i));
-    show(assembly + 8, 16);
-    show(assembly + 48, CVR_MOST_INFORMATION);
+    show(assembly, sizeof assembly);
 }
 
 static void cut(void)
@@ -516,7 +499,8 @@ static void host_receive(void)
 
 static void show_host(void)
 {
-    put_halves(host, sizeof host);
+    put_refusal(none);
+    show(host, sizeof host);
 }
 
 /* ---- 27 to 30 and 32: the modem's end */
@@ -561,7 +545,8 @@ static void modem_receive(void)
 
 static void show_modem(void)
 {
-    put_halves(modem, sizeof modem);
+    put_refusal(none);
+    show(modem, sizeof modem);
 }
 
 /* ---- 33 to 35: decibels and bars */
