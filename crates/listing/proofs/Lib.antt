@@ -1,5 +1,4 @@
 pub mod Laws
-pub mod Requests
 pub mod Cut
 pub mod Registrations
 pub mod Signals

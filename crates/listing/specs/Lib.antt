@@ -1,5 +1,4 @@
 pub mod Rows
-pub mod Request
 pub mod Lines
 pub mod Registrations
 pub mod Signals

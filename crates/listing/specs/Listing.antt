@@ -19,14 +19,14 @@ use Rattle.listing.specs.Rows.{header, row, refusedLine, badLine}
 use Rattle.registration.specs.Registration.{readOf as registrationRead}
 use Rattle.signal_state.specs.SignalState.{readOf as signalRead}
 use Rattle.device_services.specs.DeviceServices.{readOf as servicesRead}
-use Rattle.listing.specs.Request.{requestOf}
+use Rattle.request_line.specs.Request.{requestOf}
 use Rattle.listing.specs.Registrations.{registrationText}
 use Rattle.listing.specs.Signals.{signalText}
 use Rattle.listing.specs.Services.{servicesText}
-use Rattle.listing.specs.declared.request.ListingKind.{ListingKind}
-use Rattle.listing.specs.declared.request.ListingKind.the-variants.{PacketService as PacketKind, Version as VersionKind, Registration as RegistrationKind, SignalState as SignalKind, DeviceServices as ServicesKind}
-use Rattle.listing.specs.declared.request.Request.{Request}
-use Rattle.listing.specs.declared.request.Request.the-variants.{Payload, BadLine}
+use Rattle.request_line.specs.declared.ListingKind.{ListingKind}
+use Rattle.request_line.specs.declared.ListingKind.the-variants.{PacketService as PacketKind, Version as VersionKind, Registration as RegistrationKind, SignalState as SignalKind, DeviceServices as ServicesKind}
+use Rattle.request_line.specs.declared.Request.{Request}
+use Rattle.request_line.specs.declared.Request.the-variants.{Payload, BadLine}
 
 -- ---- packet service
 

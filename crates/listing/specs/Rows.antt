@@ -6,15 +6,9 @@ use mathlib.Core.List.{List, [], _∷_, _++_}
 use lib.ListN.{length}
 use lib.Seq.{sets}
 use Rattle.protocol.specs.declared.Refusal.{Refusal}
-use Rattle.ascii.specs.Ascii.{ascii, decimal, hexed}
+use Rattle.ascii.specs.Ascii.{tab, lineFeed, ascii, decimal, hexed}
 
 -- ---- the rows
-
-abbrev pub tab : ℕ
-tab = 9
-
-abbrev pub lineFeed : ℕ
-lineFeed = 10
 
 unfoldable pub header : List ℕ
 header = ascii "field\tvalue\n"

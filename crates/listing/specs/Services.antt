@@ -1,14 +1,14 @@
 -- The listing of a DEVICE_SERVICES payload: the two numbers, and for each element its fields and its CIDs.
 use Prim.Native.Nat.{ℕ, _≤_, _<_}
 use mathlib.Core.List.{List, [], _∷_, _++_}
-use Rattle.ascii.specs.Ascii.{ascii, decimal, hexed}
+use Rattle.ascii.specs.Ascii.{lineFeed, ascii, decimal, hexed}
 use Rattle.below.specs.Below.{joined}
 use Rattle.protocol.specs.Service.{idBytes}
 use Rattle.protocol.specs.declared.service.ServiceId.{ServiceId}
 use Rattle.device_services.specs.DeviceServices.{offsetOf, cidCountAt, elementAt, cidAt}
 use Rattle.device_services.specs.declared.DeviceServicesRead.{DeviceServicesRead}
 use Rattle.device_services.specs.declared.DeviceServicesRead.the-variants.{Info, Refused}
-use Rattle.listing.specs.Rows.{lineFeed, header, field, row, indexedRow, refusedLine}
+use Rattle.listing.specs.Rows.{header, field, row, indexedRow, refusedLine}
 
 -- "32 hex digits, printed order"
 unfoldable pub idRow : ℕ → ServiceId → List ℕ

@@ -4,7 +4,7 @@ use mathlib.Core.Path.{_≡_, sym, _∙_}
 use native.Mathlib.Omega.{arith}
 use Rattle.listing.specs.Rows.{badLine}
 use Rattle.listing.specs.Listing.{requestText, lineText}
-use Rattle.listing.proofs.Requests.{within}
+use Rattle.request_line.proofs.Requests.{within}
 use Rattle.listing.proofs.put_line.Statement.{statement}
 use Rattle.listing.proofs.put_line.Tie as tie
 
