@@ -1,5 +1,3 @@
 pub mod Laws
+pub mod Lengths
 pub mod Cut
-pub mod Registrations
-pub mod Signals
-pub mod Services

@@ -1,6 +1,2 @@
-pub mod Rows
 pub mod Lines
-pub mod Registrations
-pub mod Signals
-pub mod Services
 pub mod Listing
