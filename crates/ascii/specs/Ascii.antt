@@ -12,6 +12,12 @@ abbrev pub ascii : String → List ℕ
 ascii empty = []
 ascii (c then s) = code c ∷ ascii s
 
+abbrev pub tab : ℕ
+tab = 9
+
+abbrev pub lineFeed : ℕ
+lineFeed = 10
+
 -- ---- decimal
 
 -- the decimal digits of n, which has at most k of them, highest first and without leading zeros

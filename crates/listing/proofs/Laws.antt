@@ -1,4 +1,4 @@
--- Texts put one behind another, the payload that digits spell, and a line's part of a chunk.
+-- The payload that digits spell, and a line's part of a chunk.
 -- Assumes nothing.
 use mathlib.Core.Path.{_≡_, refl, sym, ap, _∙_}
 use mathlib.Core.List.{List, [], _++_, append-nil}
@@ -12,50 +12,10 @@ use lib.ListN.{length, length-append, length-drop, set, take, drop, drop-of-leng
 use lib.Seq.{sets, length-take-le}
 use Rattle.wire.specs.Runs.{over, fitted}
 use Rattle.wire.proofs.Laws.{sets-append, sets-over, take-over, take-rest, fitted-take}
-use Rattle.below.specs.Below.{joined}
 use Rattle.ascii.specs.Ascii.{decimal, unhexed, through}
 use Rattle.ascii.proofs.Laws.{by-test, length-decimal, length-unhexed, through-le, through-some}
 use Rattle.listing.specs.Lines.{lineLength, lineBytes, collectOf}
 use Rattle.listing.specs.declared.lines.Collected.{Collected}
-use Rattle.listing.specs.Rows.{Put, field}
-
--- a text and the one behind it
-pub put-then : {s s₁ s₂ : List ℕ} {at n₁ n₂ : ℕ} {x y : List ℕ} → Put s at x s₁ n₁ → Put s₁ n₁ y s₂ n₂ → Put s at (x ++ y) s₂ n₂
-put-then {s} {s₁} {s₂} {at} {n₁} {n₂} {x} {y} p q = record {
-  stored = q .stored ∙ (λ i. sets (p .stored i) (p .ends i) y) ∙ sym (sets-append x y s at);
-  ends = q .ends ∙ omega (arith, p .ends, length-append x y);
-}
-
--- a text and nothing behind it
-pub put-none : {s t : List ℕ} {at n : ℕ} {x : List ℕ} → Put s at x t n → Put s at (x ++ []) t n
-put-none {s} {t} {at} {n} {x} p = rw (append-nil x) p
-
--- no text yet, and one piece more of texts one behind another
-pub put-start : (s : List ℕ) (at : ℕ) → Put s at [] s at
-put-start s at = record { stored = refl; ends = sym (add-zero at) }
-
-pub put-next : (f : ℕ → List ℕ) (i : ℕ) {s s₁ s₂ : List ℕ} {at n₁ n₂ : ℕ} → Put s at (joined f i) s₁ n₁ → Put s₁ n₁ (f i) s₂ n₂
-    → Put s at (joined f (i + 1)) s₂ n₂
-unfolding joined
-put-next f i p q = rw (add-one i) (put-then p q)
-
--- a tab and the digits behind it
-pub put-digits : (value : ℕ) (s : List ℕ) (at : ℕ) {s₁ s₂ : List ℕ} {n : ℕ} → s₁ ≡ set s at 9 → s₂ ≡ sets s₁ (at + 1) (decimal value)
-    → n ≡ length (decimal value) → Put s at (field value) s₂ (at + 1 + n)
-unfolding field
-put-digits value s at {s₁} p q e = record {
-  stored = q ∙ (λ i. sets (p i) (add-one at i) (decimal value));
-  ends = omega (arith, e);
-}
-
-pub short-digits : (value n : ℕ) → n ≡ length (decimal value) → n ≤ 20
-short-digits value n e = omega (arith, length-decimal 20 value)
-
--- a text put at the front of an output that has room for it
-pub put-over : {s t : List ℕ} {text : List ℕ} {n : ℕ} → Put s 0 text t n → n ≤ length s → (n ≡ length text) × (t ≡ over text s)
-put-over {s} {t} {text} {n} p h =
-    let e : n ≡ length text = omega (arith, p .ends) in
-    (e, p .stored ∙ sets-over text s (omega arith))
 
 -- ---- the payload that the digits of a line spell
 

@@ -1,6 +1,3 @@
 pub mod Laws
-pub mod Requests
+pub mod Lengths
 pub mod Cut
-pub mod Registrations
-pub mod Signals
-pub mod Services

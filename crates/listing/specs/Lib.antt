@@ -1,7 +1,2 @@
-pub mod Rows
-pub mod Request
 pub mod Lines
-pub mod Registrations
-pub mod Signals
-pub mod Services
 pub mod Listing

@@ -4,8 +4,7 @@ use mathlib.Core.Bool.{Bool, cond, false}
 use mathlib.Core.List.{List}
 use lib.Dec.{leb, eqb}
 use lib.ListN.{length, getD, take, drop}
-use Rattle.ascii.specs.Ascii.{through}
-use Rattle.listing.specs.Rows.{lineFeed}
+use Rattle.ascii.specs.Ascii.{lineFeed, through}
 use Rattle.listing.specs.declared.lines.Collected.{Collected}
 
 abbrev pub kept : ℕ → ℕ

@@ -2,9 +2,8 @@
 use borrow.Author.Needs.{needs}
 use mathlib.Core.Path.{_≡_, sym, _∙_}
 use native.Mathlib.Omega.{arith}
-use Rattle.listing.specs.Rows.{badLine}
-use Rattle.listing.specs.Listing.{requestText, lineText}
-use Rattle.listing.proofs.Requests.{within}
+use Rattle.request_line.proofs.Requests.{within}
+use Rattle.listing.specs.Listing.{badLine, requestText, lineText}
 use Rattle.listing.proofs.put_line.Statement.{statement}
 use Rattle.listing.proofs.put_line.Tie as tie
 
@@ -13,11 +12,11 @@ put-spelled-requires c κs = let w = within (c .before .before .before .before .
 
 returns : tie.Need-returns
 unfolding lineText requestText badLine
-returns c = (rw (← c .before .before .before .before .before .before .before .before .request-of .ensures, c .before .before .before .before .before .before .column .given .1) (c .before .before .put-row .ensures .0), omega (arith, c .before .before .put-row .ensures .1))
+returns c = rw (← c .before .before .before .before .before .before .before .before .request-of .ensures, c .before .before .before .before .before .before .column .given .1) (c .before .before .put-row .ensures)
 
 returns-2 : tie.Need-returns-2
 unfolding lineText requestText
-returns-2 c = (rw (← c .before .before .before .before .before .before .before .request-of .ensures, c .before .before .before .before .before .kind .given .1) (c .before .before .put-spelled .ensures .0), c .before .before .put-spelled .ensures .1)
+returns-2 c = rw (← c .before .before .before .before .before .before .before .request-of .ensures, c .before .before .before .before .before .kind .given .1) (c .before .before .put-spelled .ensures)
 
 pub put-line-spec : {M : Type 1} → statement M
 put-line-spec = tie.close (tie.spec (λ c. search needs) (λ c. search needs) (λ c. search needs) (λ c. search needs) (λ c. search needs) put-spelled-requires (λ c. search needs) returns (λ c. search needs) returns-2)

@@ -1,29 +1,28 @@
 -- By the kind.
 use borrow.Author.Needs.{needs}
-use native.Mathlib.Omega.{arith}
 use Rattle.listing.specs.Listing.{payloadText}
 use Rattle.listing.proofs.put_payload.Statement.{statement}
 use Rattle.listing.proofs.put_payload.Tie as tie
 
 returns : tie.Need-returns
 unfolding payloadText
-returns c = (rw (c .before .before .before .before .enum-told .given .1) (c .before .before .put .ensures .0), omega (arith, c .before .before .put .ensures .1))
+returns c = rw (c .before .before .before .before .enum-told .given .1) (c .before .before .put .ensures)
 
 returns-2 : tie.Need-returns-2
 unfolding payloadText
-returns-2 c = (rw (c .before .before .before .before .enum-told2 .given .1) (c .before .before .put2 .ensures .0), omega (arith, c .before .before .put2 .ensures .1))
+returns-2 c = rw (c .before .before .before .before .enum-told2 .given .1) (c .before .before .put2 .ensures)
 
 returns-3 : tie.Need-returns-3
 unfolding payloadText
-returns-3 c = (rw (c .before .before .before .before .enum-told3 .given .1) (c .before .before .put3 .ensures .0), omega (arith, c .before .before .put3 .ensures .1))
+returns-3 c = rw (c .before .before .before .before .enum-told3 .given .1) (c .before .before .put3 .ensures)
 
 returns-4 : tie.Need-returns-4
 unfolding payloadText
-returns-4 c = (rw (c .before .before .before .before .enum-told4 .given .1) (c .before .before .put4 .ensures .0), omega (arith, c .before .before .put4 .ensures .1))
+returns-4 c = rw (c .before .before .before .before .enum-told4 .given .1) (c .before .before .put4 .ensures)
 
 returns-5 : tie.Need-returns-5
 unfolding payloadText
-returns-5 c = (rw (c .before .before .before .before .enum-told5 .given .1) (c .before .before .put5 .ensures .0), omega (arith, c .before .before .put5 .ensures .1))
+returns-5 c = rw (c .before .before .before .before .enum-told5 .given .1) (c .before .before .put5 .ensures)
 
 pub put-payload-spec : {M : Type 1} → statement M
 put-payload-spec = tie.close (tie.spec (λ c. search needs) (λ c. search needs) (λ c. search needs) (λ c. search needs) (λ c. search needs) (λ c. search needs) (λ c. search needs) (λ c. search needs) (λ c. search needs) (λ c. search needs) (λ c. search needs) returns (λ c. search needs) returns-2 (λ c. search needs) returns-3 (λ c. search needs) returns-4 (λ c. search needs) returns-5)

@@ -14,8 +14,7 @@ slice-aggregate-put-payload c = sym (length-take-le _ _ (omega (arith, simp leng
 
 returns : tie.Need-returns
 unfolding spelledText
-returns c =
-    (rw (← spelled-front (c .before .before .before .before .before .before .before .before .before .before .before .before .before .args .line .now) (c .before .before .before .before .before .before .before .before .before .before .before .before .before .args .from) (c .before .before .before .before .before .before .before .before .before .before .before .before .before .args .digits) (c .before .before .before .before .before .before .before .before .before .before .payload-room .result) (c .before .before .before .before .before .before .before .before .before .before .before .before .before .pre .0) (c .before .before .before .before .before .before .before .before .before .before .before .before .before .pre .1) (c .before .before .before .before .before .before .before .before .before .before .payload-room .ensures) (c .before .before .before .before .before .before .before .unhex .ensures)) (c .before .before .put-payload .ensures .0), c .before .before .put-payload .ensures .1)
+returns c = rw (← spelled-front (c .before .before .before .before .before .before .before .before .before .before .before .before .before .args .line .now) (c .before .before .before .before .before .before .before .before .before .before .before .before .before .args .from) (c .before .before .before .before .before .before .before .before .before .before .before .before .before .args .digits) (c .before .before .before .before .before .before .before .before .before .before .payload-room .result) (c .before .before .before .before .before .before .before .before .before .before .before .before .before .pre .0) (c .before .before .before .before .before .before .before .before .before .before .before .before .before .pre .1) (c .before .before .before .before .before .before .before .before .before .before .payload-room .ensures) (c .before .before .before .before .before .before .before .unhex .ensures)) (c .before .before .put-payload .ensures)
 
 pub put-spelled-spec : {M : Type 1} → statement M
 put-spelled-spec = tie.close (tie.spec (λ c. search needs) (λ c. search needs) (λ c. search needs) (λ c. search needs) (λ c. search needs) (λ c. search needs) (λ c. search needs) (λ c. search needs) slice-aggregate-put-payload (λ c. search needs) (λ c. search needs) returns)

@@ -1,0 +1,34 @@
+-- No listing is longer than 524,288 bytes.
+-- Assumes nothing.
+use mathlib.Core.Path.{_≡_, refl}
+use mathlib.Core.List.{List}
+use Prim.Native.Nat.{ℕ, _/_, _≤_}
+use native.Mathlib.Omega.{arith}
+use lib.ListN.{length, take, drop}
+use Rattle.ascii.specs.Ascii.{ascii, unhexed}
+use Rattle.protocol.specs.declared.Version.{Version}
+use Rattle.rows.proofs.Lengths.{row-le}
+use Rattle.payload_rows.proofs.Lengths.{packet-le, version-le, registration-le, signal-le, services-le}
+use Rattle.request_line.specs.Request.{requestOf}
+use Rattle.request_line.specs.declared.ListingKind.{ListingKind}
+use Rattle.request_line.specs.declared.ListingKind.the-variants.{PacketService, Version as VersionKind, Registration, SignalState, DeviceServices}
+use Rattle.request_line.specs.declared.Request.{Request}
+use Rattle.request_line.specs.declared.Request.the-variants.{Payload, BadLine}
+use Rattle.listing.specs.Listing.{payloadText, spelledText, badLine, requestText, lineText}
+
+pub payload-le : (kind : ListingKind) (v : Version) (s : List ℕ) → length (payloadText kind v s) ≤ 524288
+unfolding payloadText
+payload-le PacketService v s = omega (arith, packet-le v s)
+payload-le VersionKind v s = omega (arith, version-le s)
+payload-le Registration v s = omega (arith, registration-le v s)
+payload-le SignalState v s = omega (arith, signal-le v s)
+payload-le DeviceServices v s = services-le s
+
+request-le : (s : List ℕ) (r : Request) → length (requestText s r) ≤ 524288
+unfolding requestText spelledText badLine
+request-le s (BadLine c) = omega (arith, row-le (ascii "bad line") c (omega arith))
+request-le s (Payload kind v from n) = payload-le kind v (unhexed (n / 2) (take n (drop from s)))
+
+pub listing-le : (s : List ℕ) → length (lineText s) ≤ 524288
+unfolding lineText
+listing-le s = request-le s (requestOf s)

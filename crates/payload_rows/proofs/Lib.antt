@@ -1,0 +1,4 @@
+pub mod Registrations
+pub mod Signals
+pub mod Services
+pub mod Lengths

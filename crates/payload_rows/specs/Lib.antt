@@ -1,0 +1,5 @@
+pub mod Packets
+pub mod Versions
+pub mod Registrations
+pub mod Signals
+pub mod Services

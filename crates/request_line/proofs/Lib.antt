@@ -1,0 +1,4 @@
+pub mod Requests
+pub mod Columns
+pub mod Exactly
+pub mod Cut

@@ -1,0 +1,61 @@
+-- How a request line is read: by its words, and then by its digits.
+-- In this order: the words; the digits; what a line asks for.
+use Prim.Native.Nat.{ℕ, _+_, _%_}
+use mathlib.Core.Bool.{Bool, cond, not}
+use mathlib.Core.List.{List, [], _∷_}
+use lib.Dec.{eqb}
+use lib.ListN.{length, getD, take, drop}
+use Rattle.ascii.specs.Ascii.{lineFeed, hexRun}
+use Rattle.text_parts.specs.Words.{WordRow, word, reachFrom}
+use Rattle.protocol.specs.declared.Version.{Version}
+use Rattle.protocol.specs.declared.Version.the-variants.{V1, V2}
+use Rattle.request_line.specs.Good.{kindText, versionText, mostDigits}
+use Rattle.request_line.specs.declared.ListingKind.{ListingKind}
+use Rattle.request_line.specs.declared.ListingKind.the-variants.{PacketService, Version as VersionKind, Registration, SignalState, DeviceServices}
+use Rattle.request_line.specs.declared.Request.{Request}
+use Rattle.request_line.specs.declared.Request.the-variants.{Payload, BadLine}
+use Rattle.text_parts.specs.declared.Reached.{Reached}
+use Rattle.text_parts.specs.declared.Reached.the-variants.{Word, Column}
+
+-- ---- the words, and the number of each in its table
+
+abbrev pub kindWords : List WordRow
+kindWords =
+    word (kindText PacketService) 0 ∷ word (kindText VersionKind) 1 ∷ word (kindText Registration) 2 ∷ word (kindText SignalState) 3 ∷ word (kindText DeviceServices) 4 ∷ []
+
+abbrev pub kindOf : ℕ → ListingKind
+kindOf n = cond (eqb n 0) PacketService (cond (eqb n 1) VersionKind (cond (eqb n 2) Registration (cond (eqb n 3) SignalState DeviceServices)))
+
+abbrev pub kindLength : ListingKind → ℕ
+kindLength kind = length (kindText kind)
+
+abbrev pub versionWords : List WordRow
+versionWords = word (versionText V1) 0 ∷ word (versionText V2) 1 ∷ []
+
+abbrev pub versionOf : ℕ → Version
+versionOf n = cond (eqb n 0) V1 V2
+
+-- ---- the digits: at most those of 8,192 bytes, an even number, and then the line feed that ends the line
+
+unfoldable pub digitsAt : List ℕ → ℕ → ℕ
+digitsAt s from = hexRun (take mostDigits (drop from s))
+
+unfoldable pub payloadAt : List ℕ → ListingKind → Version → ℕ → Request
+payloadAt s kind version from =
+    cond (eqb (digitsAt s from % 2) 1) (BadLine (from + digitsAt s from))
+    (cond (not (eqb (getD s (from + digitsAt s from) 0) lineFeed)) (BadLine (from + digitsAt s from))
+    (cond (not (eqb (length s) (from + digitsAt s from + 1))) (BadLine (from + digitsAt s from + 1))
+    (Payload kind version from (digitsAt s from))))
+
+-- ---- what a line asks for
+
+abbrev pub byVersion : List ℕ → ListingKind → ℕ → Reached → Request
+byVersion s kind at (Column c) = BadLine c
+byVersion s kind at (Word n) = payloadAt s kind (versionOf n) (at + 5)
+
+abbrev pub byKind : List ℕ → Reached → Request
+byKind s (Column c) = BadLine c
+byKind s (Word n) = byVersion s (kindOf n) (kindLength (kindOf n)) (reachFrom (Column (kindLength (kindOf n))) s (kindLength (kindOf n)) versionWords)
+
+unfoldable pub requestOf : List ℕ → Request
+requestOf s = byKind s (reachFrom (Column 0) s 0 kindWords)
