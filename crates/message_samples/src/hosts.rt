@@ -9,6 +9,7 @@ use culvertroost::hosts::cvr_host_receive;
 use flat::ends::HostInfo;
 use protocol::service::id_at;
 use sample_lines::answers::Asked;
+use sample_lines::answers::few;
 use sample_lines::answers::half_at;
 use sample_lines::answers::plain;
 use sample_lines::answers::short;
@@ -35,20 +36,13 @@ pub fn with_host(
 
 fn make(native: u16, host: &mut [u8]) -> Asked {
     let refusal = cvr_host_make(host, native);
-    let mut numbers = [0u32; 16];
-    numbers[0] = refusal.number;
-    numbers[1] = short(refusal.place);
-    plain(numbers)
+    plain(few(refusal.number, refusal.place, 0, 0, 0))
 }
 
 fn event(answer: HostInfo) -> Asked {
     let refusal = answer.refusal;
-    let mut numbers = [0u32; 16];
-    numbers[0] = refusal.number;
-    numbers[1] = short(refusal.place);
-    numbers[2] = answer.event;
-    numbers[3] = answer.version as u32;
-    plain(numbers)
+    let version = answer.version as u32;
+    plain(few(refusal.number, refusal.place, answer.event, version, 0))
 }
 
 fn next_command(arguments: &[u8], host: &[u8], out: &mut [u8]) -> Asked {
@@ -56,12 +50,13 @@ fn next_command(arguments: &[u8], host: &[u8], out: &mut [u8]) -> Asked {
     let answer = cvr_host_next_command(host, &mut out[..room]);
     let refusal = answer.refusal;
     let length = answer.length;
-    let mut numbers = [0u32; 16];
-    numbers[0] = refusal.number;
-    numbers[1] = short(refusal.place);
-    numbers[2] = answer.command;
-    numbers[3] = answer.version as u32;
-    numbers[4] = short(length);
+    let numbers = few(
+        refusal.number,
+        refusal.place,
+        answer.command,
+        answer.version as u32,
+        short(length),
+    );
     written(numbers, length)
 }
 

@@ -9,6 +9,7 @@ use message::MessageHeader;
 use protocol::service::ServiceId;
 use protocol::service::id_at;
 use sample_lines::answers::Asked;
+use sample_lines::answers::few;
 use sample_lines::answers::plain;
 use sample_lines::answers::short;
 use sample_lines::answers::word_at;
@@ -41,12 +42,13 @@ pub fn message_at(arguments: &[u8], place: u32, service: ServiceId) -> MessageHe
 fn judge(input: &[u8]) -> Asked {
     let answer = cvr_message_judge(input);
     let refusal = answer.refusal;
-    let mut numbers = [0u32; 16];
-    numbers[0] = refusal.number;
-    numbers[1] = short(refusal.place);
-    numbers[2] = answer.message_type;
-    numbers[3] = answer.transaction;
-    numbers[4] = answer.word;
+    let numbers = few(
+        refusal.number,
+        refusal.place,
+        answer.message_type,
+        answer.transaction,
+        answer.word,
+    );
     plain(numbers)
 }
 
@@ -58,10 +60,7 @@ fn write(arguments: &[u8], out: &mut [u8]) -> Asked {
     let answer = cvr_message_write(message_type, transaction, word, &mut out[..room]);
     let refusal = answer.refusal;
     let length = answer.length;
-    let mut numbers = [0u32; 16];
-    numbers[0] = refusal.number;
-    numbers[1] = short(refusal.place);
-    numbers[2] = short(length);
+    let numbers = few(refusal.number, refusal.place, short(length), 0, 0);
     written(numbers, length)
 }
 
@@ -74,18 +73,18 @@ fn cut(arguments: &[u8], input: &[u8], out: &mut [u8]) -> Asked {
     let answer = cvr_message_cut(message, size, &input[from..], &mut out[..room]);
     let refusal = answer.refusal;
     let length = answer.length;
-    let mut numbers = [0u32; 16];
-    numbers[0] = refusal.number;
-    numbers[1] = short(refusal.place);
-    numbers[2] = answer.count;
-    numbers[3] = short(length);
+    let numbers = few(
+        refusal.number,
+        refusal.place,
+        answer.count,
+        short(length),
+        0,
+    );
     written(numbers, length)
 }
 
 fn next_transaction(transaction: u32) -> Asked {
-    let mut numbers = [0u32; 16];
-    numbers[2] = cvr_transaction_next(transaction);
-    plain(numbers)
+    plain(few(0, 0, cvr_transaction_next(transaction), 0, 0))
 }
 
 fn kind(arguments: &[u8], input: &[u8]) -> Asked {
@@ -98,9 +97,5 @@ fn kind(arguments: &[u8], input: &[u8]) -> Asked {
     };
     let answer = cvr_payload_kind(message);
     let refusal = answer.refusal;
-    let mut numbers = [0u32; 16];
-    numbers[0] = refusal.number;
-    numbers[1] = short(refusal.place);
-    numbers[2] = answer.kind;
-    plain(numbers)
+    plain(few(refusal.number, refusal.place, answer.kind, 0, 0))
 }

@@ -9,6 +9,7 @@ use flat::ends::ModemInfo;
 use protocol::Refusal;
 use protocol::service::id_at;
 use sample_lines::answers::Asked;
+use sample_lines::answers::few;
 use sample_lines::answers::half_at;
 use sample_lines::answers::plain;
 use sample_lines::answers::short;
@@ -33,10 +34,7 @@ pub fn with_modem(
 }
 
 fn done(refusal: Refusal) -> Asked {
-    let mut numbers = [0u32; 16];
-    numbers[0] = refusal.number;
-    numbers[1] = short(refusal.place);
-    plain(numbers)
+    plain(few(refusal.number, refusal.place, 0, 0, 0))
 }
 
 // Lends the front of the memory. The input is the list of services.
@@ -59,15 +57,24 @@ fn receive(arguments: &[u8], input: &[u8], modem: &mut [u8], out: &mut [u8]) -> 
 fn taken(answer: ModemInfo) -> Asked {
     let refusal = answer.refusal;
     let length = answer.length;
-    let mut numbers = [0u32; 16];
-    numbers[0] = refusal.number;
-    numbers[1] = short(refusal.place);
-    numbers[2] = answer.action;
-    numbers[3] = answer.status;
-    numbers[4] = answer.kind;
-    numbers[5] = answer.version as u32;
-    numbers[6] = short(answer.place);
-    numbers[7] = short(length);
+    let numbers = [
+        refusal.number,
+        short(refusal.place),
+        answer.action,
+        answer.status,
+        answer.kind,
+        answer.version as u32,
+        short(answer.place),
+        short(length),
+        0,
+        0,
+        0,
+        0,
+        0,
+        0,
+        0,
+        0,
+    ];
     written(numbers, length)
 }
 

@@ -4,6 +4,7 @@ use culvertroost::assembly::cvr_assembly_empty;
 use culvertroost::assembly::cvr_receive;
 use flat::messages::ReceiveInfo;
 use sample_lines::answers::Asked;
+use sample_lines::answers::few;
 use sample_lines::answers::plain;
 use sample_lines::answers::short;
 use sample_lines::answers::word_at;
@@ -38,29 +39,30 @@ fn received(answer: ReceiveInfo) -> Asked {
     let message = answer.message;
     let service = message.service;
     let length = answer.length;
-    let mut numbers = [0u32; 16];
-    numbers[0] = refusal.number;
-    numbers[1] = short(refusal.place);
-    numbers[2] = answer.received;
-    numbers[3] = answer.dropped;
-    numbers[4] = message.message_type;
-    numbers[5] = message.transaction;
-    numbers[6] = service.word0;
-    numbers[7] = service.word1;
-    numbers[8] = service.word2;
-    numbers[9] = service.word3;
-    numbers[10] = message.cid;
-    numbers[11] = message.word;
-    numbers[12] = short(length);
+    let numbers = [
+        refusal.number,
+        short(refusal.place),
+        answer.received,
+        answer.dropped,
+        message.message_type,
+        message.transaction,
+        service.word0,
+        service.word1,
+        service.word2,
+        service.word3,
+        message.cid,
+        message.word,
+        short(length),
+        0,
+        0,
+        0,
+    ];
     written(numbers, length)
 }
 
 fn empty(state: &mut [u8]) -> Asked {
     let refusal = cvr_assembly_empty(state);
-    let mut numbers = [0u32; 16];
-    numbers[0] = refusal.number;
-    numbers[1] = short(refusal.place);
-    plain(numbers)
+    plain(few(refusal.number, refusal.place, 0, 0, 0))
 }
 
 fn show(state: &[u8], out: &mut [u8]) -> Asked {

@@ -12,6 +12,7 @@ use libc::STDIN_FILENO;
 use libc::STDOUT_FILENO;
 use listing::lines::collect;
 use sample_lines::answers::Asked;
+use sample_lines::answers::few;
 use sample_lines::answers::plain;
 ghost use Prim.Native.Nat.{_≤_};
 
@@ -142,7 +143,5 @@ fn least(a: usize, b: usize) -> usize
 
 // No such question: no line says that.
 fn no_question() -> Asked {
-    let mut numbers = [0u32; 16];
-    numbers[0] = 0xFFFF_FFFF;
-    plain(numbers)
+    plain(few(0xFFFF_FFFF, 0, 0, 0, 0))
 }

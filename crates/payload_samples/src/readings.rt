@@ -4,8 +4,8 @@ use culvertroost::quality::cvr_rsrp;
 use culvertroost::quality::cvr_snr;
 use flat::quality::ReadingInfo;
 use sample_lines::answers::Asked;
+use sample_lines::answers::few;
 use sample_lines::answers::plain;
-use sample_lines::answers::short;
 
 const DBM: u32 = 1;
 
@@ -21,12 +21,8 @@ pub fn reading(question: u8, code: u32) -> Asked {
 
 fn shown(answer: ReadingInfo) -> Asked {
     let refusal = answer.refusal;
-    let mut numbers = [0u32; 16];
-    numbers[0] = refusal.number;
-    numbers[1] = short(refusal.place);
-    numbers[2] = answer.kind;
-    numbers[3] = value_of(answer.kind, answer.value);
-    plain(numbers)
+    let value = value_of(answer.kind, answer.value);
+    plain(few(refusal.number, refusal.place, answer.kind, value, 0))
 }
 
 // A reading that has a value shows it.
@@ -58,10 +54,11 @@ fn doubled(value: f32) -> u32 {
 fn bars(code: u32) -> Asked {
     let answer = cvr_bars(code);
     let refusal = answer.refusal;
-    let mut numbers = [0u32; 16];
-    numbers[0] = refusal.number;
-    numbers[1] = short(refusal.place);
-    numbers[2] = answer.reading;
-    numbers[3] = answer.bars;
-    plain(numbers)
+    plain(few(
+        refusal.number,
+        refusal.place,
+        answer.reading,
+        answer.bars,
+        0,
+    ))
 }

@@ -6,6 +6,7 @@ use culvertroost::services::cvr_device_services_read;
 use culvertroost::signals::cvr_signal_state_read;
 use culvertroost::versions::cvr_version_info_read;
 use sample_lines::answers::Asked;
+use sample_lines::answers::few;
 use sample_lines::answers::half_at;
 use sample_lines::answers::plain;
 use sample_lines::answers::short;
@@ -26,24 +27,9 @@ fn version_read(input: &[u8]) -> Asked {
     let answer = cvr_version_info_read(input);
     let refusal = answer.refusal;
     let info = answer.info;
-    plain([
-        refusal.number,
-        short(refusal.place),
-        info.bcd_mbim_version as u32,
-        info.bcd_mbim_extended_version as u32,
-        0,
-        0,
-        0,
-        0,
-        0,
-        0,
-        0,
-        0,
-        0,
-        0,
-        0,
-        0,
-    ])
+    let mbim = info.bcd_mbim_version as u32;
+    let extension = info.bcd_mbim_extended_version as u32;
+    plain(few(refusal.number, refusal.place, mbim, extension, 0))
 }
 
 fn packet_read(version: u16, input: &[u8]) -> Asked {
@@ -147,24 +133,14 @@ fn services_read(input: &[u8]) -> Asked {
     let answer = cvr_device_services_read(input);
     let refusal = answer.refusal;
     let info = answer.info;
-    plain([
+    let count = info.device_services_count;
+    plain(few(
         refusal.number,
-        short(refusal.place),
-        info.device_services_count,
+        refusal.place,
+        count,
         info.max_dss_sessions,
         0,
-        0,
-        0,
-        0,
-        0,
-        0,
-        0,
-        0,
-        0,
-        0,
-        0,
-        0,
-    ])
+    ))
 }
 
 fn low(n: u64) -> u32 {

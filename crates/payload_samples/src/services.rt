@@ -9,6 +9,7 @@ use flat::WrittenAnswer;
 use flat::services::ElementInfo;
 use protocol::service::id_at;
 use sample_lines::answers::Asked;
+use sample_lines::answers::few;
 use sample_lines::answers::plain;
 use sample_lines::answers::short;
 use sample_lines::answers::word_at;
@@ -21,17 +22,24 @@ pub fn element(question: u8, arguments: &[u8], input: &[u8], list: &mut [u32]) -
     let refusal = answer.refusal;
     let element = answer.element;
     let service = element.device_service_id;
-    let mut numbers = [0u32; 16];
-    numbers[0] = refusal.number;
-    numbers[1] = short(refusal.place);
-    numbers[2] = answer.listed;
-    numbers[3] = service.word0;
-    numbers[4] = service.word1;
-    numbers[5] = service.word2;
-    numbers[6] = service.word3;
-    numbers[7] = element.dss_payload;
-    numbers[8] = element.max_dss_instances;
-    numbers[9] = element.cid_count;
+    let numbers = [
+        refusal.number,
+        short(refusal.place),
+        answer.listed,
+        service.word0,
+        service.word1,
+        service.word2,
+        service.word3,
+        element.dss_payload,
+        element.max_dss_instances,
+        element.cid_count,
+        0,
+        0,
+        0,
+        0,
+        0,
+        0,
+    ];
     Asked {
         numbers,
         count: 10,
@@ -55,11 +63,7 @@ pub fn listed(arguments: &[u8], input: &[u8]) -> Asked {
     let from = least(16, input.len());
     let answer = cvr_device_services_listed(&input[from..], service, word_at(arguments, 1));
     let refusal = answer.refusal;
-    let mut numbers = [0u32; 16];
-    numbers[0] = refusal.number;
-    numbers[1] = short(refusal.place);
-    numbers[2] = answer.listed;
-    plain(numbers)
+    plain(few(refusal.number, refusal.place, answer.listed, 0, 0))
 }
 
 pub fn services_write(arguments: &[u8], input: &[u8], out: &mut [u8]) -> WrittenAnswer {

@@ -10,6 +10,7 @@ use flat::packets::PacketServiceInfo;
 use flat::registrations::RegistrationInfo;
 use flat::signals::SignalStateInfo;
 use sample_lines::answers::Asked;
+use sample_lines::answers::few;
 use sample_lines::answers::half_at;
 use sample_lines::answers::short;
 use sample_lines::answers::word_at;
@@ -24,10 +25,7 @@ pub fn write(question: u8, arguments: &[u8], input: &[u8], out: &mut [u8]) -> As
     let answer = write_payload(question, arguments, input, out);
     let refusal = answer.refusal;
     let length = answer.length;
-    let mut numbers = [0u32; 16];
-    numbers[0] = refusal.number;
-    numbers[1] = short(refusal.place);
-    numbers[2] = short(length);
+    let numbers = few(refusal.number, refusal.place, short(length), 0, 0);
     written(numbers, length)
 }
 

@@ -30,12 +30,35 @@ nextAfter line from n end =
 unfoldable pub fieldNext : List ℕ → ℕ → ℕ → ℕ
 fieldNext line from end = nextAfter line from (digitsAt line from) end
 
+-- ---- the five fields
+
+abbrev pub tab : ℕ
+tab = 9
+
+abbrev pub lineFeed : ℕ
+lineFeed = 10
+
 -- where the field with a number stands; each but the last ends at a tab
 unfoldable pub fieldAt : List ℕ → ℕ → ℕ
 fieldAt line zero = 0
-fieldAt line (suc k) = fieldNext line (fieldAt line k) 9
+fieldAt line (suc k) = fieldNext line (fieldAt line k) tab
+
+-- the last ends at a line feed, and the line with it
+abbrev pub isLine : List ℕ → Bool
+isLine line = eqb (fieldNext line (fieldAt line 4) lineFeed) (length line)
+
+-- the bytes of the field with a number
+abbrev pub field : List ℕ → ℕ → List ℕ
+field line k = fieldBytes line (fieldAt line k)
 
 -- ---- what a call left, and what its line says
+
+-- a byte of the output and a word of the list before a call
+abbrev pub untouched : ℕ
+untouched = 170
+
+abbrev pub untouchedWord : ℕ
+untouchedWord = 2863311530
 
 -- the first n words are those of s from the word `at` on
 unfoldable pub sameWords : List ℕ → ℕ → List ℕ → ℕ → Bool
@@ -51,11 +74,11 @@ filledWith s from b = not (anyOf (λ k. leb from k && not (eqb (getD s k 0) b)) 
 
 -- the list's numbers are those behind the first `count` of the answer, in which nothing else stands; past them the list is as it was
 unfoldable pub isListed : ℕ → ℕ → List ℕ → List ℕ → Bool
-isListed count listed list answer = sameWords list listed answer count && (filledWith answer (4 * (count + listed)) 0 && filledWith list listed 2863311530)
+isListed count listed list answer = sameWords list listed answer count && (filledWith answer (4 * (count + listed)) 0 && filledWith list listed untouchedWord)
 
 -- the output is what the line says, and past it as it was
 unfoldable pub isOutput : ℕ → List ℕ → List ℕ → Bool
-isOutput written out output = sameBytes out output written && (filledWith output written 0 && filledWith out written 170)
+isOutput written out output = sameBytes out output written && (filledWith output written 0 && filledWith out written untouched)
 
 unfoldable pub isAnswer : Asked → List ℕ → List ℕ → List ℕ → List ℕ → Bool
 isAnswer asked list out answer output =

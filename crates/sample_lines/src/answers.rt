@@ -2,9 +2,9 @@
 use wire::u16_at;
 use wire::u32_at;
 ghost use mathlib.Core.Path.{_≡_};
-ghost use Prim.Native.Nat.{_*_, min};
+ghost use Prim.Native.Nat.{_*_};
 ghost use Rattle.wire.specs.Numbers.{u16At, u32At};
-ghost use Rattle.sample_lines.specs.Answers.{plainAnswer, writtenAnswer};
+ghost use Rattle.sample_lines.specs.Answers.{asWord, fewNumbers, plainAnswer, writtenAnswer};
 
 // An answer: its numbers, of which the first `count` count, how many bytes of the output belong to
 // it, and how many numbers of the list.
@@ -29,12 +29,36 @@ pub fn half_at(arguments: &[u8], place: u32) -> u16
 
 // A number as a word; the largest word stands for all that are none.
 pub fn short(n: usize) -> u32
-    ensures { λ r. ⌜ r ≡ min n 4294967295 ⌝ }
+    ensures { λ r. ⌜ r ≡ asWord n ⌝ }
 {
     if 4294967295 < n {
         return 4294967295;
     }
     n as u32
+}
+
+// The numbers of an answer that has three at most beside a refusal's number and place.
+pub fn few(number: u32, place: usize, a: u32, b: u32, c: u32) -> [u32; 16]
+    ensures { λ r. ⌜ r ≡ fewNumbers number place a b c ⌝ }
+{
+    [
+        number,
+        short(place),
+        a,
+        b,
+        c,
+        0,
+        0,
+        0,
+        0,
+        0,
+        0,
+        0,
+        0,
+        0,
+        0,
+        0,
+    ]
 }
 
 // An answer of numbers alone.

@@ -9,10 +9,9 @@ use wire::byte_at;
 use wire::u32_at;
 ghost use mathlib.Core.Path.{_≡_};
 ghost use mathlib.Core.Bool.{_&&_};
-ghost use lib.ListN.{length, getD};
+ghost use lib.ListN.{getD};
 ghost use lib.Seq.{sets};
-ghost use lib.Dec.{eqb};
-ghost use Rattle.sample_lines.specs.Lines.{digitsAt, fieldBytes, nextAfter, fieldNext, fieldAt, sameWords, sameBytes, filledWith, isListed, isOutput, isAnswer};
+ghost use Rattle.sample_lines.specs.Lines.{digitsAt, fieldBytes, nextAfter, fieldNext, isLine, field, sameWords, sameBytes, filledWith, isListed, isOutput, isAnswer};
 
 // What stands in the output and the list before a call.
 pub const UNTOUCHED: u8 = 0xAA;
@@ -36,12 +35,12 @@ pub fn read_line(
     answer: &mut [u8; 16640],
     output: &mut [u8; 16640],
 ) -> bool
-    ensures { λ r. ⌜ r ≡ eqb (fieldNext (now (line .entry)) (fieldAt (now (line .entry)) 4) 10) (length (now (line .entry))) ⌝ }
-    ensures { λ _. ⌜ now (question .exit) ≡ sets (now (question .entry)) 0 (fieldBytes (now (line .entry)) (fieldAt (now (line .entry)) 0)) ⌝ }
-    ensures { λ _. ⌜ now (arguments .exit) ≡ sets (now (arguments .entry)) 0 (fieldBytes (now (line .entry)) (fieldAt (now (line .entry)) 1)) ⌝ }
-    ensures { λ _. ⌜ now (input .exit) ≡ sets (now (input .entry)) 0 (fieldBytes (now (line .entry)) (fieldAt (now (line .entry)) 2)) ⌝ }
-    ensures { λ _. ⌜ now (answer .exit) ≡ sets (now (answer .entry)) 0 (fieldBytes (now (line .entry)) (fieldAt (now (line .entry)) 3)) ⌝ }
-    ensures { λ _. ⌜ now (output .exit) ≡ sets (now (output .entry)) 0 (fieldBytes (now (line .entry)) (fieldAt (now (line .entry)) 4)) ⌝ }
+    ensures { λ r. ⌜ r ≡ isLine (now (line .entry)) ⌝ }
+    ensures { λ _. ⌜ now (question .exit) ≡ sets (now (question .entry)) 0 (field (now (line .entry)) 0) ⌝ }
+    ensures { λ _. ⌜ now (arguments .exit) ≡ sets (now (arguments .entry)) 0 (field (now (line .entry)) 1) ⌝ }
+    ensures { λ _. ⌜ now (input .exit) ≡ sets (now (input .entry)) 0 (field (now (line .entry)) 2) ⌝ }
+    ensures { λ _. ⌜ now (answer .exit) ≡ sets (now (answer .entry)) 0 (field (now (line .entry)) 3) ⌝ }
+    ensures { λ _. ⌜ now (output .exit) ≡ sets (now (output .entry)) 0 (field (now (line .entry)) 4) ⌝ }
 {
     let first = read_field(line, 0, TAB, &mut question[..]);
     let second = read_field(line, first, TAB, &mut arguments[..]);

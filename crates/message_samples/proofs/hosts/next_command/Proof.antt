@@ -10,4 +10,4 @@ slice-aggregate-cvr-host-next-command : tie.Need-slice-aggregate-cvr-host-next-c
 slice-aggregate-cvr-host-next-command c = sym (length-take-le _ _ (omega (arith, c .before .least .ensures)))
 
 pub next-command-spec : {M : Type 1} → statement M
-next-command-spec = tie.close (tie.spec (λ c. search needs) (λ c. search needs) (λ c. search needs) (λ c. search needs) slice-aggregate-cvr-host-next-command (λ c. search needs) (λ c. search needs) (λ c. search needs) (λ c. search needs) (λ c. search needs) (λ c. search needs) (λ c. search needs) (λ c. search needs) (λ c. search needs) (λ c. search needs) (λ c. search needs) (λ c. search needs))
+next-command-spec = tie.close (tie.spec (λ c. search needs) (λ c. search needs) (λ c. search needs) (λ c. search needs) slice-aggregate-cvr-host-next-command (λ c. search needs) (λ c. search needs) (λ c. search needs) (λ c. search needs) (λ c. search needs) (λ c. search needs) (λ c. search needs))
