@@ -8,7 +8,8 @@ use lib.ListN.{length, take, drop}
 use Rattle.ascii.specs.Ascii.{ascii, unhexed}
 use Rattle.protocol.specs.declared.Version.{Version}
 use Rattle.rows.proofs.Lengths.{row-le}
-use Rattle.payload_rows.proofs.Lengths.{packet-le, version-le, registration-le, signal-le, services-le}
+use Rattle.payload_rows.proofs.Lengths.{packet-le, version-le, registration-le}
+use Rattle.entry_rows.proofs.Lengths.{signal-le, services-le}
 use Rattle.request_line.specs.Request.{requestOf}
 use Rattle.request_line.specs.declared.ListingKind.{ListingKind}
 use Rattle.request_line.specs.declared.ListingKind.the-variants.{PacketService, Version as VersionKind, Registration, SignalState, DeviceServices}

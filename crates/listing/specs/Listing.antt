@@ -14,8 +14,8 @@ use Rattle.rows.specs.Rows.{row}
 use Rattle.payload_rows.specs.Packets.{packetText}
 use Rattle.payload_rows.specs.Versions.{versionText}
 use Rattle.payload_rows.specs.Registrations.{registrationText}
-use Rattle.payload_rows.specs.Signals.{signalText}
-use Rattle.payload_rows.specs.Services.{servicesText}
+use Rattle.entry_rows.specs.Signals.{signalText}
+use Rattle.entry_rows.specs.Services.{servicesText}
 use Rattle.request_line.specs.Request.{requestOf}
 use Rattle.request_line.specs.declared.ListingKind.{ListingKind}
 use Rattle.request_line.specs.declared.ListingKind.the-variants.{PacketService as PacketKind, Version as VersionKind, Registration as RegistrationKind, SignalState as SignalKind, DeviceServices as ServicesKind}

@@ -3,10 +3,10 @@
 pub mod lines;
 
 use ascii::unhex;
+use entry_rows::services_rows;
+use entry_rows::signal_rows;
 use payload_rows::packet_rows;
 use payload_rows::registration_rows;
-use payload_rows::services_rows;
-use payload_rows::signal_rows;
 use payload_rows::version_rows;
 use protocol::Version;
 use request_line::ListingKind;

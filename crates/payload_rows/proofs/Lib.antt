@@ -1,4 +1,2 @@
 pub mod Registrations
-pub mod Signals
-pub mod Services
 pub mod Lengths

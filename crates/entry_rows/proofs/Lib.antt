@@ -1,0 +1,3 @@
+pub mod Signals
+pub mod Services
+pub mod Lengths
