@@ -1,6 +1,7 @@
 // The DEVICE_SERVICES payload: its reader, the judge of one element, and an element's fields.
 // Questions to the list and the writer stand in crates of their own.
 use pairs::lists::ListForm;
+use pairs::lists::judge_lists;
 use protocol::Refusal;
 use protocol::TOO_SHORT;
 use protocol::Verdict;
@@ -12,9 +13,9 @@ use protocol::service::ServiceId;
 use protocol::service::id_at;
 use wire::u32_at;
 ghost use mathlib.Core.Path.{_≡_};
+ghost use Prim.Native.Nat.{_≤_};
 ghost use lib.ListN.{length};
-ghost use Rattle.below.specs.Below.{firstFault};
-ghost use Rattle.device_services.specs.DeviceServices.{countOf, headAt, pairPlace, offsetOf, cidCountAt, elementAt, cidAt, lengthVerdict, elementVerdict, elementJudged, verdictOf, readOf};
+ghost use Rattle.device_services.specs.DeviceServices.{countOf, headAt, pairPlace, offsetOf, cidCountAt, elementAt, cidAt, lengthVerdict, elementJudged, verdictOf, readOf};
 
 // What stands before the pairs.
 #[repr(C)]
@@ -99,7 +100,7 @@ pub fn judge_list(payload: &[u8]) -> Verdict
     match judge_length(payload) {
         Verdict::Fits => {
             let count = judged_count(payload);
-            judge_elements(payload, PAIRS + PAIR_SIZE * count, count)
+            judge_lists(payload, listed_place(count), PAIRS, count, ELEMENT)
         }
         Verdict::Fault(refusal) => Verdict::Fault(refusal),
     }
@@ -133,7 +134,8 @@ pub fn judge_element(payload: &[u8], number: u32) -> ElementJudged
     if count <= number {
         return ElementJudged::NotListed;
     }
-    match judge_numbered(payload, PAIRS + PAIR_SIZE * count, number) {
+    let fixed = listed_place(count);
+    match pairs::lists::judge_list(payload, fixed, listed_place(number), ELEMENT) {
         Verdict::Fits => ElementJudged::Fits,
         Verdict::Fault(refusal) => ElementJudged::Refused(refusal),
     }
@@ -198,24 +200,10 @@ fn head_at(payload: &[u8]) -> DeviceServices
     }
 }
 
-// Each pair with its element, up to the first fault; `fixed` is the list's fixed part.
-fn judge_elements(payload: &[u8], fixed: u32, count: u32) -> Verdict
-    ensures { λ r. ⌜ r ≡ firstFault (elementVerdict (now (payload .entry)) fixed) count ⌝ }
+// `pair_place` of a number that a list can have; of the count, where its fixed part ends.
+fn listed_place(number: u32) -> u32
+    requires { ⌜ number ≤ 32 ⌝ }
+    ensures { λ r. ⌜ r ≡ pairPlace number ⌝ }
 {
-    let mut i: u32 = 0;
-    while i < count {
-        let verdict = judge_numbered(payload, fixed, i);
-        if let Verdict::Fault(refusal) = verdict {
-            return Verdict::Fault(refusal);
-        }
-        i += 1;
-    }
-    Verdict::Fits
-}
-
-// The verdict on one pair and its element, in a list that has them.
-fn judge_numbered(payload: &[u8], fixed: u32, number: u32) -> Verdict
-    ensures { λ r. ⌜ r ≡ elementVerdict (now (payload .entry)) fixed number ⌝ }
-{
-    pairs::lists::judge_list(payload, fixed, pair_place(number), ELEMENT)
+    PAIRS + PAIR_SIZE * number
 }

@@ -10,6 +10,7 @@ use Rattle.wire.specs.Numbers.{u32At}
 use Rattle.protocol.specs.Refusal.{wrongSize, wrongCount}
 use Rattle.protocol.specs.Verdict.{Rule, rule, judge, firstOf}
 use Rattle.protocol.specs.declared.Verdict.{Verdict}
+use Rattle.below.specs.Below.{firstFault}
 use Rattle.pairs.specs.Pair.{rangeAt, verdictOf}
 use Rattle.pairs.specs.declared.Range.{Range}
 use Rattle.pairs.specs.declared.PairKind.the-variants.{List as ListKind}
@@ -49,3 +50,7 @@ abbrev pub listVerdict : ListForm → ℕ → ℕ → List ℕ → Verdict
 listVerdict f fixed place s =
     firstOf (verdictOf ListKind fixed (f .limit) place (length s) (rangeAt s place))
     (judge (listRules f place (rangeAt s place) (countIn f s (rangeAt s place))))
+
+-- the first `count` of the pairs that stand one behind another from `place` on, each with its list
+abbrev pub listsVerdict : ListForm → ℕ → ℕ → List ℕ → ℕ → Verdict
+listsVerdict f fixed place s count = firstFault (λ i. listVerdict f fixed (place + 8 * i) s) count

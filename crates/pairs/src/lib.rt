@@ -22,6 +22,9 @@ pub struct Range {
     pub length: u32,
 }
 
+// The bytes of a pair.
+const PAIR_SIZE: usize = 8;
+
 // What a pair is of: a text has an even size.
 pub enum PairKind {
     Text,
@@ -107,7 +110,7 @@ fn judge(
     also(aligned, length < end, PAST_END, place)
 }
 
-// The pair at a place of a payload.
+// The pair at a place of a payload: where all of it is there, one test serves.
 fn range_at(payload: &[u8], place: usize) -> Range
     ensures { λ r. ⌜ r ≡ rangeAt (now (payload .entry)) place ⌝ }
 {
@@ -117,9 +120,16 @@ fn range_at(payload: &[u8], place: usize) -> Range
             length: 0,
         };
     }
+    if payload.len() - place < PAIR_SIZE {
+        return Range {
+            start: u32_at(payload, place),
+            length: u32_at(payload, place + 4),
+        };
+    }
+    let pair = &payload[place..place + PAIR_SIZE];
     Range {
-        start: u32_at(payload, place),
-        length: u32_at(payload, place + 4),
+        start: u32_at(pair, 0),
+        length: u32_at(pair, 4),
     }
 }
 

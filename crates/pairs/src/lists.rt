@@ -1,5 +1,6 @@
 // A list behind a pair: a count, and as many elements of one size. What stands in an element is
 // judged where it is known.
+use crate::PAIR_SIZE;
 use crate::PairKind;
 use crate::Range;
 use crate::judge;
@@ -14,7 +15,7 @@ ghost use mathlib.Core.Path.{_≡_};
 ghost use mathlib.Core.Bool.{false};
 ghost use Rattle.protocol.specs.Verdict.{judge as judged};
 ghost use Rattle.pairs.specs.Pair.{rangeAt};
-ghost use Rattle.pairs.specs.Lists.{absentIn, countIn, outside, listRules, listVerdict};
+ghost use Rattle.pairs.specs.Lists.{absentIn, countIn, outside, listRules, listVerdict, listsVerdict};
 
 // What lists of one kind are like.
 pub struct ListForm {
@@ -34,7 +35,40 @@ pub struct ListForm {
 }
 
 // The verdict on the pair at `place` of a payload with a fixed part, and on its list.
-pub fn judge_list(payload: &[u8], fixed: u32, place: usize, form: ListForm) -> Verdict
+pub fn judge_list(payload: &[u8], fixed: u32, place: u32, form: ListForm) -> Verdict
+    ensures { λ r. ⌜ r ≡ listVerdict form fixed place (now (payload .entry)) ⌝ }
+{
+    judge_lists(payload, fixed, place, 1, form)
+}
+
+// The same of `count` pairs that stand one behind another from `place` on, up to the first fault.
+pub fn judge_lists(payload: &[u8], fixed: u32, place: u32, count: u32, form: ListForm) -> Verdict
+    ensures { λ r. ⌜ r ≡ listsVerdict form fixed place (now (payload .entry)) count ⌝ }
+{
+    let mut i: u32 = 0;
+    while i < count {
+        let at = place as usize + PAIR_SIZE * i as usize;
+        let verdict = judge_one(payload, fixed, at, form);
+        if let Verdict::Fault(refusal) = verdict {
+            return Verdict::Fault(refusal);
+        }
+        i += 1;
+    }
+    Verdict::Fits
+}
+
+// How many elements the list has that was judged before.
+pub fn judged_list_count(payload: &[u8], place: u32, form: ListForm) -> u32
+    ensures { λ r. ⌜ r ≡ countIn form (now (payload .entry)) (rangeAt (now (payload .entry)) place) ⌝ }
+{
+    let pair = range_at(payload, place as usize);
+    if is_absent(form, pair) {
+        return 0;
+    }
+    u32_at(payload, pair.start as usize + form.count_place as usize)
+}
+
+fn judge_one(payload: &[u8], fixed: u32, place: usize, form: ListForm) -> Verdict
     ensures { λ r. ⌜ r ≡ listVerdict form fixed place (now (payload .entry)) ⌝ }
 {
     let pair = range_at(payload, place);
@@ -53,17 +87,6 @@ pub fn judge_list(payload: &[u8], fixed: u32, place: usize, form: ListForm) -> V
         return Verdict::Fits;
     }
     judge_count(payload, place, form, pair)
-}
-
-// How many elements the list has that was judged before.
-pub fn judged_list_count(payload: &[u8], place: usize, form: ListForm) -> u32
-    ensures { λ r. ⌜ r ≡ countIn form (now (payload .entry)) (rangeAt (now (payload .entry)) place) ⌝ }
-{
-    let pair = range_at(payload, place);
-    if is_absent(form, pair) {
-        return 0;
-    }
-    u32_at(payload, pair.start as usize + form.count_place as usize)
 }
 
 // A list that is there: its least size, its count, and its size against its count.

@@ -5,14 +5,13 @@ use mathlib.Core.Logic.{_⊎_, inl, inr, ⊎-map, ⊎-elim}
 use mathlib.Core.Bool.{cond}
 use mathlib.Core.List.{List, [], _∷_, _++_, append-assoc, append-nil}
 use Prim.Native.Nat.{ℕ, zero, suc, _+_, _*_, _-_, _≤_, _<_}
-use native.Mathlib.Nat.{add-zero, add-suc}
 use native.Mathlib.Numerals.{add-one}
 use native.Mathlib.Omega.{arith}
 use borrow.Author.Tests.{eqb-true, eq-eqb, ne-eqb}
 use lib.Dec.{eqb}
-use lib.ListN.{length, set, take, drop, length-append}
-use lib.Seq.{sets, set-at, getD-take, getD-drop}
-use Rattle.wire.specs.Numbers.{num, u32At, digits}
+use lib.ListN.{length, set, length-append}
+use lib.Seq.{sets, set-at}
+use Rattle.wire.specs.Numbers.{digits}
 use Rattle.wire.proofs.Laws.{sets-then}
 use Rattle.protocol.specs.Refusal.{wrongSize, contradiction}
 use Rattle.protocol.specs.Verdict.{judge, firstOf, faultIf, openLength, Writing, writing}
@@ -98,21 +97,6 @@ list-within s e =
     let long = open-length 28 (length s) (left-fits (openLength 28 (length s)) _ e) .0 in
     let k = behind-said listForm 28 20 s (listed s e) in
     within s (rangeAt s 20) (countAt s) long (k .0 .safe) (⊎-map (λ a. (rw a refl, eqb-true (rangeAt s 20 .length) 0 a)) (λ w. w) (k .1))
-
--- a number of a part is the number at its place
-pub num-in : (m n : ℕ) (s : List ℕ) (at k : ℕ) → k + m ≤ n → num m (take n (drop at s)) k ≡ num m s (at + k)
-num-in zero n s at k h = refl
-num-in (suc m) n s at k h =
-    let byte = getD-take n (drop at s) k 0 (omega arith) ∙ getD-drop at s k 0 in
-    let rest = num-in m n s at (suc k) (omega arith) ∙ ap (num m s) (add-suc at k) in
-    omega (arith, byte, rest)
-
-pub word-in : (s : List ℕ) (at k : ℕ) {v : ℕ} → k + 4 ≤ 20 → v ≡ u32At (take (at + 20 - at) (drop at s)) k → v ≡ u32At s (at + k)
-unfolding u32At
-word-in s at k h e = e ∙ num-in 4 (at + 20 - at) s at k (omega arith)
-
-pub first-in : (s : List ℕ) (at : ℕ) {v : ℕ} → v ≡ u32At (take (at + 20 - at) (drop at s)) 0 → v ≡ u32At s at
-first-in s at e = word-in s at 0 (omega arith) e ∙ ap (u32At s) (add-zero at)
 
 -- ---- lengths
 

@@ -168,7 +168,7 @@ fn read_listed(s: &[u8]) -> SignalStateShown
 {
     match judge_head(s) {
         Verdict::Fits => {
-            let count = judged_list_count(s, RSRP_SNR, LIST);
+            let count = judged_list_count(s, RSRP_SNR as u32, LIST);
             read_entries(s, u32_at(s, RSRP_SNR), count)
         }
         Verdict::Fault(refusal) => refuse(refusal),
@@ -182,7 +182,7 @@ fn judge_head(s: &[u8]) -> Verdict
         return Verdict::Fault(refusal);
     }
     let numbers = judge_numbers(u32_at(s, RSSI), u32_at(s, ERROR_RATE));
-    let list = judge_list(s, FIXED_PART_V2, RSRP_SNR, LIST);
+    let list = judge_list(s, FIXED_PART_V2, RSRP_SNR as u32, LIST);
     first(numbers, list)
 }
 

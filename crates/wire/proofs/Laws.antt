@@ -8,8 +8,8 @@ use native.Mathlib.Nat.{zero-add, add-zero, add-suc, suc-add}
 use native.Mathlib.Numerals.{add-one}
 use native.Mathlib.Omega.{arith}
 use lib.ListN.{length, getD, set, take, drop, List·getD-eq-default, length-append, length-drop, replicate, replicate-append-replicate}
-use lib.Seq.{sets, length-sets, sets-eq, set-out, getD-set-other, length-take-le, take-suc, take-all, take-length, take-at, drop-at}
-use Rattle.wire.specs.Numbers.{num, digits}
+use lib.Seq.{sets, length-sets, sets-eq, set-out, getD-set-other, getD-take, getD-drop, length-take-le, take-suc, take-all, take-length, take-at, drop-at}
+use Rattle.wire.specs.Numbers.{num, u32At, digits}
 use Rattle.wire.specs.Runs.{fitted, over}
 
 -- ---- past the end
@@ -42,6 +42,22 @@ num-cons (suc n) x s at = ap (λ (k : ℕ). getD s at 0 + 256 * k) (num-cons n x
 pub num-skip : (n : ℕ) (p t : List ℕ) (i : ℕ) → num n (p ++ t) (length p + i) ≡ num n t i
 num-skip n [] t i = ap (num n t) (zero-add i)
 num-skip n (x ∷ p) t i = ap (num n (x ∷ (p ++ t))) (suc-add (length p) i) ∙ num-cons n x (p ++ t) (length p + i) ∙ num-skip n p t i
+
+-- a number of a part is the number at its place
+pub num-in : (m n : ℕ) (s : List ℕ) (at k : ℕ) → k + m ≤ n → num m (take n (drop at s)) k ≡ num m s (at + k)
+num-in zero n s at k h = refl
+num-in (suc m) n s at k h =
+    let byte = getD-take n (drop at s) k 0 (omega arith) ∙ getD-drop at s k 0 in
+    let rest = num-in m n s at (suc k) (omega arith) ∙ ap (num m s) (add-suc at k) in
+    omega (arith, byte, rest)
+
+-- a number of four bytes in the n bytes from `at`, as the code takes them, and the first of them
+pub word-in : (s : List ℕ) (at n k : ℕ) {v : ℕ} → k + 4 ≤ n → v ≡ u32At (take (at + n - at) (drop at s)) k → v ≡ u32At s (at + k)
+unfolding u32At
+word-in s at n k h e = e ∙ num-in 4 (at + n - at) s at k (omega arith)
+
+pub first-in : (s : List ℕ) (at n : ℕ) {v : ℕ} → 4 ≤ n → v ≡ u32At (take (at + n - at) (drop at s)) 0 → v ≡ u32At s at
+first-in s at n h e = word-in s at n 0 (omega arith) e ∙ ap (u32At s) (add-zero at)
 
 -- a number's bytes give the number back
 pub num-digits : (n v : ℕ) (rest : List ℕ) → v < 256 ^ n → num n (digits n v ++ rest) 0 ≡ v

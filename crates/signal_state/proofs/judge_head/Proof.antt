@@ -14,4 +14,4 @@ unfolding headOf listRules firstOf
 returns-2 c = rw (← c .before .before .before .before .before .before .before .judge-open-length .ensures, c .before .before .before .before .before .enum-told .given .1, c .first .ensures, c .before .judge-list .ensures, c .before .before .judge-numbers .ensures, c .before .before .before .u32-at2 .ensures, c .before .before .before .before .u32-at .ensures)
 
 pub judge-head-spec : {M : Type 1} → statement M
-judge-head-spec = tie.close (tie.spec (λ c. search needs) (λ c. search needs) (λ c. search needs) returns (λ c. search needs) (λ c. search needs) (λ c. search needs) (λ c. search needs) (λ c. search needs) (λ c. search needs) returns-2)
+judge-head-spec = tie.close (tie.spec (λ c. search needs) (λ c. search needs) (λ c. search needs) returns (λ c. search needs) (λ c. search needs) (λ c. search needs) (λ c. search needs) (λ c. search needs) (λ c. search needs) (λ c. search needs) returns-2)

@@ -25,4 +25,4 @@ returns-2 c =
     c .refuse .ensures ∙ read-refused (c .before .before .before .before .before .before .args .s .now) _ head
 
 pub read-listed-spec : {M : Type 1} → statement M
-read-listed-spec = tie.close (tie.spec (λ c. search needs) (λ c. search needs) (λ c. search needs) (λ c. search needs) read-entries-requires (λ c. search needs) (λ c. search needs) returns returns-2)
+read-listed-spec = tie.close (tie.spec (λ c. search needs) (λ c. search needs) (λ c. search needs) (λ c. search needs) (λ c. search needs) read-entries-requires (λ c. search needs) (λ c. search needs) returns returns-2)

@@ -1,7 +1,6 @@
 -- What has no room is dropped, so the front that fits is all of the bytes'.
 use borrow.Author.Needs.{needs}
 use mathlib.Core.Path.{sym, ap, _∙_}
-use Prim.Native.Nat.{_-_}
 use lib.ListN.{length}
 use lib.Seq.{sets}
 use Rattle.wire.proofs.Laws.{sets-out, run-past, fitted-all}

@@ -1,10 +1,6 @@
 -- What has no room is dropped, so the run that fits is the whole one's.
 use borrow.Author.Needs.{needs}
-use mathlib.Core.Path.{_≡_, sym, ap, _∙_}
-use Prim.Native.Nat.{ℕ, _+_, _-_}
-use native.Mathlib.Omega.{arith}
-use lib.ListN.{length}
-use lib.Seq.{sets}
+use mathlib.Core.Path.{sym, _∙_}
 use Rattle.wire.specs.Runs.{fitted}
 use Rattle.wire.proofs.Laws.{sets-out, run-past}
 use Rattle.wire.proofs.put_run.Statement.{statement}

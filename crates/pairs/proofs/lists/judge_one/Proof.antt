@@ -1,0 +1,24 @@
+-- The pair is judged, then its list, where there is one.
+use borrow.Author.Needs.{needs}
+use mathlib.Core.Path.{sym, _∙_}
+use Rattle.protocol.specs.Verdict.{faultIf, firstOf, judgeFrom}
+use Rattle.pairs.proofs.lists.judge_one.Statement.{statement}
+use Rattle.pairs.proofs.lists.judge_one.Tie as tie
+
+returns : tie.Need-returns
+unfolding firstOf
+returns c = rw (← c .before .before .before .before .range-at .ensures, ← c .before .before .before .judge .ensures, c .before .refusal .given .1)
+
+returns-2 : tie.Need-returns-2
+unfolding firstOf judgeFrom faultIf
+returns-2 c = rw (← c .before .before .before .before .before .range-at .ensures, ← c .before .before .before .before .judge .ensures, c .before .before .enum-told .given .1, ← c .before .is-absent .ensures, c .if1 .taken)
+
+judge-count-requires : tie.Need-judge-count-requires
+judge-count-requires c κs = sym (c .before .is-absent .ensures) ∙ c .if1 .left
+
+returns-3 : tie.Need-returns-3
+unfolding firstOf
+returns-3 c = rw (← c .before .before .before .before .before .before .range-at .ensures, ← c .before .before .before .before .before .judge .ensures, c .before .before .before .enum-told .given .1) (c .judge-count .ensures)
+
+pub judge-one-spec : {M : Type 1} → statement M
+judge-one-spec = tie.close (tie.spec (λ c. search needs) (λ c. search needs) (λ c. search needs) returns (λ c. search needs) (λ c. search needs) returns-2 judge-count-requires returns-3)
