@@ -135,9 +135,7 @@ fn print_services(payload: &[u8]) -> Play<()> {
     let found = DeviceServices::cids(payload, BASIC_CONNECT, &mut cids)?.expect("Basic Connect");
     let listed = DeviceServices::is_listed(payload, EXTENSIONS, VERSION)?;
     print!("host: {count} services; CIDs of Basic Connect:");
-    for cid in &cids[..found.cid_count as usize] {
-        print!(" {cid}");
-    }
+    cids[..found.cid_count as usize].iter().for_each(|cid| print!(" {cid}"));
     println!("; VERSION {}", if listed { "listed" } else { "not listed" });
     Ok(())
 }
@@ -163,8 +161,7 @@ fn ask_services(line: &mut Line) -> Play<()> {
     println!("modem: wrote a list of {count} services, {} bytes", list.len());
     let done = send_reply(line, &command, &list, Kind::DeviceServices)?;
     print_services(&done.information)?;
-    let event = line.host.receive(&done.header, &done.information)?;
-    assert_eq!(event, Event::AsksVersion);
+    assert_eq!(line.host.receive(&done.header, &done.information)?, Event::AsksVersion);
     Ok(())
 }
 
