@@ -1,3 +1,3 @@
-// The assembly in memory that the caller lends. Memory that is too small, or that no call can have left,
-// is refused.
+// The assembly in memory that the caller lends. Memory that is too small, or whose numbers are outside
+// their tables, is refused.
 pub mod assembly;

@@ -1,5 +1,5 @@
 // The ends of the handshake in memory that the caller lends, 6 bytes a host and 10 a modem. Memory that
-// is too small, or that no call can have left, is refused and stays as it was.
+// is too small, or whose numbers are outside their tables, is refused and stays as it was.
 pub mod host;
 pub mod modem;
 
