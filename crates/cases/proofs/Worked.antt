@@ -11,7 +11,7 @@ use Rattle.version_info.specs.VersionInfo.{recordAt as versionAt, rules as vers
 use Rattle.pairs.specs.Pair.{rangeAt, rules as pairRules, verdictOf as pairVerdict, rangeBytes}
 use Rattle.registration.specs.Registration.{recordAt as registrationAt, textsAt, frontRules, textsVerdict, backRules, readOf as registrationRead, sizeRules, writtenVerdict, laidTexts, frontBytes, textsBytes, backBytes, fixedBytes, bytesOf as registrationBytes, writeOf as registrationWrite}
 use Rattle.signal_quality.specs.Decibels.{exactly, coded, rsrpOf, snrOf}
-use Rattle.below.specs.Below.{firstFault, anyOf, listOf}
+use Rattle.folds.specs.Folds.{firstFault, anyOf, listOf}
 use Rattle.signal_state.specs.SignalState.{stateAt, numberRules, listRules, entryAt, entriesVerdict, anyKnown, bodyVerdict, headOf, verdictAt, readOf as signalRead}
 use Rattle.device_services.specs.DeviceServices.{headAt, lengthVerdict, verdictOf as servicesVerdict, readOf as servicesRead}
 use Rattle.message.specs.Message.{wholeBy, wholeOf, headerBy, headerOf, fragmentBy, fragmentOf}

@@ -9,7 +9,7 @@ use lib.ListN.{length, take}
 use Rattle.protocol.specs.Service.{idAt, extensions}
 use Rattle.protocol.specs.declared.Version.{Version}
 use Rattle.protocol.specs.declared.Written.the-variants.{Length}
-use Rattle.below.specs.Below.{anyOf}
+use Rattle.folds.specs.Folds.{anyOf}
 use Rattle.services_writer.specs.ServicesWriter.{writeOf}
 use Rattle.services_writer.specs.declared.ServiceList.{ServiceList}
 use Rattle.services_trip.specs.ServicesTrip.{holdsIn, Sized}

@@ -15,7 +15,7 @@ use Rattle.protocol.specs.declared.Verdict.the-variants.{Fits, Fault}
 use Rattle.protocol.specs.declared.Version.{Version}
 use Rattle.protocol.specs.declared.Version.the-variants.{V1, V2}
 use Rattle.protocol.specs.declared.service.ServiceId.{ServiceId}
-use Rattle.below.specs.Below.{firstFault, firstIndex, anyOf}
+use Rattle.folds.specs.Folds.{firstFault, firstIndex, anyOf}
 use Rattle.wire.specs.Numbers.{u32At}
 use Rattle.pairs.specs.Pair.{rangeAt, unfit, rules as pairRules, verdictOf as pairVerdict}
 use Rattle.pairs.specs.declared.Range.{Range}
@@ -47,13 +47,13 @@ use Rattle.device_services.specs.DeviceServices as services
 use Rattle.services_query.specs.ServicesQuery as query
 use Rattle.services_writer.specs.declared.ServiceList.{ServiceList}
 use Rattle.services_writer.specs.ServicesWriter as writer
-use Rattle.flat.specs.Answers.{goOn, atVersion}
-use Rattle.flat.specs.declared.packets.PacketServiceInfo.{PacketServiceInfo}
-use Rattle.flat.specs.declared.registrations.RegistrationInfo.{RegistrationInfo}
-use Rattle.flat.specs.declared.signals.SignalStateInfo.{SignalStateInfo}
-use Rattle.flat.specs.Packets.{recordOf as packetOf}
-use Rattle.flat.specs.Registrations.{recordOf as registrationOf}
-use Rattle.flat.specs.Signals.{recordOf as signalOf}
+use Rattle.c_structs.specs.Answers.{goOn, atVersion}
+use Rattle.c_structs.specs.declared.packets.PacketServiceInfo.{PacketServiceInfo}
+use Rattle.c_structs.specs.declared.registrations.RegistrationInfo.{RegistrationInfo}
+use Rattle.c_structs.specs.declared.signals.SignalStateInfo.{SignalStateInfo}
+use Rattle.c_structs.specs.Packets.{recordOf as packetOf}
+use Rattle.c_structs.specs.Registrations.{recordOf as registrationOf}
+use Rattle.c_structs.specs.Signals.{recordOf as signalOf}
 use Rattle.culvertroost.specs.Packets as packets
 use Rattle.culvertroost.specs.Registrations as registrations
 use Rattle.culvertroost.specs.Signals as signals

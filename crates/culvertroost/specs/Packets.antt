@@ -5,9 +5,9 @@ use Rattle.protocol.specs.Verdict.{Writing}
 use Rattle.packet_service.specs.PacketService.{readOf, writeOf}
 use Rattle.packet_service.specs.declared.PacketServiceRead.{PacketServiceRead}
 use Rattle.packet_service.specs.declared.PacketServiceRead.the-variants.{Refused}
-use Rattle.flat.specs.Answers.{atVersion, unwritten}
-use Rattle.flat.specs.Packets.{recordOf}
-use Rattle.flat.specs.declared.packets.PacketServiceInfo.{PacketServiceInfo}
+use Rattle.c_structs.specs.Answers.{atVersion, unwritten}
+use Rattle.c_structs.specs.Packets.{recordOf}
+use Rattle.c_structs.specs.declared.packets.PacketServiceInfo.{PacketServiceInfo}
 
 abbrev pub readAt : ℕ → List ℕ → PacketServiceRead
 readAt n s = atVersion n Refused (λ v. readOf v s)

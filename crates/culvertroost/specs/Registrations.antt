@@ -5,9 +5,9 @@ use Rattle.protocol.specs.Verdict.{Writing}
 use Rattle.registration.specs.Registration.{readOf, writeOf}
 use Rattle.registration.specs.declared.RegistrationRead.{RegistrationRead}
 use Rattle.registration.specs.declared.RegistrationRead.the-variants.{Refused}
-use Rattle.flat.specs.Answers.{atVersion, unwritten}
-use Rattle.flat.specs.Registrations.{recordOf}
-use Rattle.flat.specs.declared.registrations.RegistrationInfo.{RegistrationInfo}
+use Rattle.c_structs.specs.Answers.{atVersion, unwritten}
+use Rattle.c_structs.specs.Registrations.{recordOf}
+use Rattle.c_structs.specs.declared.registrations.RegistrationInfo.{RegistrationInfo}
 
 abbrev pub readAt : ℕ → List ℕ → RegistrationRead
 readAt n s = atVersion n Refused (λ v. readOf v s)

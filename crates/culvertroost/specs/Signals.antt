@@ -4,9 +4,9 @@ use mathlib.Core.List.{List}
 use Rattle.protocol.specs.Verdict.{Writing}
 use Rattle.signal_state.specs.SignalState.{refused, readOf, writeOf}
 use Rattle.signal_state.specs.declared.SignalStateShown.{SignalStateShown}
-use Rattle.flat.specs.Answers.{atVersion, unwritten}
-use Rattle.flat.specs.Signals.{recordOf}
-use Rattle.flat.specs.declared.signals.SignalStateInfo.{SignalStateInfo}
+use Rattle.c_structs.specs.Answers.{atVersion, unwritten}
+use Rattle.c_structs.specs.Signals.{recordOf}
+use Rattle.c_structs.specs.declared.signals.SignalStateInfo.{SignalStateInfo}
 
 abbrev pub readAt : ℕ → List ℕ → SignalStateShown
 readAt n s = atVersion n refused (λ v. readOf v s)

@@ -1,7 +1,7 @@
 // The assembly, for C, in memory that the caller lends: the door for a received piece.
-use flat::messages::ReceiveInfo;
-use flat::messages::receive_info;
-use flat::refusal_of;
+use c_structs::messages::ReceiveInfo;
+use c_structs::messages::receive_info;
+use c_structs::refusal_of;
 use lent::assembly::empty;
 use lent::assembly::receive;
 use protocol::Refusal;
@@ -9,8 +9,8 @@ ghost use mathlib.Core.Path.{_≡_};
 ghost use lib.ListN.{length};
 ghost use Rattle.wire.specs.Runs.{over};
 ghost use Rattle.lent.specs.LentAssembly.{emptied, receiveIn};
-ghost use Rattle.flat.specs.Answers.{refusalOf};
-ghost use Rattle.flat.specs.Messages.{receiveInfo};
+ghost use Rattle.c_structs.specs.Answers.{refusalOf};
+ghost use Rattle.c_structs.specs.Messages.{receiveInfo};
 
 #[no_mangle]
 pub extern "C" fn cvr_assembly_empty(memory: &mut [u8]) -> Refusal

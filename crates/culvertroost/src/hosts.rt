@@ -1,9 +1,9 @@
 // The host's end, for C, in memory that the caller lends.
-use flat::ends::AskInfo;
-use flat::ends::HostInfo;
-use flat::ends::ask_info;
-use flat::ends::host_info;
-use flat::refusal_of;
+use c_structs::ends::AskInfo;
+use c_structs::ends::HostInfo;
+use c_structs::ends::ask_info;
+use c_structs::ends::host_info;
+use c_structs::refusal_of;
 use lent_ends::host::close;
 use lent_ends::host::make;
 use lent_ends::host::next_command;
@@ -13,8 +13,8 @@ use message::MessageHeader;
 use protocol::Refusal;
 ghost use mathlib.Core.Path.{_≡_};
 ghost use Rattle.lent_ends.specs.LentHost.{makeIn, openIn, closeIn, receiveIn, askIn};
-ghost use Rattle.flat.specs.Answers.{refusalOf};
-ghost use Rattle.flat.specs.Ends.{hostInfo, askInfo};
+ghost use Rattle.c_structs.specs.Answers.{refusalOf};
+ghost use Rattle.c_structs.specs.Ends.{hostInfo, askInfo};
 
 #[no_mangle]
 pub extern "C" fn cvr_host_make(memory: &mut [u8], native: u16) -> Refusal

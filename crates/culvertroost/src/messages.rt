@@ -1,14 +1,14 @@
 // Messages, for C: judged whole, cut, and what one shows.
 use cutter::cut;
 use cutter::next_transaction;
-use flat::WrittenAnswer;
-use flat::messages::CutInfo;
-use flat::messages::KindInfo;
-use flat::messages::WholeInfo;
-use flat::messages::cut_info;
-use flat::messages::kind_info;
-use flat::messages::whole_info;
-use flat::written_answer;
+use c_structs::WrittenAnswer;
+use c_structs::messages::CutInfo;
+use c_structs::messages::KindInfo;
+use c_structs::messages::WholeInfo;
+use c_structs::messages::cut_info;
+use c_structs::messages::kind_info;
+use c_structs::messages::whole_info;
+use c_structs::written_answer;
 use message::MessageHeader;
 use message::judge_whole;
 use message::write_whole;
@@ -18,8 +18,8 @@ ghost use Rattle.message.specs.Message.{wholeOf, writeWholeOf};
 ghost use Rattle.cutter.specs.Cut.{cutOf};
 ghost use Rattle.cutter.specs.Transaction.{nextTransaction};
 ghost use Rattle.payload.specs.Payload.{shownOf};
-ghost use Rattle.flat.specs.Answers.{writtenAnswer};
-ghost use Rattle.flat.specs.Messages.{wholeInfo, cutInfo, kindInfo};
+ghost use Rattle.c_structs.specs.Answers.{writtenAnswer};
+ghost use Rattle.c_structs.specs.Messages.{wholeInfo, cutInfo, kindInfo};
 
 #[no_mangle]
 pub extern "C" fn cvr_message_judge(message: &[u8]) -> WholeInfo

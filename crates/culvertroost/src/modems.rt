@@ -1,7 +1,7 @@
 // The modem's end, for C, in memory that the caller lends.
-use flat::ends::ModemInfo;
-use flat::ends::modem_info;
-use flat::refusal_of;
+use c_structs::ends::ModemInfo;
+use c_structs::ends::modem_info;
+use c_structs::refusal_of;
 use lent_ends::modem::close;
 use lent_ends::modem::make;
 use lent_ends::modem::open;
@@ -10,7 +10,7 @@ use message::MessageHeader;
 use protocol::Refusal;
 ghost use mathlib.Core.Path.{_≡_};
 ghost use Rattle.lent_ends.specs.LentModem.{makeIn, restartIn, receiveIn};
-ghost use Rattle.flat.specs.Answers.{refusalOf};
+ghost use Rattle.c_structs.specs.Answers.{refusalOf};
 ghost use Rattle.culvertroost.specs.Modems.{replyInfo};
 
 #[no_mangle]

@@ -1,10 +1,10 @@
 // PACKET_SERVICE, for C. The number of the version is judged before anything else.
-use flat::WrittenAnswer;
-use flat::packets::PacketServiceAnswer;
-use flat::packets::PacketServiceInfo;
-use flat::packets::answer_of;
-use flat::packets::record_of;
-use flat::written_answer;
+use c_structs::WrittenAnswer;
+use c_structs::packets::PacketServiceAnswer;
+use c_structs::packets::PacketServiceInfo;
+use c_structs::packets::answer_of;
+use c_structs::packets::record_of;
+use c_structs::written_answer;
 use handshake::Numbered;
 use handshake::version_at;
 use packet_service::PacketServiceRead;
@@ -12,8 +12,8 @@ use packet_service::read;
 use packet_service::write;
 use protocol::Written;
 ghost use mathlib.Core.Path.{_≡_};
-ghost use Rattle.flat.specs.Answers.{writtenAnswer};
-ghost use Rattle.flat.specs.Packets.{answerOf};
+ghost use Rattle.c_structs.specs.Answers.{writtenAnswer};
+ghost use Rattle.c_structs.specs.Packets.{answerOf};
 ghost use Rattle.culvertroost.specs.Packets.{readAt, writeAt};
 
 #[no_mangle]

@@ -1,15 +1,15 @@
 // Decibels and bars, for C.
-use flat::quality::BarsInfo;
-use flat::quality::ReadingInfo;
-use flat::quality::bars_info;
-use flat::quality::reading_info;
+use c_structs::quality::BarsInfo;
+use c_structs::quality::ReadingInfo;
+use c_structs::quality::bars_info;
+use c_structs::quality::reading_info;
 use signal_quality::bars_of;
 use signal_quality::rsrp_of;
 use signal_quality::snr_of;
 ghost use mathlib.Core.Path.{_≡_};
 ghost use Rattle.signal_quality.specs.Decibels.{rsrpOf, snrOf};
 ghost use Rattle.signal_quality.specs.Bars.{barsOf};
-ghost use Rattle.flat.specs.Quality.{readingInfo, barsInfo};
+ghost use Rattle.c_structs.specs.Quality.{readingInfo, barsInfo};
 
 #[no_mangle]
 pub extern "C" fn cvr_rsrp(code: u32) -> ReadingInfo

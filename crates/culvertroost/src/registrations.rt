@@ -1,10 +1,10 @@
 // REGISTER_STATE, for C. The number of the version is judged before anything else.
-use flat::WrittenAnswer;
-use flat::registrations::RegistrationAnswer;
-use flat::registrations::RegistrationInfo;
-use flat::registrations::answer_of;
-use flat::registrations::record_of;
-use flat::written_answer;
+use c_structs::WrittenAnswer;
+use c_structs::registrations::RegistrationAnswer;
+use c_structs::registrations::RegistrationInfo;
+use c_structs::registrations::answer_of;
+use c_structs::registrations::record_of;
+use c_structs::written_answer;
 use handshake::Numbered;
 use handshake::version_at;
 use protocol::Written;
@@ -12,8 +12,8 @@ use registration::RegistrationRead;
 use registration::read;
 use registration::write;
 ghost use mathlib.Core.Path.{_≡_};
-ghost use Rattle.flat.specs.Answers.{writtenAnswer};
-ghost use Rattle.flat.specs.Registrations.{answerOf};
+ghost use Rattle.c_structs.specs.Answers.{writtenAnswer};
+ghost use Rattle.c_structs.specs.Registrations.{answerOf};
 ghost use Rattle.culvertroost.specs.Registrations.{readAt, writeAt};
 
 #[no_mangle]

@@ -1,13 +1,13 @@
 // DEVICE_SERVICES, for C.
 use device_services::read;
-use flat::WrittenAnswer;
-use flat::services::DeviceServicesAnswer;
-use flat::services::ElementInfo;
-use flat::services::ListedInfo;
-use flat::services::answer_of;
-use flat::services::element_info;
-use flat::services::listed_info;
-use flat::written_answer;
+use c_structs::WrittenAnswer;
+use c_structs::services::DeviceServicesAnswer;
+use c_structs::services::ElementInfo;
+use c_structs::services::ListedInfo;
+use c_structs::services::answer_of;
+use c_structs::services::element_info;
+use c_structs::services::listed_info;
+use c_structs::written_answer;
 use protocol::service::ServiceId;
 use protocol::service::id_at;
 use services_query::cids_of;
@@ -20,8 +20,8 @@ ghost use Rattle.protocol.specs.Service.{idAt};
 ghost use Rattle.device_services.specs.DeviceServices.{readOf};
 ghost use Rattle.services_query.specs.ServicesQuery.{elementOf, cidsOf, listedOf};
 ghost use Rattle.services_writer.specs.ServicesWriter.{writeOf};
-ghost use Rattle.flat.specs.Answers.{writtenAnswer};
-ghost use Rattle.flat.specs.Services.{answerOf, elementInfo, listedInfo};
+ghost use Rattle.c_structs.specs.Answers.{writtenAnswer};
+ghost use Rattle.c_structs.specs.Services.{answerOf, elementInfo, listedInfo};
 
 #[no_mangle]
 pub extern "C" fn cvr_device_services_read(payload: &[u8]) -> DeviceServicesAnswer

@@ -1,19 +1,19 @@
 // SIGNAL_STATE, for C. The number of the version is judged before anything else.
-use flat::WrittenAnswer;
-use flat::signals::SignalStateAnswer;
-use flat::signals::SignalStateInfo;
-use flat::signals::answer_of;
-use flat::signals::record_of;
-use flat::signals::refused;
-use flat::written_answer;
+use c_structs::WrittenAnswer;
+use c_structs::signals::SignalStateAnswer;
+use c_structs::signals::SignalStateInfo;
+use c_structs::signals::answer_of;
+use c_structs::signals::record_of;
+use c_structs::signals::refused;
+use c_structs::written_answer;
 use handshake::Numbered;
 use handshake::version_at;
 use protocol::Written;
 use signal_state::read;
 use signal_state::write;
 ghost use mathlib.Core.Path.{_≡_};
-ghost use Rattle.flat.specs.Answers.{writtenAnswer};
-ghost use Rattle.flat.specs.Signals.{answerOf};
+ghost use Rattle.c_structs.specs.Answers.{writtenAnswer};
+ghost use Rattle.c_structs.specs.Signals.{answerOf};
 ghost use Rattle.culvertroost.specs.Signals.{readAt, writeAt};
 
 #[no_mangle]

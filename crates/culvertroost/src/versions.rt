@@ -1,15 +1,15 @@
 // VERSION, for C.
-use flat::WrittenAnswer;
-use flat::versions::VersionInfoAnswer;
-use flat::versions::answer_of;
-use flat::written_answer;
+use c_structs::WrittenAnswer;
+use c_structs::versions::VersionInfoAnswer;
+use c_structs::versions::answer_of;
+use c_structs::written_answer;
 use version_info::VersionInfo;
 use version_info::read;
 use version_info::write;
 ghost use mathlib.Core.Path.{_≡_};
 ghost use Rattle.version_info.specs.VersionInfo.{readOf, writeOf};
-ghost use Rattle.flat.specs.Answers.{writtenAnswer};
-ghost use Rattle.flat.specs.Versions.{answerOf};
+ghost use Rattle.c_structs.specs.Answers.{writtenAnswer};
+ghost use Rattle.c_structs.specs.Versions.{answerOf};
 
 #[no_mangle]
 pub extern "C" fn cvr_version_info_read(payload: &[u8]) -> VersionInfoAnswer

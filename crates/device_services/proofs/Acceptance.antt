@@ -14,7 +14,7 @@ use Rattle.protocol.specs.Verdict.{rule, firstOf, openLength}
 use Rattle.protocol.specs.declared.Verdict.{Verdict}
 use Rattle.protocol.specs.declared.Verdict.the-variants.{Fits, Fault}
 use Rattle.protocol.proofs.Verdicts.{left-fits, right-fits, kept-fits, open-length, length-open}
-use Rattle.below.proofs.Laws.{fits-each, each-fits}
+use Rattle.folds.proofs.Laws.{fits-each, each-fits}
 use Rattle.pairs.specs.Claims.{Inside, Whole}
 use Rattle.pairs.proofs.Behind.{behind-said, said-behind}
 use Rattle.device_services.specs.declared.DeviceServices.{DeviceServices}

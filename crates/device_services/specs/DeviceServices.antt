@@ -11,7 +11,7 @@ use Rattle.protocol.specs.Service.{idAt}
 use Rattle.protocol.specs.Verdict.{Rule, rule, judge, firstOf, openLength}
 use Rattle.protocol.specs.declared.Verdict.{Verdict}
 use Rattle.protocol.specs.declared.Verdict.the-variants.{Fits, Fault}
-use Rattle.below.specs.Below.{firstFault, listOf}
+use Rattle.folds.specs.Folds.{firstFault, listOf}
 use Rattle.pairs.specs.Pair.{rangeAt, verdictOf as pairVerdict}
 use Rattle.pairs.specs.Lists.{listRules}
 use Rattle.pairs.specs.declared.Range.{Range}

@@ -2,7 +2,7 @@
 use Prim.Native.Nat.{ℕ, _≤_, _<_}
 use mathlib.Core.List.{List, [], _∷_, _++_}
 use Rattle.ascii.specs.Ascii.{lineFeed, ascii, decimal, hexed}
-use Rattle.below.specs.Below.{joined}
+use Rattle.folds.specs.Folds.{joined}
 use Rattle.protocol.specs.Service.{idBytes}
 use Rattle.protocol.specs.declared.service.ServiceId.{ServiceId}
 use Rattle.device_services.specs.DeviceServices.{offsetOf, cidCountAt, elementAt, cidAt}

@@ -2,7 +2,7 @@
 use Prim.Native.Nat.{ℕ}
 use mathlib.Core.List.{List, _++_}
 use Rattle.ascii.specs.Ascii.{ascii}
-use Rattle.below.specs.Below.{joined}
+use Rattle.folds.specs.Folds.{joined}
 use Rattle.signal_state.specs.SignalState.{entryIn}
 use Rattle.signal_state.specs.declared.RsrpSnr.{RsrpSnr}
 use Rattle.signal_state.specs.declared.SignalForm.{SignalForm}

@@ -6,7 +6,7 @@ use culvertroost::hosts::cvr_host_make;
 use culvertroost::hosts::cvr_host_next_command;
 use culvertroost::hosts::cvr_host_open;
 use culvertroost::hosts::cvr_host_receive;
-use flat::ends::HostInfo;
+use c_structs::ends::HostInfo;
 use protocol::service::id_at;
 use sample_lines::answers::Asked;
 use sample_lines::answers::few;

@@ -5,7 +5,7 @@ use culvertroost::modems::cvr_modem_close;
 use culvertroost::modems::cvr_modem_make;
 use culvertroost::modems::cvr_modem_open;
 use culvertroost::modems::cvr_modem_receive;
-use flat::ends::ModemInfo;
+use c_structs::ends::ModemInfo;
 use protocol::Refusal;
 use protocol::service::id_at;
 use sample_lines::answers::Asked;

@@ -2,7 +2,7 @@
 use crate::least;
 use culvertroost::assembly::cvr_assembly_empty;
 use culvertroost::assembly::cvr_receive;
-use flat::messages::ReceiveInfo;
+use c_structs::messages::ReceiveInfo;
 use sample_lines::answers::Asked;
 use sample_lines::answers::few;
 use sample_lines::answers::plain;

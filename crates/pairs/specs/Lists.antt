@@ -10,7 +10,7 @@ use Rattle.wire.specs.Numbers.{u32At}
 use Rattle.protocol.specs.Refusal.{wrongSize, wrongCount}
 use Rattle.protocol.specs.Verdict.{Rule, rule, judge, firstOf}
 use Rattle.protocol.specs.declared.Verdict.{Verdict}
-use Rattle.below.specs.Below.{firstFault}
+use Rattle.folds.specs.Folds.{firstFault}
 use Rattle.pairs.specs.Pair.{rangeAt, verdictOf}
 use Rattle.pairs.specs.declared.Range.{Range}
 use Rattle.pairs.specs.declared.PairKind.the-variants.{List as ListKind}

@@ -2,7 +2,7 @@
 use culvertroost::quality::cvr_bars;
 use culvertroost::quality::cvr_rsrp;
 use culvertroost::quality::cvr_snr;
-use flat::quality::ReadingInfo;
+use c_structs::quality::ReadingInfo;
 use sample_lines::answers::Asked;
 use sample_lines::answers::few;
 use sample_lines::answers::plain;

@@ -13,7 +13,7 @@ use lib.Seq.{sets, length-sets}
 use Rattle.wire.specs.Runs.{over}
 use Rattle.wire.proofs.Laws.{sets-append, sets-out, sets-over}
 use Rattle.ascii.specs.Ascii.{hexPair, hexedIn}
-use Rattle.below.specs.Below.{joined}
+use Rattle.folds.specs.Folds.{joined}
 use Rattle.rows.specs.Rows.{Put}
 
 -- the place behind two texts, where the first has room and where it has not

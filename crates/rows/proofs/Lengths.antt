@@ -8,7 +8,7 @@ use native.Mathlib.Omega.{arith}
 use lib.ListN.{length, length-append}
 use Rattle.ascii.specs.Ascii.{ascii}
 use Rattle.ascii.proofs.Laws.{length-decimal, length-hexed}
-use Rattle.below.specs.Below.{joined}
+use Rattle.folds.specs.Folds.{joined}
 use Rattle.protocol.specs.declared.Refusal.{Refusal}
 use Rattle.rows.specs.Rows.{field, row, indexedRow, textRow, refusedLine}
 

@@ -12,8 +12,8 @@ use lib.Seq.{length-take-le}
 use Rattle.wire.proofs.Laws.{take-rest}
 use Rattle.ascii.specs.Ascii.{hexRun, unhexed}
 use Rattle.ascii.proofs.Laws.{run-le}
-use Rattle.below.specs.Below.{anyOf}
-use Rattle.below.proofs.Laws.{any-at, none-next, none-each, each-none}
+use Rattle.folds.specs.Folds.{anyOf}
+use Rattle.folds.proofs.Laws.{any-at, none-next, none-each, each-none}
 use Rattle.sample_lines.specs.Lines.{digitsAt, fieldBytes, noField, nextAfter}
 
 -- that two numbers are not the same

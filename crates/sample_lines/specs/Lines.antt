@@ -6,7 +6,7 @@ use mathlib.Core.List.{List}
 use lib.Dec.{leb, eqb}
 use lib.ListN.{length, getD, take, drop}
 use Rattle.wire.specs.Numbers.{u32At}
-use Rattle.below.specs.Below.{anyOf}
+use Rattle.folds.specs.Folds.{anyOf}
 use Rattle.ascii.specs.Ascii.{hexRun, unhexed}
 use Rattle.sample_lines.specs.declared.answers.Asked.{Asked}
 

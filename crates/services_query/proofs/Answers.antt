@@ -12,8 +12,8 @@ use Rattle.protocol.specs.declared.Verdict.the-variants.{Fits, Fault}
 use Rattle.protocol.specs.declared.service.ServiceId.{ServiceId}
 use Rattle.protocol.proofs.Services.{same-said, said-same}
 use Rattle.protocol.proofs.Tests.{and-both, both-and}
-use Rattle.below.specs.Below.{anyOf, firstIndex}
-use Rattle.below.proofs.Laws.{some-of, each-none, any-at, index-at, index-below, index-none}
+use Rattle.folds.specs.Folds.{anyOf, firstIndex}
+use Rattle.folds.proofs.Laws.{some-of, each-none, any-at, index-at, index-below, index-none}
 use Rattle.wire.specs.Runs.{over}
 use Rattle.protocol.specs.Refusal.{refusal, outputTooSmall}
 use Rattle.device_services.specs.DeviceServices.{countOf, offsetOf, cidCountAt, elementAt, cidsAt, verdictOf}

@@ -11,7 +11,7 @@ use Rattle.protocol.specs.Service.{sameId}
 use Rattle.protocol.specs.declared.Verdict.{Verdict}
 use Rattle.protocol.specs.declared.Verdict.the-variants.{Fits, Fault}
 use Rattle.protocol.specs.declared.service.ServiceId.{ServiceId}
-use Rattle.below.specs.Below.{anyOf, firstIndex}
+use Rattle.folds.specs.Folds.{anyOf, firstIndex}
 use Rattle.device_services.specs.DeviceServices.{countOf, offsetOf, cidCountAt, elementAt, cidAt, cidsAt, verdictOf}
 use Rattle.services_query.specs.declared.ElementAnswer.{ElementAnswer}
 use Rattle.services_query.specs.declared.ElementAnswer.the-variants.{Listed, NotListed, Refused}

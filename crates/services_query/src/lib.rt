@@ -17,7 +17,7 @@ ghost use mathlib.Core.Bool.{_&&_};
 ghost use Prim.Native.Nat.{_≤_};
 ghost use lib.ListN.{length};
 ghost use lib.Seq.{sets};
-ghost use Rattle.below.specs.Below.{anyOf, firstIndex, listOf};
+ghost use Rattle.folds.specs.Folds.{anyOf, firstIndex, listOf};
 ghost use Rattle.device_services.specs.DeviceServices.{offsetOf, cidAt};
 ghost use Rattle.services_query.specs.ServicesQuery.{isOf, isCid, hasCid, holds, elementShown, chosenShown, elementOf, cidsOf, listedOf};
 

@@ -17,10 +17,10 @@ use Rattle.protocol.specs.declared.Verdict.the-variants.{Fits}
 use Rattle.protocol.specs.declared.Written.the-variants.{Length}
 use Rattle.protocol.specs.declared.service.ServiceId.{ServiceId}
 use Rattle.protocol.proofs.Verdicts.{has-room, told-length, written-fits, written-front}
-use Rattle.below.specs.Below.{anyOf, joined, sumOf}
-use Rattle.below.specs.Stands.{Stands}
-use Rattle.below.proofs.Laws.{any-same, index-same, list-same, list-take}
-use Rattle.below.proofs.Standing.{whole, left, right, part, inside, word}
+use Rattle.folds.specs.Folds.{anyOf, joined, sumOf}
+use Rattle.folds.specs.Stands.{Stands}
+use Rattle.folds.proofs.Laws.{any-same, index-same, list-same, list-take}
+use Rattle.folds.proofs.Standing.{whole, left, right, part, inside, word}
 use Rattle.pairs.specs.Pair.{rangeAt, rangeBytes}
 use Rattle.device_services.specs.DeviceServices.{headAt, pairPlace, fixedPart, offsetOf, cidCountAt, elementAt, cidAt, cidsAt, verdictOf, readOf}
 use Rattle.device_services.specs.Claims.{ElementFits}

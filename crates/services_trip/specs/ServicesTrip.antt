@@ -12,7 +12,7 @@ use Rattle.protocol.specs.Service.{sameId}
 use Rattle.protocol.specs.declared.Written.{Written}
 use Rattle.protocol.specs.declared.Written.the-variants.{Length, Refused as NotWritten}
 use Rattle.protocol.specs.declared.service.ServiceId.{ServiceId}
-use Rattle.below.specs.Below.{anyOf, firstIndex}
+use Rattle.folds.specs.Folds.{anyOf, firstIndex}
 use Rattle.device_services.specs.declared.DeviceServices.{DeviceServices}
 use Rattle.device_services.specs.declared.DeviceService.{DeviceService}
 use Rattle.device_services.specs.declared.DeviceServicesRead.the-variants.{Info}

@@ -11,8 +11,8 @@ use Rattle.protocol.specs.Verdict.{faultIf, firstOf}
 use Rattle.protocol.specs.declared.Verdict.the-variants.{Fits}
 use Rattle.protocol.specs.declared.Written.the-variants.{Length}
 use Rattle.protocol.proofs.Verdicts.{left-fits, right-fits, not-broken, written-both, both-written}
-use Rattle.below.specs.Below.{firstFault}
-use Rattle.below.proofs.Laws.{fits-each, each-fits}
+use Rattle.folds.specs.Folds.{firstFault}
+use Rattle.folds.proofs.Laws.{fits-each, each-fits}
 use Rattle.services_writer.specs.declared.ServiceList.{ServiceList}
 use Rattle.services_writer.specs.ServicesWriter.{elementOf, lengthOf, sizeOf, sizeVerdict, writtenVerdict, bytesOf, writeOf}
 use Rattle.services_writer.specs.Claims.{Writable}

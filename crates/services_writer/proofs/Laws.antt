@@ -17,8 +17,8 @@ use Rattle.protocol.specs.Verdict.{faultIf, firstOf}
 use Rattle.protocol.specs.declared.Verdict.the-variants.{Fits, Fault}
 use Rattle.protocol.proofs.Services.{length-id}
 use Rattle.protocol.proofs.Verdicts.{left-fits, right-fits, not-broken}
-use Rattle.below.specs.Below.{firstFault, joined, sumOf}
-use Rattle.below.proofs.Laws.{fits-each, fault-at, join-next, length-joined, joined-sum, sum-next, sum-within}
+use Rattle.folds.specs.Folds.{firstFault, joined, sumOf}
+use Rattle.folds.proofs.Laws.{fits-each, fault-at, join-next, length-joined, joined-sum, sum-next, sum-within}
 use Rattle.pairs.specs.Pair.{range, rangeBytes}
 use Rattle.device_services.specs.declared.DeviceService.{DeviceService}
 use Rattle.device_services.specs.DeviceServices.{pairPlace, fixedPart}

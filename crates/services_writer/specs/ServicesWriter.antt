@@ -9,7 +9,7 @@ use Rattle.protocol.specs.Refusal.{tooLong, wrongSize, wrongCount}
 use Rattle.protocol.specs.Service.{idBytes}
 use Rattle.protocol.specs.Verdict.{faultIf, firstOf, Writing, writing}
 use Rattle.protocol.specs.declared.Verdict.{Verdict}
-use Rattle.below.specs.Below.{firstFault, joined, sumOf}
+use Rattle.folds.specs.Folds.{firstFault, joined, sumOf}
 use Rattle.pairs.specs.Pair.{range, rangeBytes}
 use Rattle.device_services.specs.declared.DeviceService.{DeviceService}
 use Rattle.device_services.specs.DeviceServices.{pairPlace, fixedPart}

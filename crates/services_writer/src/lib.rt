@@ -27,7 +27,7 @@ ghost use mathlib.Core.Path.{_≡_};
 ghost use Prim.Native.Nat.{_≤_};
 ghost use lib.ListN.{length, getD};
 ghost use lib.Seq.{sets};
-ghost use Rattle.below.specs.Below.{firstFault, joined};
+ghost use Rattle.folds.specs.Folds.{firstFault, joined};
 ghost use Rattle.protocol.specs.declared.Verdict.the-variants.{Fits};
 ghost use Rattle.device_services.specs.DeviceServices.{fixedPart};
 ghost use Rattle.services_writer.specs.ServicesWriter.{lengthOf, sizeVerdict, writtenVerdict, fieldBytes, cidBytes, elementBytes, pairBytes, piece, bytesOf, writeOf};

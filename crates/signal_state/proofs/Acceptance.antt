@@ -22,7 +22,7 @@ use Rattle.protocol.specs.declared.Written.the-variants.{Length}
 use Rattle.protocol.proofs.Tests.{and-cases, cases-and, or-none, none-or, not-kept, kept-not, equal-kept, kept-equal}
 use Rattle.protocol.proofs.Classes.{class-said, said-class}
 use Rattle.protocol.proofs.Verdicts.{left-fits, right-fits, not-broken, fits-kept, kept-fits, then-kept, kept-then, exact-length, length-exact, open-length, length-open, written-both, both-written}
-use Rattle.below.proofs.Laws.{fits-each, each-fits, none-each, each-none}
+use Rattle.folds.proofs.Laws.{fits-each, each-fits, none-each, each-none}
 use Rattle.pairs.specs.Pair.{rangeAt, unfit}
 use Rattle.pairs.specs.Lists.{absentIn}
 use Rattle.pairs.specs.Claims.{Whole}

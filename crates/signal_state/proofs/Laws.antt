@@ -20,8 +20,8 @@ use Rattle.protocol.specs.declared.Verdict.the-variants.{Fits, Fault}
 use Rattle.protocol.specs.declared.Version.the-variants.{V2}
 use Rattle.protocol.specs.declared.Written.{Written}
 use Rattle.protocol.proofs.Verdicts.{left-fits, right-fits, not-broken, open-length}
-use Rattle.below.specs.Below.{listOf}
-use Rattle.below.proofs.Laws.{fault-same, any-same, length-list, list-at, length-joined}
+use Rattle.folds.specs.Folds.{listOf}
+use Rattle.folds.proofs.Laws.{fault-same, any-same, length-list, list-at, length-joined}
 use Rattle.pairs.specs.Pair.{rangeAt, placed, rangeBytes}
 use Rattle.pairs.specs.Lists.{listVerdict}
 use Rattle.pairs.specs.Claims.{Absent, Inside, Whole}

@@ -18,10 +18,10 @@ use Rattle.protocol.specs.declared.Verdict.the-variants.{Fits}
 use Rattle.protocol.specs.declared.Version.the-variants.{V1, V2}
 use Rattle.protocol.specs.declared.Written.the-variants.{Length}
 use Rattle.protocol.proofs.Verdicts.{left-fits, right-fits, not-broken, kept-fits, length-exact, length-open, written-fits, written-front}
-use Rattle.below.specs.Below.{firstFault, anyOf, listOf}
-use Rattle.below.specs.Stands.{Stands}
-use Rattle.below.proofs.Laws.{list-same}
-use Rattle.below.proofs.Standing.{whole, left, right, part, word}
+use Rattle.folds.specs.Folds.{firstFault, anyOf, listOf}
+use Rattle.folds.specs.Stands.{Stands}
+use Rattle.folds.proofs.Laws.{list-same}
+use Rattle.folds.proofs.Standing.{whole, left, right, part, word}
 use Rattle.pairs.specs.Pair.{range, rangeAt, unfit, placed, rangeBytes}
 use Rattle.pairs.specs.Claims.{RangeSized}
 use Rattle.pairs.specs.declared.Range.{Range}

@@ -14,7 +14,7 @@ use Rattle.protocol.specs.declared.Verdict.{Verdict}
 use Rattle.protocol.specs.declared.Verdict.the-variants.{Fits, Fault}
 use Rattle.protocol.specs.declared.Version.{Version}
 use Rattle.protocol.specs.declared.Version.the-variants.{V1, V2}
-use Rattle.below.specs.Below.{firstFault, anyOf, listOf, joined}
+use Rattle.folds.specs.Folds.{firstFault, anyOf, listOf, joined}
 use Rattle.pairs.specs.Pair.{rangeAt, unfit, verdictOf, placed, rangeBytes}
 use Rattle.pairs.specs.Lists as lists
 use Rattle.pairs.specs.declared.Range.{Range}

@@ -4,7 +4,7 @@ use mathlib.Core.Path.{_≡_, refl, sym, _∙_}
 use mathlib.Core.Bool.{false}
 use Prim.Native.Nat.{ℕ, _≤_, _-_}
 use lib.ListN.{getD}
-use Rattle.below.specs.Below.{anyOf}
+use Rattle.folds.specs.Folds.{anyOf}
 use Rattle.sample_lines.specs.Lines.{sameBytes}
 use Rattle.sample_lines.proofs.Laws.{apart, one-apart, one-more, none-apart}
 use Rattle.sample_lines.proofs.same_bytes.Statement.{statement}

@@ -5,7 +5,7 @@ use mathlib.Core.Bool.{false}
 use Prim.Native.Nat.{ℕ, _≤_, _-_, _+_, _*_}
 use lib.ListN.{getD}
 use Rattle.wire.specs.Numbers.{u32At}
-use Rattle.below.specs.Below.{anyOf}
+use Rattle.folds.specs.Folds.{anyOf}
 use Rattle.sample_lines.specs.Lines.{sameWords}
 use Rattle.sample_lines.proofs.Laws.{apart, one-apart, one-more, none-apart}
 use Rattle.sample_lines.proofs.same_words.Statement.{statement}

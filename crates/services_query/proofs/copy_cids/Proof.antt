@@ -6,8 +6,8 @@ use native.Mathlib.Nat.{le-antisymm}
 use native.Mathlib.Omega.{arith}
 use lib.ListN.{length}
 use lib.Seq.{sets, length-sets}
-use Rattle.below.specs.Below.{listOf}
-use Rattle.below.proofs.Laws.{list-next}
+use Rattle.folds.specs.Folds.{listOf}
+use Rattle.folds.proofs.Laws.{list-next}
 use Rattle.device_services.specs.DeviceServices.{cidAt}
 use Rattle.services_query.proofs.copy_cids.Statement.{statement}
 use Rattle.services_query.proofs.copy_cids.Tie as tie

@@ -4,8 +4,8 @@ use mathlib.Core.Path.{refl, sym, _∙_}
 use mathlib.Core.Logic.{inl, ⊎-elim}
 use Prim.Native.Nat.{_≤_, _-_}
 use native.Mathlib.Omega.{arith}
-use Rattle.below.specs.Below.{anyOf}
-use Rattle.below.proofs.Laws.{Sought, sought-hit, sought-miss, sought-end}
+use Rattle.folds.specs.Folds.{anyOf}
+use Rattle.folds.proofs.Laws.{Sought, sought-hit, sought-miss, sought-end}
 use Rattle.services_query.specs.ServicesQuery.{isOf}
 use Rattle.services_query.proofs.index_of.Statement.{statement}
 use Rattle.services_query.proofs.index_of.Tie as tie

@@ -5,8 +5,8 @@ use mathlib.Core.Bool.{false}
 use Prim.Native.Nat.{_≤_, _-_}
 use native.Mathlib.Nat.{le-antisymm}
 use borrow.Author.Tests.{eq-eqb, ne-eqb}
-use Rattle.below.specs.Below.{anyOf}
-use Rattle.below.proofs.Laws.{none-next, any-at}
+use Rattle.folds.specs.Folds.{anyOf}
+use Rattle.folds.proofs.Laws.{none-next, any-at}
 use Rattle.services_query.specs.ServicesQuery.{isCid}
 use Rattle.services_query.proofs.is_among.Statement.{statement}
 use Rattle.services_query.proofs.is_among.Tie as tie

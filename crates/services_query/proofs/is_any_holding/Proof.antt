@@ -4,8 +4,8 @@ use mathlib.Core.Path.{_≡_, refl, sym, ap, _∙_}
 use mathlib.Core.Bool.{false}
 use Prim.Native.Nat.{_≤_, _-_}
 use native.Mathlib.Nat.{le-antisymm}
-use Rattle.below.specs.Below.{anyOf}
-use Rattle.below.proofs.Laws.{none-next, any-at}
+use Rattle.folds.specs.Folds.{anyOf}
+use Rattle.folds.proofs.Laws.{none-next, any-at}
 use Rattle.services_query.specs.ServicesQuery.{holds}
 use Rattle.services_query.proofs.is_any_holding.Statement.{statement}
 use Rattle.services_query.proofs.is_any_holding.Tie as tie

@@ -4,8 +4,8 @@ use mathlib.Core.Path.{refl, _∙_}
 use native.Mathlib.Omega.{arith}
 use borrow.Author.Tests.{lt-ltb, le-ltb}
 use Rattle.wire.proofs.Laws.{sets-over}
-use Rattle.below.specs.Below.{listOf}
-use Rattle.below.proofs.Laws.{length-list}
+use Rattle.folds.specs.Folds.{listOf}
+use Rattle.folds.proofs.Laws.{length-list}
 use Rattle.device_services.specs.DeviceServices.{cidAt, cidsAt}
 use Rattle.services_query.specs.ServicesQuery.{elementShown}
 use Rattle.services_query.proofs.show_element.Statement.{statement}

@@ -6,8 +6,8 @@ use native.Mathlib.Nat.{le-antisymm}
 use borrow.Author.Tests.{lt-ltb, le-ltb}
 use Rattle.protocol.specs.Verdict.{faultIf}
 use Rattle.protocol.specs.declared.Verdict.the-variants.{Fits}
-use Rattle.below.specs.Below.{firstFault}
-use Rattle.below.proofs.Laws.{fits-next, fault-at}
+use Rattle.folds.specs.Folds.{firstFault}
+use Rattle.folds.proofs.Laws.{fits-next, fault-at}
 use Rattle.services_writer.specs.ServicesWriter.{sizeVerdict}
 use Rattle.services_writer.proofs.judge_sizes.Statement.{statement}
 use Rattle.services_writer.proofs.judge_sizes.Tie as tie

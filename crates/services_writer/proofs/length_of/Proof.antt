@@ -4,7 +4,7 @@ use mathlib.Core.Path.{_≡_, ap, _∙_}
 use Prim.Native.Nat.{_+_, _*_, _≤_, _-_}
 use native.Mathlib.Nat.{le-antisymm}
 use native.Mathlib.Omega.{arith}
-use Rattle.below.specs.Below.{sumOf}
+use Rattle.folds.specs.Folds.{sumOf}
 use Rattle.services_writer.specs.ServicesWriter.{startOf}
 use Rattle.services_writer.proofs.Laws.{start-next, size-within}
 use Rattle.services_writer.proofs.length_of.Statement.{statement}

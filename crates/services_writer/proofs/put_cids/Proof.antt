@@ -5,7 +5,7 @@ use Prim.Native.Nat.{ℕ, _≤_, _-_}
 use native.Mathlib.Nat.{le-antisymm}
 use lib.ListN.{length}
 use lib.Seq.{sets, length-sets}
-use Rattle.below.specs.Below.{joined}
+use Rattle.folds.specs.Folds.{joined}
 use Rattle.services_writer.specs.ServicesWriter.{cidBytes}
 use Rattle.services_writer.proofs.Laws.{cid-next}
 use Rattle.services_writer.proofs.put_cids.Statement.{statement}

@@ -6,7 +6,7 @@ use native.Mathlib.Nat.{le-antisymm}
 use native.Mathlib.Omega.{arith}
 use lib.ListN.{length}
 use lib.Seq.{sets, length-sets}
-use Rattle.below.specs.Below.{joined, sumOf}
+use Rattle.folds.specs.Folds.{joined, sumOf}
 use Rattle.device_services.specs.DeviceServices.{fixedPart}
 use Rattle.services_writer.specs.ServicesWriter.{startOf, piece}
 use Rattle.services_writer.proofs.Laws.{start-next, start-within, piece-next}

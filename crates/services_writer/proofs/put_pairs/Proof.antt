@@ -6,7 +6,7 @@ use native.Mathlib.Nat.{le-antisymm}
 use native.Mathlib.Omega.{arith}
 use lib.ListN.{length}
 use lib.Seq.{sets, length-sets}
-use Rattle.below.specs.Below.{joined, sumOf}
+use Rattle.folds.specs.Folds.{joined, sumOf}
 use Rattle.services_writer.specs.ServicesWriter.{startOf, pairBytes}
 use Rattle.services_writer.proofs.Laws.{start-next, start-within, pair-next}
 use Rattle.services_writer.proofs.put_pairs.Statement.{statement}

@@ -4,7 +4,7 @@ use mathlib.Core.Path.{_≡_, ap, _∙_}
 use Prim.Native.Nat.{_≤_, _-_}
 use native.Mathlib.Nat.{le-antisymm}
 use native.Mathlib.Omega.{arith}
-use Rattle.below.specs.Below.{listOf}
+use Rattle.folds.specs.Folds.{listOf}
 use Rattle.signal_state.specs.SignalState.{entryAt, entriesAt}
 use Rattle.signal_state.proofs.Laws.{one-more}
 use Rattle.signal_state.proofs.entries_at.Statement.{statement}

@@ -5,8 +5,8 @@ use mathlib.Core.Bool.{false}
 use Prim.Native.Nat.{_≤_, _-_}
 use native.Mathlib.Nat.{le-antisymm}
 use native.Mathlib.Omega.{arith}
-use Rattle.below.specs.Below.{anyOf}
-use Rattle.below.proofs.Laws.{any-at, none-next}
+use Rattle.folds.specs.Folds.{anyOf}
+use Rattle.folds.proofs.Laws.{any-at, none-next}
 use Rattle.signal_state.specs.SignalState.{entryIn, isKnown, anyKnown}
 use Rattle.signal_state.proofs.is_any_known.Statement.{statement}
 use Rattle.signal_state.proofs.is_any_known.Tie as tie

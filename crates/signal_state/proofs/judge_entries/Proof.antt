@@ -7,8 +7,8 @@ use native.Mathlib.Omega.{arith}
 use Rattle.protocol.specs.Verdict.{judge}
 use Rattle.protocol.specs.declared.Verdict.{Verdict}
 use Rattle.protocol.specs.declared.Verdict.the-variants.{Fits}
-use Rattle.below.specs.Below.{firstFault}
-use Rattle.below.proofs.Laws.{fits-next, fault-at}
+use Rattle.folds.specs.Folds.{firstFault}
+use Rattle.folds.proofs.Laws.{fits-next, fault-at}
 use Rattle.signal_state.specs.SignalState.{entryPlace, entryIn, entryRules, entriesVerdict}
 use Rattle.signal_state.proofs.judge_entries.Statement.{statement}
 use Rattle.signal_state.proofs.judge_entries.Tie as tie

@@ -6,8 +6,8 @@ use native.Mathlib.Nat.{le-antisymm}
 use native.Mathlib.Omega.{arith}
 use lib.ListN.{length}
 use lib.Seq.{sets, length-sets}
-use Rattle.below.specs.Below.{joined}
-use Rattle.below.proofs.Laws.{join-next}
+use Rattle.folds.specs.Folds.{joined}
+use Rattle.folds.proofs.Laws.{join-next}
 use Rattle.signal_state.specs.SignalState.{entryIn, entryBytes, entriesBytes}
 use Rattle.signal_state.proofs.Laws.{length-entries}
 use Rattle.signal_state.proofs.put_entries.Statement.{statement}

@@ -1,6 +1,6 @@
 -- The number judged, then the reader's answer.
 use borrow.Author.Needs.{needs}
-use Rattle.flat.specs.Signals.{answerBy}
+use Rattle.c_structs.specs.Signals.{answerBy}
 use Rattle.culvertroost.proofs.signals.cvr_signal_state_read.Statement.{statement}
 use Rattle.culvertroost.proofs.signals.cvr_signal_state_read.Tie as tie
 

@@ -2,7 +2,7 @@
 use borrow.Author.Needs.{needs}
 use Prim.Native.Nat.{_-_, _≤_}
 use native.Mathlib.Nat.{le-antisymm}
-use Rattle.below.specs.Below.{joined}
+use Rattle.folds.specs.Folds.{joined}
 use Rattle.device_services.specs.DeviceServices.{cidAt}
 use Rattle.rows.specs.Rows.{Put}
 use Rattle.entry_rows.specs.Services.{cidRow, cidRows}

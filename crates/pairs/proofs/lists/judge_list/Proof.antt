@@ -2,7 +2,7 @@
 use borrow.Author.Needs.{needs}
 use native.Mathlib.Nat.{add-zero}
 use Rattle.protocol.specs.Verdict.{firstOf}
-use Rattle.below.specs.Below.{firstFault}
+use Rattle.folds.specs.Folds.{firstFault}
 use Rattle.pairs.proofs.lists.judge_list.Statement.{statement}
 use Rattle.pairs.proofs.lists.judge_list.Tie as tie
 

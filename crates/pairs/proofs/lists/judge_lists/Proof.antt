@@ -5,8 +5,8 @@ use Prim.Native.Nat.{ℕ, _+_, _*_, _≤_, _-_}
 use native.Mathlib.Nat.{le-antisymm}
 use Rattle.protocol.specs.declared.Verdict.{Verdict}
 use Rattle.protocol.specs.declared.Verdict.the-variants.{Fits}
-use Rattle.below.specs.Below.{firstFault}
-use Rattle.below.proofs.Laws.{fits-next, fault-at}
+use Rattle.folds.specs.Folds.{firstFault}
+use Rattle.folds.proofs.Laws.{fits-next, fault-at}
 use Rattle.pairs.specs.Lists.{listVerdict, listsVerdict}
 use Rattle.pairs.proofs.lists.judge_lists.Statement.{statement}
 use Rattle.pairs.proofs.lists.judge_lists.Tie as tie

@@ -1,0 +1,44 @@
+-- The DEVICE_SERVICES payload's answers as plain members: 'listed' is 1 or 0, and a refused answer has all other members 0.
+use Rattle.device_services.specs.declared.DeviceServices.{DeviceServices}
+use Rattle.device_services.specs.declared.DeviceService.{DeviceService}
+use Rattle.device_services.specs.declared.DeviceServicesRead.{DeviceServicesRead}
+use Rattle.device_services.specs.declared.DeviceServicesRead.the-variants.{Info, Refused}
+use Rattle.services_query.specs.declared.ElementAnswer.{ElementAnswer}
+use Rattle.services_query.specs.declared.ElementAnswer.the-variants.{Listed, NotListed, Refused as NotShown}
+use Rattle.services_query.specs.declared.ListedAnswer.{ListedAnswer}
+use Rattle.services_query.specs.declared.ListedAnswer.the-variants.{Listed as IsListed, NotListed as IsNotListed, Refused as NotTold}
+use Rattle.c_structs.specs.declared.services.DeviceServicesAnswer.{DeviceServicesAnswer}
+use Rattle.c_structs.specs.declared.services.ElementInfo.{ElementInfo}
+use Rattle.c_structs.specs.declared.services.ListedInfo.{ListedInfo}
+use Rattle.c_structs.specs.Answers.{noRefusal}
+
+-- ---- the list's two numbers
+
+abbrev pub noInfo : DeviceServices
+noInfo = record { «device_services_count» = 0; «max_dss_sessions» = 0 }
+
+unfoldable pub answerOf : DeviceServicesRead → DeviceServicesAnswer
+answerOf (Info i) = record { refusal = noRefusal; info = i }
+answerOf (Refused r) = record { refusal = r; info = noInfo }
+
+-- ---- an element
+
+abbrev pub noElement : DeviceService
+noElement = record {
+  «device_service_id» = record { word0 = 0; word1 = 0; word2 = 0; word3 = 0 };
+  «dss_payload» = 0;
+  «max_dss_instances» = 0;
+  «cid_count» = 0;
+}
+
+unfoldable pub elementInfo : ElementAnswer → ElementInfo
+elementInfo (Listed e) = record { refusal = noRefusal; listed = 1; element = e }
+elementInfo NotListed = record { refusal = noRefusal; listed = 0; element = noElement }
+elementInfo (NotShown r) = record { refusal = r; listed = 0; element = noElement }
+
+-- ---- whether a service and a CID are listed
+
+unfoldable pub listedInfo : ListedAnswer → ListedInfo
+listedInfo IsListed = record { refusal = noRefusal; listed = 1 }
+listedInfo IsNotListed = record { refusal = noRefusal; listed = 0 }
+listedInfo (NotTold r) = record { refusal = r; listed = 0 }
