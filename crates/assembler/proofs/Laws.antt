@@ -33,8 +33,8 @@ pub rest : (n : ℕ) (s : List ℕ) → take (length s - n) (drop n s) ≡ drop 
 rest n s = take-all (length s - n) (drop n s) (simp length-drop (omega arith))
 
 -- two stores one after the other, from the front, where they have room
-pub delivered : (b xs s : List ℕ) (n : ℕ) {s₁ s₂ : List ℕ} → length b ≡ n → n + length xs ≤ length s → s₁ ≡ sets s 0 b → s₂ ≡ sets s₁ n xs → s₂ ≡ over (b ++ xs) s
-delivered b xs s n {s₁} e room p q =
+pub information-stored : (b xs s : List ℕ) (n : ℕ) {s₁ s₂ : List ℕ} → length b ≡ n → n + length xs ≤ length s → s₁ ≡ sets s 0 b → s₂ ≡ sets s₁ n xs → s₂ ≡ over (b ++ xs) s
+information-stored b xs s n {s₁} e room p q =
     sets-then b xs 0 n s e p (q ∙ ap (λ (k : ℕ). sets s₁ k xs) (omega arith)) ∙ sets-over (b ++ xs) s (omega (arith, length-append b xs))
 
 -- what is left at the front of a longer buffer

@@ -24,8 +24,8 @@ use Rattle.cutter.specs.Cut.{fragmentsOf, joined, wrongSize, wrongTransaction, 
 use Rattle.cutter.specs.declared.Cutting.the-variants.{Fragments}
 use Rattle.payload.specs.Payload.{wayOf, rowOf, shownIn, shownBy, shownOf}
 use Rattle.payload.specs.declared.Shown.the-variants.{Payload}
-use Rattle.exchange.specs.Messages.{Fits32, carried}
-use Rattle.claims.specs.Transfer.{Record, registered, attached, heard, listed, versioned, serviceOf, cidOf, kindOf, Reply, Indication, Carries}
+use Rattle.exchange.specs.Messages.{OfWidth, headerSeen}
+use Rattle.claims.specs.Transfer.{Record, registerState, packetService, signalState, deviceServices, versionInfo, serviceOf, cidOf, kindOf, Reply, Indication, Carries}
 
 -- ---- the rules of the cutter
 
@@ -69,58 +69,58 @@ accepts m size information stream w = kept-accepted m size information stream (w
 
 known-kind : (r : Record) → payloadKind (serviceOf r) (cidOf r) ≡ known.Payload (kindOf r)
 unfolding payloadKind among sameId idAt u32At basicConnect extensions serviceOf cidOf kindOf
-known-kind (registered p x y z) = refl
-known-kind (attached p) = refl
-known-kind (heard p es) = refl
-known-kind (listed p) = refl
-known-kind (versioned i) = refl
+known-kind (registerState p x y z) = refl
+known-kind (packetService p) = refl
+known-kind (signalState p es) = refl
+known-kind (deviceServices p) = refl
+known-kind (versionInfo i) = refl
 
 -- a good reply and an indication are answers
-answers : (m : MessageHeader) (k : Kind) → Reply m ⊎ Indication m → shownIn (rowOf k) (wayOf (carried m)) ≡ rowOf k .answer
-unfolding wayOf carried
+answers : (m : MessageHeader) (k : Kind) → Reply m ⊎ Indication m → shownIn (rowOf k) (wayOf (headerSeen m)) ≡ rowOf k .answer
+unfolding wayOf headerSeen
 answers m k (inl w) = rw (w .done, w .success)
 answers m k (inr w) = rw (w .indicates)
 
 own-row : (r : Record) → rowOf (kindOf r) .answer ≡ Payload (kindOf r)
 unfolding kindOf
-own-row (registered p x y z) = refl
-own-row (attached p) = refl
-own-row (heard p es) = refl
-own-row (listed p) = refl
-own-row (versioned i) = refl
+own-row (registerState p x y z) = refl
+own-row (packetService p) = refl
+own-row (signalState p es) = refl
+own-row (deviceServices p) = refl
+own-row (versionInfo i) = refl
 
-kind-of-carried : (r : Record) (m : MessageHeader) → Carries r m → payloadKind (carried m .service) (carried m .cid) ≡ known.Payload (kindOf r)
-unfolding carried
+kind-of-carried : (r : Record) (m : MessageHeader) → Carries r m → payloadKind (headerSeen m .service) (headerSeen m .cid) ≡ known.Payload (kindOf r)
+unfolding headerSeen
 kind-of-carried r m c = rw (c .service, c .cid) (known-kind r)
 
-has-payload : (m : MessageHeader) → Reply m ⊎ Indication m → isFragmented (carried m .«message_type») ≡ true
-unfolding isFragmented carried
+has-payload : (m : MessageHeader) → Reply m ⊎ Indication m → isFragmented (headerSeen m .«message_type») ≡ true
+unfolding isFragmented headerSeen
 has-payload m (inl w) = rw (w .done)
 has-payload m (inr w) = rw (w .indicates)
 
 -- the service and the CID are its own, and their row has its payload
-pub shows : (r : Record) (m : MessageHeader) → Carries r m → shownOf (carried m) ≡ Payload (kindOf r)
+pub shows : (r : Record) (m : MessageHeader) → Carries r m → shownOf (headerSeen m) ≡ Payload (kindOf r)
 unfolding shownOf shownBy
 shows r m c =
-    let k : payloadKind (carried m .service) (carried m .cid) ≡ known.Payload (kindOf r) = kind-of-carried r m c in
+    let k : payloadKind (headerSeen m .service) (headerSeen m .cid) ≡ known.Payload (kindOf r) = kind-of-carried r m c in
     rw (has-payload m (c .way), k) (answers m (kindOf r) (c .way) ∙ own-row r)
 
 -- ---- the header's numbers are of their width
 
 service-small : (r : Record) → (serviceOf r .word0 < 2 ^ 32) × ((serviceOf r .word1 < 2 ^ 32) × ((serviceOf r .word2 < 2 ^ 32) × ((serviceOf r .word3 < 2 ^ 32) × (cidOf r < 2 ^ 32))))
 unfolding serviceOf cidOf idAt u32At basicConnect extensions
-service-small (registered p x y z) = (omega arith, (omega arith, (omega arith, (omega arith, omega arith))))
-service-small (attached p) = (omega arith, (omega arith, (omega arith, (omega arith, omega arith))))
-service-small (heard p es) = (omega arith, (omega arith, (omega arith, (omega arith, omega arith))))
-service-small (listed p) = (omega arith, (omega arith, (omega arith, (omega arith, omega arith))))
-service-small (versioned i) = (omega arith, (omega arith, (omega arith, (omega arith, omega arith))))
+service-small (registerState p x y z) = (omega arith, (omega arith, (omega arith, (omega arith, omega arith))))
+service-small (packetService p) = (omega arith, (omega arith, (omega arith, (omega arith, omega arith))))
+service-small (signalState p es) = (omega arith, (omega arith, (omega arith, (omega arith, omega arith))))
+service-small (deviceServices p) = (omega arith, (omega arith, (omega arith, (omega arith, omega arith))))
+service-small (versionInfo i) = (omega arith, (omega arith, (omega arith, (omega arith, omega arith))))
 
 type-small : (m : MessageHeader) → Reply m ⊎ Indication m → m .«message_type» < 2 ^ 32
 type-small m (inl w) = omega (arith, w .done)
 type-small m (inr w) = omega (arith, w .indicates)
 
-pub real : (r : Record) (m : MessageHeader) → Carries r m → Fits32 m
-real r m c =
+pub width : (r : Record) (m : MessageHeader) → Carries r m → OfWidth m
+width r m c =
     let s = service-small r in
     record {
       type32 = type-small m (c .way);

@@ -11,7 +11,7 @@ use Rattle.protocol.specs.declared.Verdict.the-variants.{Fits}
 use Rattle.protocol.specs.declared.Written.the-variants.{Length}
 use Rattle.protocol.proofs.Verdicts.{written-front, written-fits}
 use Rattle.packet_service.specs.PacketService as packet
-use Rattle.packet_service.specs.Claims.{Sized as PacketSized}
+use Rattle.packet_service.specs.Claims.{OfWidth as PacketOfWidth}
 use Rattle.packet_service.specs.declared.PacketService.{PacketService}
 use Rattle.packet_service.proofs.RoundTrip as packetTrip
 use Rattle.packet_service.proofs.OtherVersion as packetOther
@@ -21,14 +21,14 @@ use Rattle.version_info.proofs.RoundTrip as versionTrip
 use Rattle.version_info.proofs.Acceptance as versionAccepted
 use Rattle.registration.specs.Registration as registration
 use Rattle.registration.specs.Claims.{Returned}
-use Rattle.registration.specs.Claims.{Sized as RegistrationSized}
+use Rattle.registration.specs.Claims.{OfWidth as RegistrationOfWidth}
 use Rattle.registration.specs.declared.Registration.{Registration}
 use Rattle.registration.proofs.RoundTrip as registrationTrip
 use Rattle.registration.proofs.OtherVersion as registrationOther
 use Rattle.registration.proofs.Acceptance as registrationAccepted
 use Rattle.signal_state.specs.SignalState as signal
-use Rattle.signal_state.specs.Claims.{EntriesSized}
-use Rattle.signal_state.specs.Claims.{Sized as SignalSized, Acceptable as SignalAcceptable}
+use Rattle.signal_state.specs.Claims.{EntriesOfWidth}
+use Rattle.signal_state.specs.Claims.{OfWidth as SignalOfWidth, Acceptable as SignalAcceptable}
 use Rattle.registration.specs.Registration.{writeOf as registrationWrite}
 use Rattle.packet_service.specs.PacketService.{writeOf as packetWrite}
 use Rattle.signal_state.specs.SignalState.{writeOf as signalWrite}
@@ -44,20 +44,20 @@ use Rattle.signal_state.proofs.Acceptance as signalAccepted
 use Rattle.services_writer.specs.ServicesWriter as services
 use Rattle.services_trip.proofs.RoundTrip as servicesTrip
 use Rattle.device_services.proofs.Acceptance as servicesAccepted
-use Rattle.claims.specs.Transfer.{Record, registered, attached, heard, listed, versioned, writeOf, Real, RegisteredBack, AttachedBack, HeardBack, ReadsBack}
+use Rattle.claims.specs.Transfer.{Record, registerState, packetService, signalState, deviceServices, versionInfo, writeOf, OfWidth, RegisterStateBack, PacketServiceBack, SignalStateBack, ReadsBack}
 
 -- ---- the bytes of each payload
 
-attached-back : (p : PacketService) → PacketSized p → packet.verdictOf p ≡ Fits → (w v : Version) → packet.versionOf p ≡ w → AttachedBack w v p (packet.bytesOf p)
-unfolding AttachedBack
+attached-back : (p : PacketService) → PacketOfWidth p → packet.verdictOf p ≡ Fits → (w v : Version) → packet.versionOf p ≡ w → PacketServiceBack w v p (packet.bytesOf p)
+unfolding PacketServiceBack
 attached-back p z f V1 V1 e = rw e at (packetTrip.bytes-read p z f)
 attached-back p z f V2 V2 e = rw e at (packetTrip.bytes-read p z f)
 attached-back p z f V2 V1 e = packetOther.later-read-earlier p e
 attached-back p z f V1 V2 e = packetOther.earlier-read-later p e
 
-registered-back : (p : Registration) (x y z : List ℕ) → RegistrationSized p → registration.writtenVerdict p (length x) (length y) (length z) ≡ Fits
-    → Returned p x y z (registration.bytesOf p x y z) → (w v : Version) → registration.versionOf p ≡ w → RegisteredBack w v p x y z (registration.bytesOf p x y z)
-unfolding RegisteredBack
+registered-back : (p : Registration) (x y z : List ℕ) → RegistrationOfWidth p → registration.writtenVerdict p (length x) (length y) (length z) ≡ Fits
+    → Returned p x y z (registration.bytesOf p x y z) → (w v : Version) → registration.versionOf p ≡ w → RegisterStateBack w v p x y z (registration.bytesOf p x y z)
+unfolding RegisterStateBack
 registered-back p x y z s f b V1 V1 e = b
 registered-back p x y z s f b V2 V2 e = b
 registered-back p x y z s f b V2 V1 e =
@@ -65,9 +65,9 @@ registered-back p x y z s f b V2 V1 e =
     (registration.laidFor p x y z, (registrationOther.later-read-earlier p x y z e s f, t))
 registered-back p x y z s f b V1 V2 e = registrationOther.earlier-read-later p x y z e s f
 
-heard-back : (p : SignalState) (es : List RsrpSnr) → SignalSized p → EntriesSized es → signal.writtenVerdict p es ≡ Fits → (g : SignalForm) (v : Version) → p .form ≡ g
-    → HeardBack (signal.versionIn g) v p es (signal.bytesOf p es)
-unfolding HeardBack
+heard-back : (p : SignalState) (es : List RsrpSnr) → SignalOfWidth p → EntriesOfWidth es → signal.writtenVerdict p es ≡ Fits → (g : SignalForm) (v : Version) → p .form ≡ g
+    → SignalStateBack (signal.versionIn g) v p es (signal.bytesOf p es)
+unfolding SignalStateBack
 heard-back p es z zs f Form1 V1 e = ap (λ (g : SignalForm). signal.readOf (signal.versionIn g) (signal.bytesOf p es)) (sym e) ∙ signalTrip.bytes-read p es z zs f
 heard-back p es z zs f Form1 V2 e = signalOther.earlier-read-later p es e
 heard-back p es z zs f (Form2 n) V2 e = ap (λ (g : SignalForm). signal.readOf (signal.versionIn g) (signal.bytesOf p es)) (sym e) ∙ signalTrip.bytes-read p es z zs f
@@ -77,23 +77,23 @@ heard-back p es z zs f (Form2 n) V1 e =
 
 -- ---- what a writer puts into an output
 
-pub reads-back : (r : Record) → Real r → (out : List ℕ) (n : ℕ) → writeOf r out .answer ≡ Length n → (v : Version) → ReadsBack r v (take n (writeOf r out .output))
-unfolding Real writeOf ReadsBack registrationWrite packetWrite signalWrite
-reads-back (registered p x y z) s out n e v =
+pub reads-back : (r : Record) → OfWidth r → (out : List ℕ) (n : ℕ) → writeOf r out .answer ≡ Length n → (v : Version) → ReadsBack r v (take n (writeOf r out .output))
+unfolding OfWidth writeOf ReadsBack registrationWrite packetWrite signalWrite
+reads-back (registerState p x y z) s out n e v =
     let d = registration.writtenVerdict p (length x) (length y) (length z) in
     let b = registration.bytesOf p x y z in
     let front : take n (registrationWrite p x y z out .output) ≡ b = written-front d b out n e in
     rw front (registered-back p x y z s (written-fits d b out n e) (rw front at (registrationTrip.round-trip p x y z out n s e)) (registration.versionOf p) v refl)
-reads-back (attached p) s out n e v =
+reads-back (packetService p) s out n e v =
     let d = packet.verdictOf p in
     let b = packet.bytesOf p in
     rw (written-front d b out n e) (attached-back p s (written-fits d b out n e) (packet.versionOf p) v refl)
-reads-back (heard p es) s out n e v =
+reads-back (signalState p es) s out n e v =
     let d = signal.writtenVerdict p es in
     let b = signal.bytesOf p es in
     rw (written-front d b out n e) (heard-back p es (s .0) (s .1) (written-fits d b out n e) (p .form) v refl)
-reads-back (listed p) s out n e v = servicesTrip.round-trip p out n s e
-reads-back (versioned i) s out n e v = versionTrip.round-trip i out n e
+reads-back (deviceServices p) s out n e v = servicesTrip.round-trip p out n s e
+reads-back (versionInfo i) s out n e v = versionTrip.round-trip i out n e
 
 -- ---- and it is no longer than a message can carry
 
@@ -105,14 +105,14 @@ signal-few : (v : Version) (s : List ℕ) → SignalAcceptable v s → length s 
 signal-few V1 s a = omega (arith, a .form)
 signal-few V2 s a = a .form .1 .0
 
-pub few : (r : Record) → Real r → (out : List ℕ) (n : ℕ) → writeOf r out .answer ≡ Length n → length (take n (writeOf r out .output)) ≤ 4096
-unfolding Real writeOf packetWrite
-few (registered p x y z) s out n e =
+pub few : (r : Record) → OfWidth r → (out : List ℕ) (n : ℕ) → writeOf r out .answer ≡ Length n → length (take n (writeOf r out .output)) ≤ 4096
+unfolding OfWidth writeOf packetWrite
+few (registerState p x y z) s out n e =
     let b = registrationTrip.round-trip p x y z out n s e in
     registrationAccepted.accepted (registration.versionOf p) _ p (b .texts) (b .read) .0 .most
-few (attached p) s out n e =
+few (packetService p) s out n e =
     rw (written-front (packet.verdictOf p) (packet.bytesOf p) out n e) (omega (arith, packetLaws.length-bytes p, packet-few (packet.versionOf p)))
-few (heard p es) s out n e =
+few (signalState p es) s out n e =
     signal-few (signal.versionOf p) _ (signalAccepted.accepted (signal.versionOf p) _ p _ (signalTrip.round-trip p es (s .0) (s .1) out n e) .0)
-few (listed p) s out n e = servicesAccepted.accepted _ (headOf p) (servicesTrip.round-trip p out n s e .read) .0 .most
-few (versioned i) s out n e = omega (arith, versionAccepted.accepted _ i (versionTrip.round-trip i out n e) .0 .long)
+few (deviceServices p) s out n e = servicesAccepted.accepted _ (headOf p) (servicesTrip.round-trip p out n s e .read) .0 .most
+few (versionInfo i) s out n e = omega (arith, versionAccepted.accepted _ i (versionTrip.round-trip i out n e) .0 .long)

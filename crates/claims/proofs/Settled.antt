@@ -16,14 +16,14 @@ use Rattle.version_info.specs.VersionInfo.{bytesOf}
 use Rattle.services_query.specs.declared.ListedAnswer.the-variants.{Listed, NotListed}
 use Rattle.services_writer.specs.ServicesWriter.{writeOf}
 use Rattle.services_trip.proofs.RoundTrip.{round-trip}
-use Rattle.exchange.specs.Messages.{Fits32}
+use Rattle.exchange.specs.Messages.{OfWidth}
 use Rattle.handshake.specs.Versions.{infoOf, larger, lower}
 use Rattle.handshake.specs.Modem.{noDeviceSupport}
 use Rattle.handshake.specs.Commands.{versionCid}
 use Rattle.handshake.specs.Run.{Message, asksServices, asksVersion, replyTo, Passes, listedAs}
 use Rattle.handshake.proofs.Run.{both-settle}
 use Rattle.services_writer.specs.declared.ServiceList.{ServiceList}
-use Rattle.claims.specs.Transfer.{listed, Real, writeOf as written}
+use Rattle.claims.specs.Transfer.{deviceServices, OfWidth, writeOf as written}
 use Rattle.claims.specs.Wire.{Way, Open, wire, Sendable}
 use Rattle.claims.specs.Settle.{listsVersion, ListWritten, BothSettle}
 use Rattle.claims.proofs.Back.{few}
@@ -41,7 +41,7 @@ services-sendable t n h = record {
   kind = inl refl;
   numbered = n;
   word = refl;
-  real = record {
+  width = record {
     type32 = omega arith;
     transaction32 = h;
     word0 = omega arith;
@@ -60,7 +60,7 @@ version-sendable t s n h l = record {
   kind = inl refl;
   numbered = n;
   word = refl;
-  real = record {
+  width = record {
     type32 = omega arith;
     transaction32 = h;
     word0 = omega arith;
@@ -79,14 +79,14 @@ reply-sendable c status s S small l = record {
   kind = inr refl;
   numbered = S .numbered;
   word = refl;
-  real = record {
+  width = record {
     type32 = omega arith;
-    transaction32 = S .real .transaction32;
-    word0 = S .real .word0;
-    word1 = S .real .word1;
-    word2 = S .real .word2;
-    word3 = S .real .word3;
-    cid32 = S .real .cid32;
+    transaction32 = S .width .transaction32;
+    word0 = S .width .word0;
+    word1 = S .width .word1;
+    word2 = S .width .word2;
+    word3 = S .width .word3;
+    cid32 = S .width .cid32;
     word32 = small;
   };
   few = l;
@@ -100,8 +100,8 @@ unfolding bytesOf
 version-few v = omega arith
 
 list-few : (p : ServiceList) (out : List ℕ) (n : ℕ) → ListWritten p out n → length (take n (writeOf p out .output)) ≤ 4096
-unfolding Real written
-list-few p out n l = few (listed p) (l .real) out n (l .accepted)
+unfolding OfWidth written
+list-few p out n l = few (deviceServices p) (l .width) out n (l .accepted)
 
 pub both-ends : BothSettle
 both-ends host modem advertised below p out n l given o S t₁ t₂ x y x32 y32 to₁ back₁ to₂ back₂ a₁ b₁ a₂ b₂ w₁ w₂ rh rm g f =
@@ -109,7 +109,7 @@ both-ends host modem advertised below p out n l given o S t₁ t₂ x y x32 y32 
     let small = list-few p out n l in
     both-settle (wire to₁ back₁) (wire to₂ back₂) w₁ w₂ t₁ t₂ given s host modem advertised (listsVersion p) g f (record {
       below = below;
-      list = round-trip p out n (l .real) (l .accepted) .listed (idAt extensions 0) versionCid ∙ said (listsVersion p);
+      list = round-trip p out n (l .width) (l .accepted) .listed (idAt extensions 0) versionCid ∙ said (listsVersion p);
       other = o;
       first-numbered = x;
       second-numbered = y;

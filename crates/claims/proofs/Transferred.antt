@@ -1,4 +1,4 @@
--- Every record that its writer accepts is carried whole: cut, fed after anything, shown and read back.
+-- Every record that its writer accepts is headerSeen whole: cut, fed after anything, shown and read back.
 -- Assumes nothing.
 use mathlib.Core.List.{List}
 use Prim.Native.Nat.{ℕ}
@@ -7,7 +7,7 @@ use Rattle.cutter.specs.Cut.{fragmentsOf, joined}
 use Rattle.exchange.proofs.Delivered.{delivered}
 use Rattle.exchange.proofs.Sent.{sent, sent-parts}
 use Rattle.claims.specs.Transfer.{writeOf, Transferred, EveryRecord}
-use Rattle.claims.proofs.Accepts.{accepts, shows, real}
+use Rattle.claims.proofs.Accepts.{accepts, shows, width}
 use Rattle.claims.proofs.Back.{reads-back, few}
 
 pub every-record : EveryRecord
@@ -21,7 +21,7 @@ every-record r z out n e m c size low high stream room earlier rooms =
       long = l;
       cut = a;
       fragments = sent-parts m size s stream k l (sent m size s stream k l a);
-      run = delivered m size s stream k l (record { real = real r m c; accepted = a }) rooms earlier;
+      run = delivered m size s stream k l (record { width = width r m c; accepted = a }) rooms earlier;
       shown = shows r m c;
       back = reads-back r z out n e;
     }

@@ -17,7 +17,7 @@ use Rattle.assembler.specs.Run.{Run, runOf}
 use Rattle.cutter.specs.Cut.{fragmentsOf, joined, wrongTransaction, cutOf}
 use Rattle.cutter.specs.declared.Cutting.the-variants.{Fragments}
 use Rattle.cutter.proofs.Whole.{most-cut}
-use Rattle.exchange.specs.Messages.{carried, parts, pieces, received}
+use Rattle.exchange.specs.Messages.{headerSeen, parts, pieces, received}
 use Rattle.exchange.proofs.Delivered.{fragments-received}
 use Rattle.exchange.proofs.Sent.{sent, sent-parts}
 use Rattle.handshake.specs.Run.{Message, Sent, sends}
@@ -36,13 +36,13 @@ header-kept m s = go (s .kind)
     go (inr e) = (rw e refl, (rw (e, n) refl, s .word))
 
 -- neither a COMMAND nor a COMMAND_DONE loses its word
-same-header : (h : MessageHeader) → (h .«message_type» ≡ COMMAND) ⊎ (h .«message_type» ≡ COMMAND-DONE) → carried h ≡ h
-unfolding carried
+same-header : (h : MessageHeader) → (h .«message_type» ≡ COMMAND) ⊎ (h .«message_type» ≡ COMMAND-DONE) → headerSeen h ≡ h
+unfolding headerSeen
 same-header h (inl e) = rw e refl
 same-header h (inr e) = rw e refl
 
 -- the last of the pieces that a message is received in shows it
-last-received : (h : MessageHeader) (s : List ℕ) (d : Bool) (room n : ℕ) → length s ≤ room → lastArrived (received h s d room n .seen) ≡ sends (record { header = carried h; information = s })
+last-received : (h : MessageHeader) (s : List ℕ) (d : Bool) (room n : ℕ) → length s ≤ room → lastArrived (received h s d room n .seen) ≡ sends (record { header = headerSeen h; information = s })
 unfolding received
 last-received h s d room zero l = rw (le-ltb room (length s) l)
 last-received h s d room (suc zero) l = rw (le-ltb room (length s) l)
@@ -57,7 +57,7 @@ arrives-whole w o m s =
     let l = length (joined (fragmentsOf h (w .size) x)) in
     let a = kept-accepted h (w .size) x (w .stream) (header-kept m s) (o .low) (o .high) (s .few) (omega (arith, most-cut h (w .size) x (o .low) (s .few), o .long)) in
     let e = sent-parts h (w .size) x (w .stream) k l (sent h (w .size) x (w .stream) k l a) in
-    let r = fragments-received h (w .size) x (w .stream) k l (record { real = s .real; accepted = a }) (w .room) (w .earlier) in
+    let r = fragments-received h (w .size) x (w .stream) k l (record { width = s .width; accepted = a }) (w .room) (w .earlier) in
     rw a (ap (λ (ps : List (List ℕ)). lastArrived (runOf (runOf empty (w .earlier) .end) (pieces (w .room) 0 ps) .seen)) e
     ∙ ap (λ (y : Run). lastArrived (y .seen)) r
     ∙ last-received h x (isPending (runOf empty (w .earlier) .end .progress)) (w .room (k - 1)) (k - 1) (omega (arith, o .wide (k - 1), s .few))

@@ -12,7 +12,7 @@ use Rattle.protocol.specs.declared.Written.the-variants.{Length}
 use Rattle.folds.specs.Folds.{anyOf}
 use Rattle.services_writer.specs.ServicesWriter.{writeOf}
 use Rattle.services_writer.specs.declared.ServiceList.{ServiceList}
-use Rattle.services_trip.specs.ServicesTrip.{holdsIn, Sized}
+use Rattle.services_trip.specs.ServicesTrip.{holdsIn, OfWidth}
 use Rattle.handshake.specs.Versions.{numberOf, above}
 use Rattle.handshake.specs.Commands.{versionCid}
 use Rattle.handshake.specs.Host.{end, openedOf}
@@ -28,7 +28,7 @@ listsVersion p = anyOf (holdsIn p (idAt extensions 0) versionCid) (p .«device_s
 
 -- what is written of the list p: n bytes of an output
 pub record ListWritten (p : ServiceList) (out : List ℕ) (n : ℕ) : Type 0 where
-  pub real : Sized p
+  pub width : OfWidth p
   pub accepted : writeOf p out .answer ≡ Length n
 
 -- any native versions, any advertised one not above the modem's, any list that the writer accepts, any other command, any transactions, any ways for the four

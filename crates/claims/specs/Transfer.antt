@@ -18,7 +18,7 @@ use Rattle.protocol.specs.declared.service.Kind.{Kind}
 use Rattle.protocol.specs.declared.service.Kind.the-variants as kinds
 use Rattle.pairs.specs.Claims.{shownIn}
 use Rattle.packet_service.specs.PacketService as packet
-use Rattle.packet_service.specs.Claims.{Sized as PacketSized}
+use Rattle.packet_service.specs.Claims.{OfWidth as PacketOfWidth}
 use Rattle.packet_service.specs.declared.PacketService.{PacketService}
 use Rattle.packet_service.specs.declared.PacketServiceRead.the-variants as packetRead
 use Rattle.version_info.specs.VersionInfo as version
@@ -26,19 +26,19 @@ use Rattle.version_info.specs.declared.VersionInfo.{VersionInfo}
 use Rattle.version_info.specs.declared.VersionInfoRead.the-variants as versionRead
 use Rattle.registration.specs.Registration as registration
 use Rattle.registration.specs.Claims.{Returned, shownEarlier, refusedLater}
-use Rattle.registration.specs.Claims.{Sized as RegistrationSized}
+use Rattle.registration.specs.Claims.{OfWidth as RegistrationOfWidth}
 use Rattle.registration.specs.declared.Registration.{Registration}
 use Rattle.registration.specs.declared.RegistrationTexts.{RegistrationTexts}
 use Rattle.registration.specs.declared.RegistrationRead.the-variants as registrationRead
 use Rattle.signal_state.specs.SignalState as signal
-use Rattle.signal_state.specs.Claims.{keptIn, EntriesSized}
-use Rattle.signal_state.specs.Claims.{Sized as SignalSized}
+use Rattle.signal_state.specs.Claims.{keptIn, EntriesOfWidth}
+use Rattle.signal_state.specs.Claims.{OfWidth as SignalOfWidth}
 use Rattle.signal_state.specs.declared.RsrpSnr.{RsrpSnr}
 use Rattle.signal_state.specs.declared.SignalState.{SignalState}
 use Rattle.signal_state.specs.declared.SignalStateRead.the-variants as signalRead
 use Rattle.services_writer.specs.ServicesWriter as services
 use Rattle.services_writer.specs.declared.ServiceList.{ServiceList}
-use Rattle.services_trip.specs.ServicesTrip.{Returned as ServicesReturned, Sized as ServicesSized}
+use Rattle.services_trip.specs.ServicesTrip.{Returned as ServicesReturned, OfWidth as ServicesOfWidth}
 use Rattle.message.specs.declared.MessageHeader.{MessageHeader}
 use Rattle.cutter.specs.Cut.{fragmentsOf, joined, cutOf}
 use Rattle.cutter.specs.declared.Cutting.the-variants.{Fragments}
@@ -46,56 +46,56 @@ use Rattle.assembler.specs.Assembly.{empty, isPending}
 use Rattle.assembler.specs.Run.{Piece, runOf}
 use Rattle.payload.specs.Payload.{shownOf}
 use Rattle.payload.specs.declared.Shown.the-variants.{Payload}
-use Rattle.exchange.specs.Messages.{carried, parts, pieces, received}
+use Rattle.exchange.specs.Messages.{headerSeen, parts, pieces, received}
 use Rattle.exchange.specs.Delivery.{thenRun}
 
 -- ---- the records: one of the five payloads, in either form, with its texts or its entries
 
 pub data Record : Type 0 where
-  registered : Registration → List ℕ → List ℕ → List ℕ → Record
-  attached : PacketService → Record
-  heard : SignalState → List RsrpSnr → Record
-  listed : ServiceList → Record
-  versioned : VersionInfo → Record
+  registerState : Registration → List ℕ → List ℕ → List ℕ → Record
+  packetService : PacketService → Record
+  signalState : SignalState → List RsrpSnr → Record
+  deviceServices : ServiceList → Record
+  versionInfo : VersionInfo → Record
 
 -- what the payload's writer does with an output
 unfoldable pub writeOf : Record → List ℕ → Writing
-writeOf (registered p x y z) s = registration.writeOf p x y z s
-writeOf (attached p) s = packet.writeOf p s
-writeOf (heard p es) s = signal.writeOf p es s
-writeOf (listed p) s = services.writeOf p s
-writeOf (versioned i) s = version.writeOf i s
+writeOf (registerState p x y z) s = registration.writeOf p x y z s
+writeOf (packetService p) s = packet.writeOf p s
+writeOf (signalState p es) s = signal.writeOf p es s
+writeOf (deviceServices p) s = services.writeOf p s
+writeOf (versionInfo i) s = version.writeOf i s
 
 -- each number is of its width, as in every value of the code's types
-unfoldable pub Real : Record → Type 0
-Real (registered p x y z) = RegistrationSized p
-Real (attached p) = PacketSized p
-Real (heard p es) = SignalSized p × EntriesSized es
-Real (listed p) = ServicesSized p
-Real (versioned i) = Unit
+unfoldable pub OfWidth : Record → Type 0
+OfWidth (registerState p x y z) = RegistrationOfWidth p
+OfWidth (packetService p) = PacketOfWidth p
+OfWidth (signalState p es) = SignalOfWidth p × EntriesOfWidth es
+OfWidth (deviceServices p) = ServicesOfWidth p
+OfWidth (versionInfo i) = Unit
 
 -- ---- the messages that carry a record: its own service and CID, in a DONE of status 0 or an indication, with a permitted transaction
 
 unfoldable pub serviceOf : Record → ServiceId
-serviceOf (registered p x y z) = idAt basicConnect 0
-serviceOf (attached p) = idAt basicConnect 0
-serviceOf (heard p es) = idAt basicConnect 0
-serviceOf (listed p) = idAt basicConnect 0
-serviceOf (versioned i) = idAt extensions 0
+serviceOf (registerState p x y z) = idAt basicConnect 0
+serviceOf (packetService p) = idAt basicConnect 0
+serviceOf (signalState p es) = idAt basicConnect 0
+serviceOf (deviceServices p) = idAt basicConnect 0
+serviceOf (versionInfo i) = idAt extensions 0
 
 unfoldable pub cidOf : Record → ℕ
-cidOf (registered p x y z) = 9
-cidOf (attached p) = 10
-cidOf (heard p es) = 11
-cidOf (listed p) = 16
-cidOf (versioned i) = 15
+cidOf (registerState p x y z) = 9
+cidOf (packetService p) = 10
+cidOf (signalState p es) = 11
+cidOf (deviceServices p) = 16
+cidOf (versionInfo i) = 15
 
 unfoldable pub kindOf : Record → Kind
-kindOf (registered p x y z) = kinds.RegisterState
-kindOf (attached p) = kinds.PacketService
-kindOf (heard p es) = kinds.SignalState
-kindOf (listed p) = kinds.DeviceServices
-kindOf (versioned i) = kinds.VersionInfo
+kindOf (registerState p x y z) = kinds.RegisterState
+kindOf (packetService p) = kinds.PacketService
+kindOf (signalState p es) = kinds.SignalState
+kindOf (deviceServices p) = kinds.DeviceServices
+kindOf (versionInfo i) = kinds.VersionInfo
 
 pub record Reply (m : MessageHeader) : Type 0 where
   pub done : m .«message_type» ≡ COMMAND-DONE
@@ -116,36 +116,36 @@ pub record Carries (r : Record) (m : MessageHeader) : Type 0 where
 -- ---- what is read back, by the version written at and the version read at
 
 -- the shared fields and the texts, or 9 at 12; and 6 or 1 the other way
-unfoldable pub RegisteredBack : Version → Version → Registration → List ℕ → List ℕ → List ℕ → List ℕ → Type 0
-RegisteredBack V1 V1 p x y z s = Returned p x y z s
-RegisteredBack V2 V2 p x y z s = Returned p x y z s
-RegisteredBack V2 V1 p x y z s =
+unfoldable pub RegisterStateBack : Version → Version → Registration → List ℕ → List ℕ → List ℕ → List ℕ → Type 0
+RegisterStateBack V1 V1 p x y z s = Returned p x y z s
+RegisterStateBack V2 V2 p x y z s = Returned p x y z s
+RegisterStateBack V2 V1 p x y z s =
     (t : RegistrationTexts)
     × ((registration.readOf V1 s ≡ shownEarlier p t)
     × ((shownIn s (t .«provider_id») ≡ x) × ((shownIn s (t .«provider_name») ≡ y) × (shownIn s (t .«roaming_text») ≡ z))))
-RegisteredBack V1 V2 p x y z s = registration.readOf V2 s ≡ registrationRead.Refused (refusedLater (length x) (length y) (length z))
+RegisterStateBack V1 V2 p x y z s = registration.readOf V2 s ≡ registrationRead.Refused (refusedLater (length x) (length y) (length z))
 
 -- the record, or 2 at 32, or 1 at 28
-unfoldable pub AttachedBack : Version → Version → PacketService → List ℕ → Type 0
-AttachedBack V1 V1 p s = packet.readOf V1 s ≡ packetRead.Info p
-AttachedBack V2 V2 p s = packet.readOf V2 s ≡ packetRead.Info p
-AttachedBack V2 V1 p s = packet.readOf V1 s ≡ packetRead.Refused (refusal wrongLength 32)
-AttachedBack V1 V2 p s = packet.readOf V2 s ≡ packetRead.Refused (refusal tooShort 28)
+unfoldable pub PacketServiceBack : Version → Version → PacketService → List ℕ → Type 0
+PacketServiceBack V1 V1 p s = packet.readOf V1 s ≡ packetRead.Info p
+PacketServiceBack V2 V2 p s = packet.readOf V2 s ≡ packetRead.Info p
+PacketServiceBack V2 V1 p s = packet.readOf V1 s ≡ packetRead.Refused (refusal wrongLength 32)
+PacketServiceBack V1 V2 p s = packet.readOf V2 s ≡ packetRead.Refused (refusal tooShort 28)
 
 -- the record and its entries, or 2 at the length, or 1 at 20
-unfoldable pub HeardBack : Version → Version → SignalState → List RsrpSnr → List ℕ → Type 0
-HeardBack V1 V1 p es s = signal.readOf V1 s ≡ record { answer = signalRead.Info p; entries = keptIn (p .form) es }
-HeardBack V2 V2 p es s = signal.readOf V2 s ≡ record { answer = signalRead.Info p; entries = keptIn (p .form) es }
-HeardBack V2 V1 p es s = signal.readOf V1 s ≡ signal.refused (refusal wrongLength (length s))
-HeardBack V1 V2 p es s = signal.readOf V2 s ≡ signal.refused (refusal tooShort 20)
+unfoldable pub SignalStateBack : Version → Version → SignalState → List RsrpSnr → List ℕ → Type 0
+SignalStateBack V1 V1 p es s = signal.readOf V1 s ≡ record { answer = signalRead.Info p; entries = keptIn (p .form) es }
+SignalStateBack V2 V2 p es s = signal.readOf V2 s ≡ record { answer = signalRead.Info p; entries = keptIn (p .form) es }
+SignalStateBack V2 V1 p es s = signal.readOf V1 s ≡ signal.refused (refusal wrongLength (length s))
+SignalStateBack V1 V2 p es s = signal.readOf V2 s ≡ signal.refused (refusal tooShort 20)
 
 -- VERSION and DEVICE_SERVICES have one form at both versions
 unfoldable pub ReadsBack : Record → Version → List ℕ → Type 0
-ReadsBack (registered p x y z) v s = RegisteredBack (registration.versionOf p) v p x y z s
-ReadsBack (attached p) v s = AttachedBack (packet.versionOf p) v p s
-ReadsBack (heard p es) v s = HeardBack (signal.versionOf p) v p es s
-ReadsBack (listed p) v s = ServicesReturned p s
-ReadsBack (versioned i) v s = version.readOf s ≡ versionRead.Info i
+ReadsBack (registerState p x y z) v s = RegisterStateBack (registration.versionOf p) v p x y z s
+ReadsBack (packetService p) v s = PacketServiceBack (packet.versionOf p) v p s
+ReadsBack (signalState p es) v s = SignalStateBack (signal.versionOf p) v p es s
+ReadsBack (deviceServices p) v s = ServicesReturned p s
+ReadsBack (versionInfo i) v s = version.readOf s ≡ versionRead.Info i
 
 -- ---- the claim
 
@@ -161,12 +161,12 @@ pub record Transferred (r : Record) (m : MessageHeader) (size : ℕ) (s stream :
   pub run : runOf empty (earlier ++ pieces room 0 (parts count size (take long (cutOf m size s stream .output))))
       ≡ thenRun (runOf empty earlier) (received m s (isPending (runOf empty earlier .end .progress)) (room (count - 1)) (count - 1))
   -- the message shows the record's payload
-  pub shown : shownOf (carried m) ≡ Payload (kindOf r)
+  pub shown : shownOf (headerSeen m) ≡ Payload (kindOf r)
   -- and at either version it reads back
   pub back : (v : Version) → ReadsBack r v s
 
 -- any record that the writer accepts, any message that carries it, any permitted transfer size, a stream with room for the fragments, any earlier pieces
 abbrev pub EveryRecord : Type 0
-EveryRecord = (r : Record) → Real r → (out : List ℕ) (n : ℕ) → writeOf r out .answer ≡ Length n → (m : MessageHeader) → Carries r m → (size : ℕ) → 64 ≤ size → size ≤ 4096
+EveryRecord = (r : Record) → OfWidth r → (out : List ℕ) (n : ℕ) → writeOf r out .answer ≡ Length n → (m : MessageHeader) → Carries r m → (size : ℕ) → 64 ≤ size → size ≤ 4096
     → (stream : List ℕ) → length (joined (fragmentsOf m size (take n (writeOf r out .output)))) ≤ length stream → (earlier : List Piece) (room : ℕ → ℕ)
     → Transferred r m size (take n (writeOf r out .output)) stream earlier room

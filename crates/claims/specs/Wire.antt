@@ -15,7 +15,7 @@ use Rattle.assembler.specs.declared.Answer.the-variants as answer
 use Rattle.cutter.specs.Cut.{cutOf}
 use Rattle.cutter.specs.declared.Cutting.{Cutting}
 use Rattle.cutter.specs.declared.Cutting.the-variants as cutting
-use Rattle.exchange.specs.Messages.{Fits32, parts, pieces}
+use Rattle.exchange.specs.Messages.{OfWidth, parts, pieces}
 use Rattle.handshake.specs.Run.{Message, Sent, nothing, sends, Line}
 
 -- ---- the way of a message: transfer size, the cutter's output, what the receiver's assembly was fed before, and the room in its output for each piece
@@ -65,5 +65,5 @@ pub record Sendable (m : Message) : Type 0 where
   pub kind : (m .header .«message_type» ≡ COMMAND) ⊎ (m .header .«message_type» ≡ COMMAND-DONE)
   pub numbered : 0 < m .header .transaction
   pub word : wrongWord (m .header) ≡ false
-  pub real : Fits32 (m .header)
+  pub width : OfWidth (m .header)
   pub few : length (m .information) ≤ 4096

@@ -2,4 +2,3 @@ pub mod Packets
 pub mod Registrations
 pub mod Signals
 pub mod Modems
-pub mod Claims

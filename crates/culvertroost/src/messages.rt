@@ -1,6 +1,4 @@
 // Messages, for C: judged whole, cut, and what one shows.
-use cutter::cut;
-use cutter::next_transaction;
 use c_structs::WrittenAnswer;
 use c_structs::messages::CutInfo;
 use c_structs::messages::KindInfo;
@@ -9,6 +7,8 @@ use c_structs::messages::cut_info;
 use c_structs::messages::kind_info;
 use c_structs::messages::whole_info;
 use c_structs::written_answer;
+use cutter::cut;
+use cutter::next_transaction;
 use message::MessageHeader;
 use message::judge_whole;
 use message::write_whole;

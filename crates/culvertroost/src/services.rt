@@ -1,5 +1,4 @@
 // DEVICE_SERVICES, for C.
-use device_services::read;
 use c_structs::WrittenAnswer;
 use c_structs::services::DeviceServicesAnswer;
 use c_structs::services::ElementInfo;
@@ -8,6 +7,7 @@ use c_structs::services::answer_of;
 use c_structs::services::element_info;
 use c_structs::services::listed_info;
 use c_structs::written_answer;
+use device_services::read;
 use protocol::service::ServiceId;
 use protocol::service::id_at;
 use services_query::cids_of;

@@ -95,25 +95,25 @@ most-cut m size information low small =
 
 -- ---- the stores: the first fragment and then the others
 
-pub all-stored : (m : MessageHeader) (size : ℕ) (information s : List ℕ) (total carried end : ℕ) {s₁ s₂ : List ℕ}
+pub all-stored : (m : MessageHeader) (size : ℕ) (information s : List ℕ) (total amount end : ℕ) {s₁ s₂ : List ℕ}
     → length (joined (fragmentsOf m size information)) ≤ length s
     → total ≡ 1 + laterCount (size - firstLength (m .«message_type»)) (size - 20) (length information)
-    → carried ≡ min (length information) (size - firstLength (m .«message_type»))
-    → end ≡ firstLength (m .«message_type») + carried
-    → s₁ ≡ sets s 0 (firstBytes m total (length information) (take carried information))
-    → s₂ ≡ sets s₁ end (joined (laterFragments m (size - 20) total 1 (total - 1) (drop carried information)))
+    → amount ≡ min (length information) (size - firstLength (m .«message_type»))
+    → end ≡ firstLength (m .«message_type») + amount
+    → s₁ ≡ sets s 0 (firstBytes m total (length information) (take amount information))
+    → s₂ ≡ sets s₁ end (joined (laterFragments m (size - 20) total 1 (total - 1) (drop amount information)))
     → s₂ ≡ over (joined (fragmentsOf m size information)) s
 unfolding fragmentsOf fragmentsBy joined
-all-stored m size information s total carried end {s₁} room et ec ee p q =
+all-stored m size information s total amount end {s₁} room et ec ee p q =
     let first = size - firstLength (m .«message_type») in
     let k = laterCount first (size - 20) (length information) in
     let a = firstBytes m (1 + k) (length information) (take first information) in
     let b = joined (laterFragments m (size - 20) (1 + k) 1 k (drop first information)) in
     let less : total - 1 ≡ k = omega arith in
-    let lt : length (take first information) ≡ carried = simp length-take (omega arith) in
+    let lt : length (take first information) ≡ amount = simp length-take (omega arith) in
     let la : length a ≡ end = length-first m (1 + k) (length information) (take first information) ∙ omega arith in
-    let p′ : s₁ ≡ sets s 0 a = p ∙ (λ i. sets s 0 (firstBytes m (et i) (length information) (cut-take information carried first ec i))) in
-    let q′ : _ ≡ sets s₁ (0 + end) b = q ∙ (λ i. sets s₁ end (joined (laterFragments m (size - 20) (et i) 1 (less i) (cut-drop information carried first ec i)))) ∙ ap (λ (j : ℕ). sets s₁ j b) (omega arith) in
+    let p′ : s₁ ≡ sets s 0 a = p ∙ (λ i. sets s 0 (firstBytes m (et i) (length information) (cut-take information amount first ec i))) in
+    let q′ : _ ≡ sets s₁ (0 + end) b = q ∙ (λ i. sets s₁ end (joined (laterFragments m (size - 20) (et i) 1 (less i) (cut-drop information amount first ec i)))) ∙ ap (λ (j : ℕ). sets s₁ j b) (omega arith) in
     sets-then a b 0 end s la p′ q′ ∙ sets-over (a ++ b) s room
 
 -- ---- the two answers about room

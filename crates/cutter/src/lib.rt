@@ -103,16 +103,16 @@ fn cut_fitting(message: MessageHeader, size: usize, information: &[u8], out: &mu
         });
     }
     let count = (1 + later) as u32;
-    let carried = least(n, size - head);
-    put_first(message, count, information, carried, out);
+    let amount = least(n, size - head);
+    put_first(message, count, information, amount, out);
     put_later(
         message,
         size - 20,
         count,
         information,
-        carried,
+        amount,
         out,
-        head + carried,
+        head + amount,
     );
     Cutting::Fragments { count, length }
 }
@@ -122,8 +122,8 @@ fn later_count(first: usize, each: usize, n: usize) -> usize
     requires { ⌜ (0 < each) × (each ≤ 4096) × (n ≤ 4096) ⌝ }
     ensures { λ r. ⌜ r ≡ laterCount first each n ⌝ }
 {
-    let carried = least(n, first);
-    (n - carried + (each - 1)) / each
+    let amount = least(n, first);
+    (n - amount + (each - 1)) / each
 }
 
 fn put_header(
@@ -175,15 +175,15 @@ fn put_opening(message: MessageHeader, n: u32, out: &mut [u8])
     put_u32(out, 44, n);
 }
 
-// The first fragment, which carries the first `carried` bytes of the information.
-fn put_first(message: MessageHeader, total: u32, information: &[u8], carried: usize, out: &mut [u8])
-    requires { ⌜ (carried ≤ length (now information)) × (length (now information) ≤ 4096) ⌝ }
-    ensures { λ _. ⌜ now (out .exit) ≡ sets (now (out .entry)) 0 (firstBytes message total (length (now (information .entry))) (take carried (now (information .entry)))) ⌝ }
+// The first fragment, which carries the first `amount` bytes of the information.
+fn put_first(message: MessageHeader, total: u32, information: &[u8], amount: usize, out: &mut [u8])
+    requires { ⌜ (amount ≤ length (now information)) × (length (now information) ≤ 4096) ⌝ }
+    ensures { λ _. ⌜ now (out .exit) ≡ sets (now (out .entry)) 0 (firstBytes message total (length (now (information .entry))) (take amount (now (information .entry)))) ⌝ }
 {
     let head = length_place(message.message_type) + 4;
-    put_header(message, head + carried, total, 0, out, 0);
+    put_header(message, head + amount, total, 0, out, 0);
     put_opening(message, information.len() as u32, out);
-    put_bytes(out, head, &information[..carried]);
+    put_bytes(out, head, &information[..amount]);
 }
 
 // The fragments after the first.
@@ -203,17 +203,17 @@ fn put_later(
     let mut position = from;
     let mut end = at;
     while number < total {
-        let carried = least(information.len() - position, each);
+        let amount = least(information.len() - position, each);
         put_fragment(
             message,
             total,
             number,
-            &information[position..position + carried],
+            &information[position..position + amount],
             out,
             end,
         );
-        position = position + carried;
-        end = end + 20 + carried;
+        position = position + amount;
+        end = end + 20 + amount;
         number = number + 1;
     }
 }

@@ -41,7 +41,7 @@ fragments-received m size information out count n C room earlier =
     let later = laterCount first (size - 20) (length information) in
     let e : count - 1 ≡ later = omega (arith, S .counted) in
     let h = place-most (m .«message_type») in
-    all-run m (C .real) (S .known) (S .word) a (reached earlier .whole) room first (size - 20) information later (omega (arith, S .low, S .high)) (omega (arith, S .low, S .high)) (S .small)
+    all-run m (C .width) (S .known) (S .word) a (reached earlier .whole) room first (size - 20) information later (omega (arith, S .low, S .high)) (omega (arith, S .low, S .high)) (S .small)
     (count-few first (size - 20) (length information) (omega (arith, S .low)) (S .small))
     (count-holds first (size - 20) (length information) (omega (arith, S .low)) (S .small))
     ∙ ap (λ (k : ℕ). received m information (isPending (a .progress)) (room k) k) (sym e)

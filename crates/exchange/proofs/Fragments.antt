@@ -19,14 +19,14 @@ use Rattle.message.specs.declared.Fragment.the-variants as fragment
 use Rattle.message.proofs.Headers.{accepted-later, accepted-opening}
 use Rattle.cutter.specs.Cut.{headerBytes, fragmentBytes, wordBytes, openingBytes, firstBytes}
 use Rattle.cutter.proofs.Stored.{length-fragment, length-opening, length-first}
-use Rattle.exchange.specs.Messages.{Fits32, carried}
+use Rattle.exchange.specs.Messages.{OfWidth, headerSeen}
 
 -- ---- any fragment
 
 abbrev pub headerOf : MessageHeader → ℕ → ℕ → FragmentHeader
 headerOf m total number = record { «message_type» = m .«message_type»; transaction = m .transaction; total = total; number = number }
 
-module _ (m : MessageHeader) (F : Fits32 m) (total number : ℕ) (xs : List ℕ) (total32 : total < 2 ^ 32) (number32 : number < 2 ^ 32) (fits : 20 + length xs < 2 ^ 32) where
+module _ (m : MessageHeader) (F : OfWidth m) (total number : ℕ) (xs : List ℕ) (total32 : total < 2 ^ 32) (number32 : number < 2 ^ 32) (fits : 20 + length xs < 2 ^ 32) where
   at-0 : u32At (fragmentBytes m total number xs) 0 ≡ m .«message_type»
   unfolding fragmentBytes headerBytes u32At
   at-0 = num-digits 4 (m .«message_type») [] (F .type32)
@@ -61,8 +61,8 @@ drop-fragment m total number xs = refl
 
 -- ---- a first fragment of n bytes of information, of which it carries xs
 
-carried-word : (m : MessageHeader) → wrongWord m ≡ false → wrongWord (carried m) ≡ false
-unfolding wrongWord carried
+carried-word : (m : MessageHeader) → wrongWord m ≡ false → wrongWord (headerSeen m) ≡ false
+unfolding wrongWord headerSeen
 carried-word m h = go (eqb (m .«message_type») INDICATE-STATUS) (eqb (m .«message_type») COMMAND) h
   where
     go : (b k : Bool) → (k && ltb 1 (m .word)) ≡ false → (k && ltb 1 (cond b 0 (m .word))) ≡ false
@@ -70,7 +70,7 @@ carried-word m h = go (eqb (m .«message_type») INDICATE-STATUS) (eqb (m .«mes
     go true false e = refl
     go false k e = e
 
-module _ (m : MessageHeader) (F : Fits32 m) (total n : ℕ) (xs : List ℕ) (total32 : total < 2 ^ 32) (n32 : n < 2 ^ 32) where
+module _ (m : MessageHeader) (F : OfWidth m) (total n : ℕ) (xs : List ℕ) (total32 : total < 2 ^ 32) (n32 : n < 2 ^ 32) where
   at-20 : idAt (firstBytes m total n xs) 20 ≡ m .service
   unfolding firstBytes fragmentBytes headerBytes openingBytes idBytes idAt u32At
   at-20 = λ i. record {
@@ -84,11 +84,11 @@ module _ (m : MessageHeader) (F : Fits32 m) (total n : ℕ) (xs : List ℕ) (tot
   unfolding firstBytes fragmentBytes headerBytes openingBytes idBytes u32At
   at-36 = num-digits 4 (m .cid) [] (F .cid32)
 
-  at-word : wordAt (m .«message_type») (firstBytes m total n xs) ≡ carried m .word
-  unfolding firstBytes fragmentBytes headerBytes openingBytes wordBytes idBytes u32At wordAt carried
+  at-word : wordAt (m .«message_type») (firstBytes m total n xs) ≡ headerSeen m .word
+  unfolding firstBytes fragmentBytes headerBytes openingBytes wordBytes idBytes u32At wordAt headerSeen
   at-word = go (eqb (m .«message_type») INDICATE-STATUS) refl
     where
-      go : (b : Bool) → eqb (m .«message_type») INDICATE-STATUS ≡ b → wordAt (m .«message_type») (firstBytes m total n xs) ≡ carried m .word
+      go : (b : Bool) → eqb (m .«message_type») INDICATE-STATUS ≡ b → wordAt (m .«message_type») (firstBytes m total n xs) ≡ headerSeen m .word
       go true e = rw e refl
       go false e = rw e (num-digits 4 (m .word) [] (F .word32))
 
@@ -101,7 +101,7 @@ module _ (m : MessageHeader) (F : Fits32 m) (total n : ℕ) (xs : List ℕ) (tot
       go false e = rw e (num-digits 4 n [] n32)
 
 -- it is accepted with the message that was cut
-module _ (m : MessageHeader) (F : Fits32 m) (total n : ℕ) (xs : List ℕ) (few : total ≤ 128) (small : n ≤ mostInformation) (short : firstLength (m .«message_type») + length xs ≤ mostTransfer) where
+module _ (m : MessageHeader) (F : OfWidth m) (total n : ℕ) (xs : List ℕ) (few : total ≤ 128) (small : n ≤ mostInformation) (short : firstLength (m .«message_type») + length xs ≤ mostTransfer) where
   fits : 20 + length (openingBytes m n ++ xs) ≤ mostTransfer
   fits = omega (arith, short, length-opening m n, length-append (openingBytes m n) xs)
 
@@ -117,8 +117,8 @@ module _ (m : MessageHeader) (F : Fits32 m) (total n : ℕ) (xs : List ℕ) (few
   unfolding firstBytes
   first-12 = at-12 m F total 0 (openingBytes m n ++ xs) (omega arith) (omega arith) (omega (arith, fits))
 
-  message-read : messageAt (firstBytes m total n xs) ≡ carried m
-  unfolding messageAt carried
+  message-read : messageAt (firstBytes m total n xs) ≡ headerSeen m
+  unfolding messageAt headerSeen
   message-read = λ i. record {
     «message_type» = first-0 i;
     transaction = first-8 i;
@@ -143,7 +143,7 @@ module _ (m : MessageHeader) (F : Fits32 m) (total n : ℕ) (xs : List ℕ) (few
   first-16 = at-16 m F total 0 (openingBytes m n ++ xs) (omega arith) (omega arith) (omega (arith, fits))
 
   pub first-judged : isFragmented (m .«message_type») ≡ true → 0 < total → wrongWord m ≡ false → wrongAmount (eqb total 1) (length xs) n ≡ false
-      → fragmentOf (firstBytes m total n xs) ≡ fragment.First (headerOf m total 0) (record { message = carried m; «information_length» = n })
+      → fragmentOf (firstBytes m total n xs) ≡ fragment.First (headerOf m total 0) (record { message = headerSeen m; «information_length» = n })
   first-judged known some word amount =
       accepted-opening (firstBytes m total n xs) first-4 (rw length-first short) (ap isFragmented first-0 ∙ known) (rw first-12 some) (rw first-12 few) first-16
       (rw (first-0, length-first) (omega arith)) (ap wrongWord message-read ∙ carried-word m word) (rw declared-read small)

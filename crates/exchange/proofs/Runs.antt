@@ -25,17 +25,17 @@ use Rattle.assembler.specs.declared.Answer.the-variants.{Pending, Complete, Ref
 use Rattle.protocol.specs.Refusal.{refusal, outputTooSmall}
 use Rattle.cutter.specs.Cut.{fragmentBytes, firstBytes, laterFragments, fragmentsBy}
 use Rattle.cutter.proofs.Stored.{length-fragment}
-use Rattle.exchange.specs.Messages.{Fits32, carried, pieces, received}
+use Rattle.exchange.specs.Messages.{OfWidth, headerSeen, pieces, received}
 use Rattle.exchange.proofs.Fragments.{headerOf, later-judged, drop-fragment, first-judged, drop-first}
 
 -- an assembly in the middle of m: `number` comes next, and the first `gathered` of `bytes` are there
 abbrev held : MessageHeader → ℕ → ℕ → ℕ → ℕ → List ℕ → Assembly
 held m total declared number gathered bytes =
-    assemblyOf (record { message = carried m; total = total; next = number; «information_length» = declared; gathered = gathered }) bytes
+    assemblyOf (record { message = headerSeen m; total = total; next = number; «information_length» = declared; gathered = gathered }) bytes
 
 -- ---- one step
 
-module _ (m : MessageHeader) (F : Fits32 m) (known : isFragmented (m .«message_type») ≡ true) (total : ℕ) (few : total ≤ 128) where
+module _ (m : MessageHeader) (F : OfWidth m) (known : isFragmented (m .«message_type») ≡ true) (total : ℕ) (few : total ≤ 128) where
   -- a first fragment begins anew, whatever the assembly is
   first-step : (a : Assembly) (room n : ℕ) (xs : List ℕ) → 0 < total → wrongWord m ≡ false → n ≤ mostInformation → firstLength (m .«message_type») + length xs ≤ mostTransfer
       → wrongAmount (eqb total 1) (length xs) n ≡ false
@@ -47,7 +47,7 @@ module _ (m : MessageHeader) (F : Fits32 m) (known : isFragmented (m .«message_
   continues-own : (declared number gathered : ℕ) (bytes : List ℕ) → declared ≤ mostInformation
       → continues (held m total declared number gathered bytes .progress)
       (headerOf m total number) ≡ true
-  unfolding continues carried
+  unfolding continues headerSeen
   continues-own declared number gathered bytes small =
       rw (eq-eqb (m .«message_type») (m .«message_type») refl, eq-eqb (m .transaction) (m .transaction) refl, eq-eqb total total refl, eq-eqb number number refl, le-leb declared 4096 small)
 
@@ -91,7 +91,7 @@ last-seen m total number gathered bytes xs information d room s e all = go (ltb 
   where
     go : (b : Bool) → s ≡ cond b (refused (refusal outputTooSmall (length information))) (completed (held m total (length information) number gathered bytes) xs d)
         → alone s
-        ≡ only (cond b (record { answer = Refused (refusal outputTooSmall (length information)); information = [] }) (record { answer = Complete (carried m) (length information) d; information = information }))
+        ≡ only (cond b (record { answer = Refused (refusal outputTooSmall (length information)); information = [] }) (record { answer = Complete (headerSeen m) (length information) d; information = information }))
     go true q = rw q refl
     go false q = rw (q, all) refl
 
@@ -103,7 +103,7 @@ waits m information d room left e = ap (andThen (record { answer = Pending d; in
 
 -- ---- the fragments from `number` on, once `got` is gathered and xs is left
 
-module _ (m : MessageHeader) (F : Fits32 m) (known : isFragmented (m .«message_type») ≡ true) (total : ℕ) (few : total ≤ 128) (each : ℕ) (cap : 20 + each ≤ 4096)
+module _ (m : MessageHeader) (F : OfWidth m) (known : isFragmented (m .«message_type») ≡ true) (total : ℕ) (few : total ≤ 128) (each : ℕ) (cap : 20 + each ≤ 4096)
     (room : ℕ → ℕ) (information : List ℕ) (small : length information ≤ 4096) where
   later-run : (left number gathered : ℕ) (bytes got xs : List ℕ) → 0 < number → number + suc left ≡ total → length xs ≤ suc left * each
       → gathered ≡ length got → take gathered bytes ≡ got → length bytes ≡ 4096 → got ++ xs ≡ information
@@ -146,7 +146,7 @@ begun-length true bytes e = length-replicate {A = ℕ} 4096 0
 begun-length false bytes e = e
 
 -- fed to any assembly of 4,096 bytes, they complete their message at the last one, or meet 11 there
-pub all-run : (m : MessageHeader) → Fits32 m → isFragmented (m .«message_type») ≡ true → wrongWord m ≡ false → (a : Assembly) → length (a .bytes) ≡ 4096
+pub all-run : (m : MessageHeader) → OfWidth m → isFragmented (m .«message_type») ≡ true → wrongWord m ≡ false → (a : Assembly) → length (a .bytes) ≡ 4096
     → (room : ℕ → ℕ) (first each : ℕ) (information : List ℕ) (later : ℕ) → firstLength (m .«message_type») + first ≤ 4096 → 20 + each ≤ 4096 → length information ≤ 4096
     → later < 128 → length information - first ≤ later * each
     → runOf a (pieces room 0 (fragmentsBy m first each later information)) ≡ received m information (isPending (a .progress)) (room later) later

@@ -11,7 +11,7 @@ use Rattle.assembler.specs.Run.{Piece, Run, runOf}
 use Rattle.cutter.specs.Cut.{cutOf}
 use Rattle.cutter.specs.declared.Cutting.the-variants.{Fragments}
 use Rattle.wire.specs.Runs.{over}
-use Rattle.exchange.specs.Messages.{Fits32, parts, pieces, lastSeen, received}
+use Rattle.exchange.specs.Messages.{OfWidth, parts, pieces, lastSeen, received}
 use Rattle.exchange.specs.Collected.{Collected, before, collected}
 
 -- one run after another
@@ -20,7 +20,7 @@ thenRun r t = record { seen = r .seen ++ t .seen; end = t .end }
 
 -- the cutter put `count` fragments into the first n bytes of its output
 pub record CutInto (m : MessageHeader) (size : ℕ) (information out : List ℕ) (count n : ℕ) : Type 0 where
-  pub real : Fits32 m
+  pub width : OfWidth m
   pub accepted : cutOf m size information out .answer ≡ Fragments count n
 
 -- after any earlier pieces, fed from empty, the parts of the cutter's output complete the message at the last one, if that one has room for

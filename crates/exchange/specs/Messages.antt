@@ -1,5 +1,5 @@
 -- Messages from the cutter to the assembler (document 01, demand 3: "a single claim about whole runs").
--- In this order: values of the header's real type; the fragments as pieces; what a receiver sees of a message.
+-- In this order: headers of the code's own type; the fragments as pieces; what a receiver sees of a message.
 use Prim.Native.Nat.{ℕ, zero, suc, _+_, _^_, _<_}
 use mathlib.Core.Bool.{Bool, false, cond}
 use mathlib.Core.List.{List, [], _∷_}
@@ -13,7 +13,7 @@ use Rattle.assembler.specs.Run.{Piece, Seen, Run, andThen}
 use Rattle.assembler.specs.declared.Answer.the-variants.{Pending, Complete, Refused}
 
 -- each field is a 32-bit number, as in every value of the code's type
-pub record Fits32 (m : MessageHeader) : Type 0 where
+pub record OfWidth (m : MessageHeader) : Type 0 where
   pub type32 : m .«message_type» < 2 ^ 32
   pub transaction32 : m .transaction < 2 ^ 32
   pub word0 : m .service .word0 < 2 ^ 32
@@ -23,9 +23,9 @@ pub record Fits32 (m : MessageHeader) : Type 0 where
   pub cid32 : m .cid < 2 ^ 32
   pub word32 : m .word < 2 ^ 32
 
--- the header that is carried: an indication has no word, and the receiver sees 0
-unfoldable pub carried : MessageHeader → MessageHeader
-carried m = record {
+-- the header that is headerSeen: an indication has no word, and the receiver sees 0
+unfoldable pub headerSeen : MessageHeader → MessageHeader
+headerSeen m = record {
   «message_type» = m .«message_type»;
   transaction = m .transaction;
   service = m .service;
@@ -47,7 +47,7 @@ pieces room k (p ∷ ps) = record { bytes = p; room = room k } ∷ pieces room (
 abbrev pub lastSeen : MessageHeader → List ℕ → Bool → ℕ → Seen
 lastSeen m information dropped room =
     cond (ltb room (length information)) (record { answer = Refused (refusal outputTooSmall (length information)); information = [] })
-    (record { answer = Complete (carried m) (length information) dropped; information = information })
+    (record { answer = Complete (headerSeen m) (length information) dropped; information = information })
 
 -- n pieces that wait, and then the last one, which leaves the empty assembly; the first one says whether a message was dropped
 unfoldable pub received : MessageHeader → List ℕ → Bool → ℕ → ℕ → Run

@@ -112,21 +112,21 @@ pub record Both : Type 0 where
 abbrev pub both : HostStep → Modem → Sent → Both
 both s m c = record { host = s .host; modem = m; answer = s .answer; sent = c }
 
-unfoldable pub heard : Host → Sent → HostStep
-heard h nothing = unchanged h
-heard h (sends r) = receiveOf h (r .header) (r .information)
+unfoldable pub hostAfter : Host → Sent → HostStep
+hostAfter h nothing = unchanged h
+hostAfter h (sends r) = receiveOf h (r .header) (r .information)
 
 -- the command c was sent, and d is what the modem did with what arrived of it
 unfoldable pub answered : Line → Host → Message → MessageHeader → Commanding → List ℕ → Both
-answered l h c arrived d services = both (heard h (reaches (l .back) (replyOf d arrived services))) (d .step .modem) (sends c)
+answered l h c arrived d services = both (hostAfter h (reaches (l .back) (replyOf d arrived services))) (d .step .modem) (sends c)
 
 unfoldable pub taken : Line → Message → Sent → Host → Modem → List ℕ → List ℕ → Both
 taken l c nothing h m room services = both (unchanged h) m (sends c)
 taken l c (sends a) h m room services = answered l h c (a .header) (modemReceives m (a .header) (a .information) room) services
 
-unfoldable pub delivered : Line → Sent → Host → Modem → List ℕ → List ℕ → Both
-delivered l nothing h m room services = both (unchanged h) m nothing
-delivered l (sends c) h m room services = taken l c (l .to c) h m room services
+unfoldable pub commandOver : Line → Sent → Host → Modem → List ℕ → List ℕ → Both
+commandOver l nothing h m room services = both (unchanged h) m nothing
+commandOver l (sends c) h m room services = taken l c (l .to c) h m room services
 
 -- the rooms of a turn: the host's and the modem's lent output
 pub record Rooms : Type 0 where
@@ -135,7 +135,7 @@ pub record Rooms : Type 0 where
 
 -- over a line, in a transaction
 unfoldable pub turn : Line → Rooms → ℕ → Message → List ℕ → Host → Modem → Both
-turn l w transaction given services h m = delivered l (sentOf (askOf h (w .host)) transaction given) h m (w .modem) services
+turn l w transaction given services h m = commandOver l (sentOf (askOf h (w .host)) transaction given) h m (w .modem) services
 
 -- ---- the run
 
@@ -150,7 +150,7 @@ unlessRefused (answer.Refused r) before after = before
 abbrev pub andThen : Both → Line → Rooms → ℕ → Message → List ℕ → Both
 andThen b l w transaction given services = unlessRefused (b .answer) b (turn l w transaction given services (b .host) (b .modem))
 
--- the two turns in two transactions, each over a line of its own: a later one may have heard more
+-- the two turns in two transactions, each over a line of its own: a later one may have hostAfter more
 unfoldable pub run : Line → Line → Rooms → Rooms → ℕ → ℕ → Message → List ℕ → Host → Modem → Both
 run l₁ l₂ w₁ w₂ t₁ t₂ given services h m = andThen (turn l₁ w₁ t₁ given services h m) l₂ w₂ t₂ given services
 

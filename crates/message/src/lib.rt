@@ -205,14 +205,14 @@ fn judge_first(s: &[u8]) -> First
     let place = length_place(message.message_type);
     let information_length = u32_at(s, place);
     let declared = information_length as usize;
-    let carried = minus(n, place + 4);
+    let amount = minus(n, place + 4);
     let alone = u32_at(s, 12) == 1;
     let short = also(Verdict::Fits, n < place + 4, TOO_SHORT, n);
     let word = also(short, is_wrong_word(message), OUTSIDE_TABLE, 40);
     let long = also(word, MOST_INFORMATION < declared, TOO_LONG, place);
     let amount = also(
         long,
-        is_wrong_amount(alone, carried, declared),
+        is_wrong_amount(alone, amount, declared),
         WRONG_LENGTH,
         place,
     );

@@ -1,12 +1,12 @@
 // The host's end: questions 22 to 26 and 31.
 use crate::least;
 use crate::messages::message_at;
+use c_structs::ends::HostInfo;
 use culvertroost::hosts::cvr_host_close;
 use culvertroost::hosts::cvr_host_make;
 use culvertroost::hosts::cvr_host_next_command;
 use culvertroost::hosts::cvr_host_open;
 use culvertroost::hosts::cvr_host_receive;
-use c_structs::ends::HostInfo;
 use protocol::service::id_at;
 use sample_lines::answers::Asked;
 use sample_lines::answers::few;

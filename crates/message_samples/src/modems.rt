@@ -1,11 +1,11 @@
 // The modem's end: questions 27 to 30 and 32.
 use crate::least;
 use crate::messages::message_at;
+use c_structs::ends::ModemInfo;
 use culvertroost::modems::cvr_modem_close;
 use culvertroost::modems::cvr_modem_make;
 use culvertroost::modems::cvr_modem_open;
 use culvertroost::modems::cvr_modem_receive;
-use c_structs::ends::ModemInfo;
 use protocol::Refusal;
 use protocol::service::id_at;
 use sample_lines::answers::Asked;

@@ -15,16 +15,16 @@ use Rattle.packet_service.specs.declared.PacketForm.the-variants.{V1 as 
 use Rattle.packet_service.specs.declared.PacketService.{PacketService}
 use Rattle.packet_service.specs.declared.PacketServiceRead.the-variants.{Info}
 use Rattle.packet_service.specs.PacketService.{lengthOf, formAt, recordAt, verdictOf, readOf, versionIn, versionOf, classIn, sharedBytes, rangeBytes, bytesOf, writeOf}
-use Rattle.packet_service.specs.Claims.{FormSized, Sized}
+use Rattle.packet_service.specs.Claims.{FormOfWidth, OfWidth}
 use Rattle.packet_service.proofs.Laws.{length-bytes}
 
-form-back : (p : PacketService) (f : PacketForm) → FormSized f → formAt (versionIn f) (sharedBytes p (classIn f) ++ rangeBytes f) ≡ f
+form-back : (p : PacketService) (f : PacketForm) → FormOfWidth f → formAt (versionIn f) (sharedBytes p (classIn f) ++ rangeBytes f) ≡ f
 unfolding u32At sharedBytes
 form-back p (Form1 class) z = ap Form1 (num-digits 4 class [] z)
 form-back p (Form2 class range) z = λ i. Form2 (num-digits 4 class [] (z .0) i) (num-digits 4 range [] (z .1) i)
 
 -- the fields of the bytes are the record's
-record-back : (p : PacketService) → Sized p → recordAt (versionOf p) (bytesOf p) ≡ p
+record-back : (p : PacketService) → OfWidth p → recordAt (versionOf p) (bytesOf p) ≡ p
 unfolding recordAt bytesOf u32At u64At sharedBytes
 record-back p z = λ i. record {
   «nw_error» = num-digits 4 (p .«nw_error») [] (z .error) i;
@@ -35,12 +35,12 @@ record-back p z = λ i. record {
 }
 
 -- the bytes of a record that fits, read at its version, show the record
-pub bytes-read : (p : PacketService) → Sized p → verdictOf p ≡ Fits → readOf (versionOf p) (bytesOf p) ≡ Info p
+pub bytes-read : (p : PacketService) → OfWidth p → verdictOf p ≡ Fits → readOf (versionOf p) (bytesOf p) ≡ Info p
 unfolding readOf firstOf
 bytes-read p z e = rw (record-back p z, length-exact (lengthOf (versionOf p)) (length (bytesOf p)) (length-bytes p), e)
 
 -- what the writer puts into an output, read at the record's version, is the record
-pub round-trip : (p : PacketService) (s : List ℕ) (n : ℕ) → Sized p → writeOf p s .answer ≡ Length n
+pub round-trip : (p : PacketService) (s : List ℕ) (n : ℕ) → OfWidth p → writeOf p s .answer ≡ Length n
     → readOf (versionOf p) (take n (writeOf p s .output)) ≡ Info p
 unfolding writeOf
 round-trip p s n z e =

@@ -43,13 +43,13 @@ pub record Writable (p : PacketService) : Type 0 where
 
 -- ---- each field is of its width
 
-abbrev pub FormSized : PacketForm → Type 0
-FormSized (Form1 class) = class < 2 ^ 32
-FormSized (Form2 class range) = (class < 2 ^ 32) × (range < 2 ^ 32)
+abbrev pub FormOfWidth : PacketForm → Type 0
+FormOfWidth (Form1 class) = class < 2 ^ 32
+FormOfWidth (Form2 class range) = (class < 2 ^ 32) × (range < 2 ^ 32)
 
-pub record Sized (p : PacketService) : Type 0 where
+pub record OfWidth (p : PacketService) : Type 0 where
   pub error : p .«nw_error» < 2 ^ 32
   pub state : p .«packet_service_state» < 2 ^ 32
   pub up : p .«uplink_speed» < 2 ^ 64
   pub down : p .«downlink_speed» < 2 ^ 64
-  pub form : FormSized (p .form)
+  pub form : FormOfWidth (p .form)

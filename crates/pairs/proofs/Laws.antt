@@ -21,7 +21,7 @@ use Rattle.pairs.specs.declared.Range.{Range}
 use Rattle.pairs.specs.declared.PairKind.{PairKind}
 use Rattle.pairs.specs.declared.PairKind.the-variants.{Text, List as ListKind}
 use Rattle.pairs.specs.Pair.{range, partOf, oddFor, unfit, rules, verdictOf, padded, placed}
-use Rattle.pairs.specs.Claims.{Absent, Inside, Even, SizeFits, PairFits, RangeSized, shownIn}
+use Rattle.pairs.specs.Claims.{Absent, Inside, Even, SizeFits, PairFits, RangeOfWidth, shownIn}
 
 -- ---- sizes
 
@@ -113,7 +113,7 @@ module _ (kind : PairKind) (fixed limit place n base : ℕ) where
   placed-inside size u h l = rw (u, ne-eqb size 0 h, lt-ltb base fixed l)
 
 -- its numbers fit their fields
-pub placed-sized : (base size : ℕ) → base ≤ 4096 → size ≤ 4096 → RangeSized (placed base size)
+pub placed-sized : (base size : ℕ) → base ≤ 4096 → size ≤ 4096 → RangeOfWidth (placed base size)
 placed-sized base zero h k = record { start = omega arith; length = omega arith }
 placed-sized base (suc m) h k = record { start = rw (ne-eqb (suc m) 0 (omega arith)) (omega arith); length = omega arith }
 

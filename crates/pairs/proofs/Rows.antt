@@ -23,7 +23,7 @@ use Rattle.pairs.specs.declared.Range.{Range}
 use Rattle.pairs.specs.declared.PairKind.the-variants.{Text}
 use Rattle.pairs.specs.Pair.{rangeAt, unfit, verdictOf, padded, rangeBytes}
 use Rattle.pairs.specs.Texts.{placeOf, limitOf, rangesAt, inTurn, eachVerdict, textsVerdict, sizeRules, laid, endOf, startOf, rangesBytes, textBytes, textsBytes, sizesOf}
-use Rattle.pairs.specs.Claims.{RangeSized, TextsFit, SizesFit, TextsShown, Adjoining, RangesSized, firstInside}
+use Rattle.pairs.specs.Claims.{RangeOfWidth, TextsFit, SizesFit, TextsShown, Adjoining, RangesOfWidth, firstInside}
 use Rattle.pairs.proofs.Laws.{size-said, said-size, fits-said, said-fits, absent-fits, placed-fits, placed-inside, placed-sized, placed-back}
 
 -- ---- verdicts in turn
@@ -180,7 +180,7 @@ none-inside base r (x ∷ xs) (zero ∷ ks) h = none-inside (base + padded 0) r 
 none-inside base r (x ∷ xs) (suc m ∷ ks) h = absurd (omega (arith, end-behind (base + padded (suc m)) ks))
 
 -- their pairs are of their width
-pub laid-sized : (base : ℕ) (ks : List ℕ) → endOf base ks ≤ 4096 → RangesSized (laid base ks)
+pub laid-sized : (base : ℕ) (ks : List ℕ) → endOf base ks ≤ 4096 → RangesOfWidth (laid base ks)
 laid-sized base [] h = tt
 laid-sized base (k ∷ ks) h =
     let b = end-behind (base + padded k) ks in
@@ -199,7 +199,7 @@ text-stored t ts at s e f = sets-then (textBytes t) (textsBytes ts) at (padded (
 
 -- ---- what was put is read back
 
-pub range-back : (before rest : List ℕ) (p : Range) (at : ℕ) → length before ≡ at → RangeSized p → rangeAt (before ++ (rangeBytes p ++ rest)) at ≡ p
+pub range-back : (before rest : List ℕ) (p : Range) (at : ℕ) → length before ≡ at → RangeOfWidth p → rangeAt (before ++ (rangeBytes p ++ rest)) at ≡ p
 unfolding rangeAt u32At rangeBytes
 range-back before rest p at e z =
     let s = rangeBytes p ++ rest in
@@ -207,7 +207,7 @@ range-back before rest p at e z =
     let size : num 4 (before ++ s) (at + 4) ≡ p .length = ap (λ (k : ℕ). num 4 (before ++ s) (k + 4)) (sym e) ∙ num-skip 4 before s 4 ∙ num-digits 4 (p .length) [] (z .length) in
     λ i. record { start = start i; length = size i }
 
-pub ranges-back : (before rest : List ℕ) (rows : List (List ℕ)) (ps : List Range) (at : ℕ) → length before ≡ at → length rows ≡ length ps → Adjoining at rows → RangesSized ps
+pub ranges-back : (before rest : List ℕ) (rows : List (List ℕ)) (ps : List Range) (at : ℕ) → length before ≡ at → length rows ≡ length ps → Adjoining at rows → RangesOfWidth ps
     → rangesAt (before ++ (rangesBytes ps ++ rest)) rows ≡ ps
 unfolding rangeBytes
 ranges-back before rest [] [] at e l c z = refl

@@ -41,7 +41,7 @@ pub record PairFits (kind : PairKind) (fixed limit n : ℕ) (p : Range) : Type 0
   pub safe : Absent p ⊎ Inside fixed n p
 
 -- each number of a pair is of its width
-pub record RangeSized (p : Range) : Type 0 where
+pub record RangeOfWidth (p : Range) : Type 0 where
   pub start : p .start < 2 ^ 32
   pub length : p .length < 2 ^ 32
 
@@ -81,9 +81,9 @@ abbrev pub Adjoining : ℕ → List (List ℕ) → Type 0
 Adjoining at [] = Unit
 Adjoining at (x ∷ xs) = (placeOf x ≡ at) × Adjoining (at + 8) xs
 
-abbrev pub RangesSized : List Range → Type 0
-RangesSized [] = Unit
-RangesSized (p ∷ ps) = RangeSized p × RangesSized ps
+abbrev pub RangesOfWidth : List Range → Type 0
+RangesOfWidth [] = Unit
+RangesOfWidth (p ∷ ps) = RangeOfWidth p × RangesOfWidth ps
 
 -- what a reader with a longer fixed part refuses of texts of these sizes: the first that there is; r where there is none
 abbrev pub firstInside : Refusal → List (List ℕ) → List ℕ → Refusal

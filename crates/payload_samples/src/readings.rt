@@ -1,8 +1,8 @@
 // Decibels and bars: questions 33 to 35.
+use c_structs::quality::ReadingInfo;
 use culvertroost::quality::cvr_bars;
 use culvertroost::quality::cvr_rsrp;
 use culvertroost::quality::cvr_snr;
-use c_structs::quality::ReadingInfo;
 use sample_lines::answers::Asked;
 use sample_lines::answers::few;
 use sample_lines::answers::plain;

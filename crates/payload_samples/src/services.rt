@@ -1,12 +1,12 @@
 // The list of services: questions 10 to 13.
 use crate::least;
+use c_structs::WrittenAnswer;
+use c_structs::services::ElementInfo;
 use culvertroost::services::cvr_device_services_cids;
 use culvertroost::services::cvr_device_services_element;
 use culvertroost::services::cvr_device_services_listed;
 use culvertroost::services::cvr_device_services_write;
 use device_services::DeviceService;
-use c_structs::WrittenAnswer;
-use c_structs::services::ElementInfo;
 use protocol::service::id_at;
 use sample_lines::answers::Asked;
 use sample_lines::answers::few;

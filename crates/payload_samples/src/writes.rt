@@ -1,14 +1,14 @@
 // Payloads written: questions 2, 4, 6 and 8.
 use crate::least;
 use crate::services::services_write;
-use culvertroost::packets::cvr_packet_service_write;
-use culvertroost::registrations::cvr_registration_write;
-use culvertroost::signals::cvr_signal_state_write;
-use culvertroost::versions::cvr_version_info_write;
 use c_structs::WrittenAnswer;
 use c_structs::packets::PacketServiceInfo;
 use c_structs::registrations::RegistrationInfo;
 use c_structs::signals::SignalStateInfo;
+use culvertroost::packets::cvr_packet_service_write;
+use culvertroost::registrations::cvr_registration_write;
+use culvertroost::signals::cvr_signal_state_write;
+use culvertroost::versions::cvr_version_info_write;
 use sample_lines::answers::Asked;
 use sample_lines::answers::few;
 use sample_lines::answers::half_at;

@@ -23,13 +23,13 @@ use Rattle.registration.specs.declared.Registration.{Registration}
 use Rattle.registration.specs.declared.RegistrationTexts.{RegistrationTexts}
 use Rattle.registration.specs.declared.RegistrationRead.the-variants.{Info}
 use Rattle.registration.specs.Registration.{fixedPart, formAt, recordAt, textRows, textsOf, textsAt, frontRules, textsVerdict, backRules, shown, readOf, versionIn, versionOf, three, sizeRules, writtenVerdict, laidTexts, laidFor, lengthOf, frontBytes, textsBytes, preferredBytes, backBytes, fixedBytes, fixedWith, bytesOf, writeOf}
-use Rattle.registration.specs.Claims.{Returned, inForm, FormSized, Sized}
+use Rattle.registration.specs.Claims.{Returned, inForm, FormOfWidth, OfWidth}
 use Rattle.registration.proofs.Laws.{fixed-four, length-fixed, length-bytes, parts, end-most}
 
 -- ---- the fixed part, whatever follows
 
 -- the shared fields, at whichever version they are read
-record-back : (v : Version) (p : Registration) (t : RegistrationTexts) (rest : List ℕ) → Sized p
+record-back : (v : Version) (p : Registration) (t : RegistrationTexts) (rest : List ℕ) → OfWidth p
     → recordAt v (fixedWith p t ++ rest) ≡ inForm (formAt v (fixedWith p t ++ rest)) p
 unfolding recordAt u32At fixedBytes frontBytes textsBytes backBytes rangeBytes
 record-back v p t rest z = λ i. record {
@@ -42,14 +42,14 @@ record-back v p t rest z = λ i. record {
   form = formAt v (fixedWith p t ++ rest);
 }
 
-form-back : (p : Registration) (t : RegistrationTexts) (rest : List ℕ) → FormSized (p .form) → formAt (versionOf p) (fixedWith p t ++ rest) ≡ p .form
+form-back : (p : Registration) (t : RegistrationTexts) (rest : List ℕ) → FormOfWidth (p .form) → formAt (versionOf p) (fixedWith p t ++ rest) ≡ p .form
 unfolding u32At fixedBytes frontBytes textsBytes backBytes rangeBytes
 form-back p t rest = by-form (p .form)
   where
     pairs : List ℕ
     pairs = textsBytes (t .«provider_id») (t .«provider_name») (t .«roaming_text»)
 
-    by-form : (f : RegistrationForm) → FormSized f
+    by-form : (f : RegistrationForm) → FormOfWidth f
         → formAt (versionIn f) ((frontBytes p ++ (pairs ++ (digits 4 (p .«registration_flag») ++ preferredBytes f))) ++ rest) ≡ f
     by-form Form1 z = refl
     by-form (Form2 class) z = ap Form2 (num-digits 4 class [] z)
@@ -82,12 +82,12 @@ module _ (p : Registration) (x y z : List ℕ) (ok : writtenVerdict p (length x)
       let most = end-most p (length x) (length y) (length z) ok in
       rw (length-bytes p x y z) (length-open (fixedPart v) (lengthOf (versionOf p) (length x) (length y) (length z)) h (omega arith))
 
-  pub shared-shown : (v : Version) → Sized p → recordAt v (bytesOf p x y z) ≡ inForm (formAt v (bytesOf p x y z)) p
+  pub shared-shown : (v : Version) → OfWidth p → recordAt v (bytesOf p x y z) ≡ inForm (formAt v (bytesOf p x y z)) p
   unfolding bytesOf
   shared-shown v s = record-back v p (laidFor p x y z) _ s
 
   -- read at such a version: what is left are the rules on numbers, by that version
-  pub read-back : (v : Version) → fixedPart v ≤ fixedPart (versionOf p) → Sized p
+  pub read-back : (v : Version) → fixedPart v ≤ fixedPart (versionOf p) → OfWidth p
       → readOf v (bytesOf p x y z)
       ≡ shown (firstOf (judge (frontRules v p)) (judge (backRules (inForm (formAt v (bytesOf p x y z)) p)))) (inForm (formAt v (bytesOf p x y z)) p) (laidFor p x y z)
   unfolding readOf firstOf frontRules
@@ -100,7 +100,7 @@ module _ (p : Registration) (x y z : List ℕ) (ok : writtenVerdict p (length x)
       ∙ (λ i. shown (firstOf (judge (frontRules v p)) (firstOf (t i) (judge (backRules (inForm f p))))) (inForm f p) (laidFor p x y z))
 
   -- read at the record's version: the record
-  pub bytes-read : Sized p → readOf (versionOf p) (bytesOf p x y z) ≡ Info p (laidFor p x y z)
+  pub bytes-read : OfWidth p → readOf (versionOf p) (bytesOf p x y z) ≡ Info p (laidFor p x y z)
   unfolding firstOf bytesOf
   bytes-read s =
       let k = parts p (length x) (length y) (length z) ok in
@@ -119,7 +119,7 @@ module _ (p : Registration) (x y z : List ℕ) (ok : writtenVerdict p (length x)
       (t .0, (t .1 .0, t .1 .1 .0))
 
 -- what the writer puts into an output, read at the record's version, is the record with its texts
-pub round-trip : (p : Registration) (x y z s : List ℕ) (n : ℕ) → Sized p → writeOf p x y z s .answer ≡ Length n
+pub round-trip : (p : Registration) (x y z s : List ℕ) (n : ℕ) → OfWidth p → writeOf p x y z s .answer ≡ Length n
     → Returned p x y z (take n (writeOf p x y z s .output))
 unfolding writeOf
 round-trip p x y z s n sized e =

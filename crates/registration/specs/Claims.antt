@@ -99,15 +99,15 @@ refusedLater id name roaming = firstInside (refusal tooShort 48) textRows (three
 
 -- ---- each field is of its width
 
-abbrev pub FormSized : RegistrationForm → Type 0
-FormSized Form1 = Unit
-FormSized (Form2 class) = class < 2 ^ 32
+abbrev pub FormOfWidth : RegistrationForm → Type 0
+FormOfWidth Form1 = Unit
+FormOfWidth (Form2 class) = class < 2 ^ 32
 
-pub record Sized (p : Registration) : Type 0 where
+pub record OfWidth (p : Registration) : Type 0 where
   pub error : p .«nw_error» < 2 ^ 32
   pub state : p .«register_state» < 2 ^ 32
   pub mode : p .«register_mode» < 2 ^ 32
   pub available : p .«available_data_class» < 2 ^ 32
   pub cellular : p .«cellular_class» < 2 ^ 32
   pub flag : p .«registration_flag» < 2 ^ 32
-  pub form : FormSized (p .form)
+  pub form : FormOfWidth (p .form)

@@ -13,9 +13,9 @@ use denote.Shadow.{shadow}
 use denote.Struct.Declared.{field}
 use Rattle.services_writer.proofs.ServiceElement as Element
 use Rattle.services_writer.specs.declared.ServiceElement.{ServiceElement}
-use Rattle.services_trip.specs.ServicesTrip.{ElementSized}
+use Rattle.services_trip.specs.ServicesTrip.{ElementOfWidth}
 
-element-sized : (e : ServiceElement) (vs : List Val) → shadow (field Element.the-type .row .own (Element.the-type .to e) vs) → ElementSized e
+element-sized : (e : ServiceElement) (vs : List Val) → shadow (field Element.the-type .row .own (Element.the-type .to e) vs) → ElementOfWidth e
 element-sized e vs p = record {
   fields = record {
     word0 = omega (arith, p .1 .1 .0);
@@ -32,7 +32,7 @@ element-sized e vs p = record {
 
 -- each element of an array
 pub elements-sized : (es : List ServiceElement) (us : List Val) (i : ℕ) (z : ServiceElement) → i < length es
-    → shadow (each (field Element.the-type .row .Denot) (field Element.the-type .row .own) (map (Element.the-type .to) es) us) → ElementSized (getD es i z)
+    → shadow (each (field Element.the-type .row .Denot) (field Element.the-type .row .own) (map (Element.the-type .to) es) us) → ElementOfWidth (getD es i z)
 elements-sized [] us i z h p = absurd (omega arith)
 elements-sized (e ∷ es) [] i z h p = absurd p
 elements-sized (e ∷ es) (u ∷ us) zero z h p = element-sized e (u ∷ []) (p .0)

@@ -31,7 +31,7 @@ use Rattle.services_query.specs.ServicesQuery.{isOf, isCid, hasCid, holds, plai
 use Rattle.services_writer.specs.declared.ServiceList.{ServiceList}
 use Rattle.services_writer.specs.ServicesWriter.{elementOf, sizeOf, startOf, lengthOf, writtenVerdict, fieldBytes, cidPiece, cidBytes, elementBytes, headBytes, pairBytes, piece, bytesOf, writeOf}
 use Rattle.services_writer.proofs.Laws.{length-fields, length-cids, length-pairs, length-pieces, length-bytes, start-within, Fitting, fitting, size-within}
-use Rattle.services_trip.specs.ServicesTrip.{cidsIn, elementIn, chosenIn, servesIn, holdsIn, Returned, Sized}
+use Rattle.services_trip.specs.ServicesTrip.{cidsIn, elementIn, chosenIn, servesIn, holdsIn, Returned, OfWidth}
 
 -- each size is a multiple of 4
 sum-four : (p : ServiceList) (i : ℕ) → sumOf (sizeOf p) i % 4 ≡ 0
@@ -39,7 +39,7 @@ unfolding sumOf
 sum-four p zero = refl
 sum-four p (suc i) = omega (arith, sum-four p i)
 
-module _ (p : ServiceList) (z : Sized p) (ok : writtenVerdict p ≡ Fits) where
+module _ (p : ServiceList) (z : OfWidth p) (ok : writtenVerdict p ≡ Fits) where
   fits : Fitting p
   fits = fitting p ok
 
@@ -190,7 +190,7 @@ module _ (p : ServiceList) (z : Sized p) (ok : writtenVerdict p ≡ Fits) where
   }
 
 -- what the writer puts into an output returns the record
-pub round-trip : (p : ServiceList) (s : List ℕ) (n : ℕ) → Sized p → writeOf p s .answer ≡ Length n → Returned p (take n (writeOf p s .output))
+pub round-trip : (p : ServiceList) (s : List ℕ) (n : ℕ) → OfWidth p → writeOf p s .answer ≡ Length n → Returned p (take n (writeOf p s .output))
 unfolding writeOf
 round-trip p s n z e =
     rw (written-front (writtenVerdict p) (bytesOf p) s n e) (bytes-read p z (written-fits (writtenVerdict p) (bytesOf p) s n e))
@@ -208,6 +208,6 @@ unfolding writeOf
 written-few p s n e = fitting p (written-fits (writtenVerdict p) (bytesOf p) s n e) .few
 
 -- what is listed in an output t as the writer leaves it
-pub listed-written : (p : ServiceList) (s t : List ℕ) (n : ℕ) (service : ServiceId) (cid : ℕ) → Sized p → writeOf p s .answer ≡ Length n → t ≡ writeOf p s .output
+pub listed-written : (p : ServiceList) (s t : List ℕ) (n : ℕ) (service : ServiceId) (cid : ℕ) → OfWidth p → writeOf p s .answer ≡ Length n → t ≡ writeOf p s .output
     → listedOf (take n t) service cid ≡ cond (anyOf (holdsIn p service cid) (p .«device_services_count»)) Listed IsNotListed
 listed-written p s t n service cid z e q = rw q (round-trip p s n z e .listed service cid)

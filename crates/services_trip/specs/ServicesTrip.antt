@@ -71,7 +71,7 @@ askedOf p service cid s = asked (writeOf p s .answer) (anyOf (holdsIn p service 
 
 -- ---- each number is of its width, and each array of its length
 
-pub record FieldsSized (f : DeviceService) : Type 0 where
+pub record FieldsOfWidth (f : DeviceService) : Type 0 where
   pub word0 : f .«device_service_id» .word0 < 2 ^ 32
   pub word1 : f .«device_service_id» .word1 < 2 ^ 32
   pub word2 : f .«device_service_id» .word2 < 2 ^ 32
@@ -80,11 +80,11 @@ pub record FieldsSized (f : DeviceService) : Type 0 where
   pub instances : f .«max_dss_instances» < 2 ^ 32
   pub cids : f .«cid_count» < 2 ^ 32
 
-pub record ElementSized (e : ServiceElement) : Type 0 where
-  pub fields : FieldsSized (e .fields)
+pub record ElementOfWidth (e : ServiceElement) : Type 0 where
+  pub fields : FieldsOfWidth (e .fields)
   pub cids : (k : ℕ) → getD (e .cids) k 0 < 2 ^ 32
   pub full : length (e .cids) ≡ 128
 
-pub record Sized (p : ServiceList) : Type 0 where
+pub record OfWidth (p : ServiceList) : Type 0 where
   pub sessions : p .«max_dss_sessions» < 2 ^ 32
-  pub elements : (i : ℕ) → i < p .«device_services_count» → ElementSized (elementOf p i)
+  pub elements : (i : ℕ) → i < p .«device_services_count» → ElementOfWidth (elementOf p i)

@@ -23,7 +23,7 @@ use Rattle.folds.specs.Stands.{Stands}
 use Rattle.folds.proofs.Laws.{list-same}
 use Rattle.folds.proofs.Standing.{whole, left, right, part, word}
 use Rattle.pairs.specs.Pair.{range, rangeAt, unfit, placed, rangeBytes}
-use Rattle.pairs.specs.Claims.{RangeSized}
+use Rattle.pairs.specs.Claims.{RangeOfWidth}
 use Rattle.pairs.specs.declared.Range.{Range}
 use Rattle.pairs.specs.declared.PairKind.the-variants.{List as ListKind}
 use Rattle.pairs.proofs.Laws.{placed-fits, placed-sized}
@@ -36,13 +36,13 @@ use Rattle.signal_state.specs.declared.SignalState.{SignalState}
 use Rattle.signal_state.specs.declared.SignalStateRead.the-variants.{Info}
 use Rattle.signal_state.specs.declared.SignalStateShown.{SignalStateShown}
 use Rattle.signal_state.specs.SignalState.{stateAt, listForm, countIn, entryPlace, entryAt, noEntries, sixteen, entriesAt, numberRules, listRules, entriesVerdict, anyKnown, bodyVerdict, headOf, verdictAt, shown, readOf, versionIn, versionOf, entryIn, sizeOf, limitVerdict, listedVerdict, numberBytes, entryBytes, entriesBytes, listBytes, listedBytes, verdictIn, bytesIn, bytesOf, writtenVerdict, writeOf}
-use Rattle.signal_state.specs.Claims.{CountFits, keptIn, Sized, EntrySized, EntriesSized}
+use Rattle.signal_state.specs.Claims.{CountFits, keptIn, OfWidth, EntryOfWidth, EntriesOfWidth}
 use Rattle.signal_state.proofs.Laws.{body-same, size-is, small-size, limit-small, length-numbers, length-entries, length-listed}
 use Rattle.signal_state.proofs.Acceptance.{said-list}
 
 -- ---- the numbers, whatever follows
 
-state-back : (p : SignalState) (g : SignalForm) (rest : List ℕ) → Sized p → p .form ≡ g → stateAt g (numberBytes p ++ rest) ≡ p
+state-back : (p : SignalState) (g : SignalForm) (rest : List ℕ) → OfWidth p → p .form ≡ g → stateAt g (numberBytes p ++ rest) ≡ p
 unfolding stateAt u32At numberBytes
 state-back p g rest z e = λ i. record {
   rssi = num-digits 4 (p .rssi) [] (z .rssi) i;
@@ -53,21 +53,21 @@ state-back p g rest z e = λ i. record {
   form = sym e i;
 }
 
-rssi-back : (p : SignalState) (rest : List ℕ) → Sized p → u32At (numberBytes p ++ rest) 0 ≡ p .rssi
+rssi-back : (p : SignalState) (rest : List ℕ) → OfWidth p → u32At (numberBytes p ++ rest) 0 ≡ p .rssi
 unfolding u32At numberBytes
 rssi-back p rest z = num-digits 4 (p .rssi) [] (z .rssi)
 
-rate-back : (p : SignalState) (rest : List ℕ) → Sized p → u32At (numberBytes p ++ rest) 4 ≡ p .«error_rate»
+rate-back : (p : SignalState) (rest : List ℕ) → OfWidth p → u32At (numberBytes p ++ rest) 4 ≡ p .«error_rate»
 unfolding u32At numberBytes
 rate-back p rest z = num-digits 4 (p .«error_rate») [] (z .rate)
 
-pair-back : (p : SignalState) (r : Range) (rest : List ℕ) → RangeSized r → rangeAt (numberBytes p ++ (rangeBytes r ++ rest)) 20 ≡ r
+pair-back : (p : SignalState) (r : Range) (rest : List ℕ) → RangeOfWidth r → rangeAt (numberBytes p ++ (rangeBytes r ++ rest)) 20 ≡ r
 pair-back p r rest z = range-back (numberBytes p) rest r 20 (length-numbers p) z
 
 -- ---- the entries
 
 -- an entry is read where its bytes stand
-entry-back : (s : List ℕ) (offset i : ℕ) (e : RsrpSnr) → EntrySized e → Stands s (entryPlace offset i) (entryBytes e) → entryAt s offset i ≡ e
+entry-back : (s : List ℕ) (offset i : ℕ) (e : RsrpSnr) → EntryOfWidth e → Stands s (entryPlace offset i) (entryBytes e) → entryAt s offset i ≡ e
 unfolding entryAt entryBytes
 entry-back s offset i e z h =
     let a = digits 4 (e .rsrp) in
@@ -97,7 +97,7 @@ module _ (p : SignalState) (m : ℕ) (f : ℕ → RsrpSnr) where
   unfolding u32At numberBytes rangeBytes
   count-back h = num-digits 4 (suc m) [] (omega arith)
 
-  entries-back : ((i : ℕ) → EntrySized (f i)) → (i : ℕ) → i < suc m → entryAt some 28 i ≡ f i
+  entries-back : ((i : ℕ) → EntryOfWidth (f i)) → (i : ℕ) → i < suc m → entryAt some 28 i ≡ f i
   unfolding rangeBytes numberBytes entriesBytes
   entries-back z i l =
       let pair = rangeBytes (placed 28 (sizeOf (suc m))) in
@@ -128,7 +128,7 @@ list-kept : (p : Range) (n : ℕ) → (p .length ≡ 0) ⊎ CountFits p n → Ke
 unfolding listRules
 list-kept p n h = said-behind listForm 20 p n (said-list p n h)
 
-head-fits : (p : SignalState) (n : ℕ) (f : ℕ → RsrpSnr) → Sized p → limitVerdict p n ≡ Fits → headOf (listedBytes p n f) (placed 28 (sizeOf n)) n ≡ Fits
+head-fits : (p : SignalState) (n : ℕ) (f : ℕ → RsrpSnr) → OfWidth p → limitVerdict p n ≡ Fits → headOf (listedBytes p n f) (placed 28 (sizeOf n)) n ≡ Fits
 unfolding headOf firstOf limitVerdict listedBytes
 head-fits p n f z e =
     let s = numberBytes p ++ listBytes n f in
@@ -146,7 +146,7 @@ head-fits p n f z e =
     )
 
 -- no list: no entries
-none-read : (p : SignalState) (f : ℕ → RsrpSnr) → Sized p → p .form ≡ Form2 0 → limitVerdict p 0 ≡ Fits
+none-read : (p : SignalState) (f : ℕ → RsrpSnr) → OfWidth p → p .form ≡ Form2 0 → limitVerdict p 0 ≡ Fits
     → readOf V2 (listedBytes p 0 f) ≡ record { answer = Info p; entries = sixteen f 0 }
 unfolding listedBytes listBytes bodyVerdict entriesVerdict anyKnown firstFault anyOf listOf firstOf faultIf
 none-read p f z e limit =
@@ -155,7 +155,7 @@ none-read p f z e limit =
     (head-fits p 0 f z limit) refl (state-back p (Form2 0) rest z e) refl
 
 -- one entry or more
-some-read : (p : SignalState) (m : ℕ) (f : ℕ → RsrpSnr) → Sized p → ((i : ℕ) → EntrySized (f i)) → p .form ≡ Form2 (suc m) → limitVerdict p (suc m) ≡ Fits
+some-read : (p : SignalState) (m : ℕ) (f : ℕ → RsrpSnr) → OfWidth p → ((i : ℕ) → EntryOfWidth (f i)) → p .form ≡ Form2 (suc m) → limitVerdict p (suc m) ≡ Fits
     → bodyVerdict (p .rssi) 28 f (suc m) ≡ Fits → readOf V2 (listedBytes p (suc m) f) ≡ record { answer = Info p; entries = sixteen f (suc m) }
 unfolding listedBytes listBytes
 some-read p m f z zs e limit body =
@@ -177,7 +177,7 @@ some-read p m f z zs e limit body =
 
 -- ---- the round trip
 
-module _ (p : SignalState) (es : List RsrpSnr) (z : Sized p) (zs : EntriesSized es) where
+module _ (p : SignalState) (es : List RsrpSnr) (z : OfWidth p) (zs : EntriesOfWidth es) where
   listed-read : (n : ℕ) → p .form ≡ Form2 n → listedVerdict p n (entryIn es) ≡ Fits
       → readOf V2 (listedBytes p n (entryIn es)) ≡ record { answer = Info p; entries = sixteen (entryIn es) n }
   unfolding listedVerdict

@@ -79,19 +79,19 @@ keptIn (Form2 n) es = sixteen (entryIn es) n
 
 -- ---- each field is of its width
 
-pub record Sized (p : SignalState) : Type 0 where
+pub record OfWidth (p : SignalState) : Type 0 where
   pub rssi : p .rssi < 2 ^ 32
   pub rate : p .«error_rate» < 2 ^ 32
   pub interval : p .«signal_strength_interval» < 2 ^ 32
   pub strength : p .«rssi_threshold» < 2 ^ 32
   pub errors : p .«error_rate_threshold» < 2 ^ 32
 
-pub record EntrySized (e : RsrpSnr) : Type 0 where
+pub record EntryOfWidth (e : RsrpSnr) : Type 0 where
   pub rsrp : e .rsrp < 2 ^ 32
   pub snr : e .snr < 2 ^ 32
   pub strength : e .«rsrp_threshold» < 2 ^ 32
   pub ratio : e .«snr_threshold» < 2 ^ 32
   pub system : e .«system_type» < 2 ^ 32
 
-abbrev pub EntriesSized : List RsrpSnr → Type 0
-EntriesSized es = (i : ℕ) → EntrySized (entryIn es i)
+abbrev pub EntriesOfWidth : List RsrpSnr → Type 0
+EntriesOfWidth es = (i : ℕ) → EntryOfWidth (entryIn es i)

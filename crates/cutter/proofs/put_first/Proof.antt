@@ -23,8 +23,8 @@ slice-aggregate-put-bytes c = simp length-take (omega arith)
 
 returns : tie.Need-returns
 returns c =
-    let xs = take (c .before .before .before .before .before .before .before .before .before .before .before .before .before .before .before .before .args .carried) (c .before .before .before .before .before .before .before .before .before .before .before .before .before .before .before .before .args .information .now) in
-    let l : length xs ≡ c .before .before .before .before .before .before .before .before .before .before .before .before .before .before .before .before .args .carried = simp length-take (omega arith) in
+    let xs = take (c .before .before .before .before .before .before .before .before .before .before .before .before .before .before .before .before .args .amount) (c .before .before .before .before .before .before .before .before .before .before .before .before .before .before .before .before .args .information .now) in
+    let l : length xs ≡ c .before .before .before .before .before .before .before .before .before .before .before .before .before .before .before .before .args .amount = simp length-take (omega arith) in
     let head : c .before .before .before .before .before .before .before .before .before .before .before .before .before .length-place .result + 4 ≡ _ = ap (λ (k : ℕ). k + 4) (c .before .before .before .before .before .before .before .before .before .before .before .before .before .length-place .ensures) in
     first-stored (c .before .before .before .before .before .before .before .before .before .before .before .before .before .before .before .before .args .message) (c .before .before .before .before .before .before .before .before .before .before .before .before .before .before .before .before .args .total) _ _ _ xs (c .before .before .before .before .before .before .before .before .before .before .before .before .before .before .before .before .args .out .now) head (ap (λ (k : ℕ). c .before .before .before .before .before .before .before .before .before .before .before .before .before .length-place .result + 4 + k) (sym l)) (c .before .before .before .before .before .before .before .before .before .before .before .put-header .ensures) (c .before .before .before .before .before .before .before .put-opening .ensures) (c .before .before .put-bytes .ensures)
 

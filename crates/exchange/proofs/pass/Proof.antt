@@ -5,7 +5,7 @@ use native.Mathlib.Omega.{arith}
 use lib.ListN.{take, length-take}
 use Rattle.assembler.specs.Assembly.{zeros, empty}
 use Rattle.assembler.specs.declared.FedInPlace.{FedInPlace}
-use Rattle.exchange.specs.Messages.{Fits32, parts}
+use Rattle.exchange.specs.Messages.{OfWidth, parts}
 use Rattle.exchange.specs.Collected.{Collected, before, collected}
 use Rattle.exchange.specs.Pass.{passBy, passOf}
 use Rattle.exchange.proofs.Sent.{sent}
@@ -27,7 +27,7 @@ returns-2 : tie.Need-returns-2
 unfolding passOf passBy empty
 returns-2 c =
     let a = c .before .before .before .before .before .before .before .before .before .before .before .before .before .before .before .before .before .before .args in
-    let real : Fits32 (a .message) = record {
+    let width : OfWidth (a .message) = record {
       type32 = omega (arith, c .before .before .before .before .before .before .before .before .before .before .before .before .before .before .before .before .before .before .good);
       transaction32 = omega (arith, c .before .before .before .before .before .before .before .before .before .before .before .before .before .before .before .before .before .before .good);
       word0 = omega (arith, c .before .before .before .before .before .before .before .before .before .before .before .before .before .before .before .before .before .before .good);
@@ -37,7 +37,7 @@ returns-2 c =
       cid32 = omega (arith, c .before .before .before .before .before .before .before .before .before .before .before .before .before .before .before .before .before .before .good);
       word32 = omega (arith, c .before .before .before .before .before .before .before .before .before .before .before .before .before .before .before .before .before .before .good);
     } in
-    let e = passed-empty (a .message) (a .size) (a .information .now) (a .stream .now) _ _ (record { real = real; accepted = sym (c .before .before .before .before .before .before .before .before .before .before .before .before .before .cut .ensures .0) ∙ c .before .before .before .before .before .before .before .before .before .count .given .1 }) (a .out .now) in
+    let e = passed-empty (a .message) (a .size) (a .information .now) (a .stream .now) _ _ (record { width = width; accepted = sym (c .before .before .before .before .before .before .before .before .before .before .before .before .before .cut .ensures .0) ∙ c .before .before .before .before .before .before .before .before .before .count .given .1 }) (a .out .now) in
     let g : collected (before (c .before .before .before .before .before .before .none .result) zeros (a .out .now)) (parts (c .before .before .before .before .before .before .before .before .before .count .given .0 .0) (a .size) (take (c .before .before .before .before .before .before .before .before .before .count .given .0 .1 .0) (c .before .before .before .before .before .before .before .before .before .before .before .before .before .cut .last .1 .1 .1 .0))) ≡ _ =
     (λ i. collected (before (c .before .before .before .before .before .before .none .ensures i) zeros (a .out .now)) (parts (c .before .before .before .before .before .before .before .before .before .count .given .0 .0) (a .size) (take (c .before .before .before .before .before .before .before .before .before .count .given .0 .1 .0) (c .before .before .before .before .before .before .before .before .before .before .before .before .before .cut .ensures .1 i)))) ∙ e in
     let f = c .before .before .feed-parts .ensures in

@@ -5,7 +5,7 @@ use Prim.Native.Nat.{_≤_}
 use native.Mathlib.Omega.{arith}
 use lib.ListN.{length}
 use lib.Seq.{length-take-le}
-use Rattle.services_trip.specs.ServicesTrip.{Sized, askedOf}
+use Rattle.services_trip.specs.ServicesTrip.{OfWidth, askedOf}
 use Rattle.services_trip.proofs.Owned.{elements-sized, elements-long}
 use Rattle.services_trip.proofs.RoundTrip.{written-within, written-few, listed-written}
 use Rattle.services_trip.proofs.write_and_ask.Statement.{statement}
@@ -25,7 +25,7 @@ returns c =
     let e = sym (c .before .before .before .before .before .before .before .write .ensures .0) ∙ c .before .before .before .written .given .1 in
     let g = c .before .before .before .before .before .before .before .before .before .before .good .0 .1 .1 .1 .1 .0 in
     let few : p .«device_services_count» ≤ length (p .elements) = omega (arith, written-few p (a .out .now) _ e, elements-long (p .elements) 32 (g .1 .0 .1)) in
-    let z : Sized p = record { sessions = omega (arith, c .before .before .before .before .before .before .before .before .before .before .good .0 .1 .1); elements = λ i l. elements-sized (p .elements) (g .0) i _ (omega arith) (g .1 .1) } in
+    let z : OfWidth p = record { sessions = omega (arith, c .before .before .before .before .before .before .before .before .before .before .good .0 .1 .1); elements = λ i l. elements-sized (p .elements) (g .0) i _ (omega arith) (g .1 .1) } in
     rw e (c .is-listed .ensures ∙ listed-written p (a .out .now) _ _ (a .service) (a .cid) z e (c .before .before .before .before .before .before .before .write .ensures .1), c .before .before .before .before .before .before .before .write .ensures .1)
 
 returns-2 : tie.Need-returns-2

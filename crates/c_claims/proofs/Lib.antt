@@ -1,0 +1,5 @@
+pub mod Verdicts
+pub mod Payloads
+pub mod Messages
+pub mod Ends
+pub mod Told

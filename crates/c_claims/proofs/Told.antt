@@ -1,0 +1,40 @@
+-- Every function's number is 0 exactly where nothing was refused.
+-- Assumes nothing.
+use Rattle.c_claims.specs.NumberZero.{EveryNumberTells}
+use Rattle.c_claims.proofs.Payloads as payloads
+use Rattle.c_claims.proofs.Messages as messages
+use Rattle.c_claims.proofs.Ends as ends
+
+pub every-number-tells : EveryNumberTells
+every-number-tells = record {
+  version-info-read = payloads.version-read-told;
+  version-info-write = payloads.version-write-told;
+  packet-service-read = payloads.packet-read-told;
+  packet-service-write = payloads.packet-write-told;
+  registration-read = payloads.registration-read-told;
+  registration-write = payloads.registration-write-told;
+  signal-state-read = payloads.signal-read-told;
+  signal-state-write = payloads.signal-write-told;
+  device-services-read = payloads.services-read-told;
+  device-services-element = payloads.element-told;
+  device-services-cids = payloads.cids-told;
+  device-services-listed = payloads.listed-told;
+  device-services-write = payloads.services-write-told;
+  rsrp = payloads.rsrp-told;
+  snr = payloads.snr-told;
+  bars = payloads.bars-told;
+  message-judge = messages.whole-told;
+  message-write = messages.write-told;
+  message-cut = messages.cut-told;
+  payload-kind = messages.kind-told;
+  assembly-empty = messages.empty-told;
+  receive = messages.receive-told;
+  host-make = ends.host-make-told;
+  host-open = ends.host-open-told;
+  host-close = ends.host-close-told;
+  host-next-command = ends.host-ask-told;
+  host-receive = ends.host-receive-told;
+  modem-make = ends.modem-make-told;
+  modem-restart = ends.modem-restart-told;
+  modem-receive = ends.modem-receive-told;
+}

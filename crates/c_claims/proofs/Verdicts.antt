@@ -1,0 +1,100 @@
+-- No rule has the number 0, so no verdict on rules has it; nor has what a writer or a judge of versions makes of such a verdict.
+-- Assumes nothing.
+use Prim.Native.Nat.{ℕ, zero, suc}
+use mathlib.Core.Path.{_≡_, refl}
+use mathlib.Core.Bool.{Bool, true, false, cond}
+use mathlib.Core.List.{List, [], _∷_}
+use lib.Dec.{ltb, eqb}
+use lib.ListN.{length}
+use Rattle.protocol.specs.Refusal.{outputTooSmall}
+use Rattle.protocol.specs.Verdict.{Rule, judge, judgeFrom, firstOf, faultIf, exactLength, openLength, given, withRoom, writing}
+use Rattle.protocol.specs.declared.Refusal.{Refusal}
+use Rattle.protocol.specs.declared.Verdict.{Verdict}
+use Rattle.protocol.specs.declared.Verdict.the-variants.{Fits, Fault}
+use Rattle.protocol.specs.declared.Version.{Version}
+use Rattle.folds.specs.Folds.{firstFault}
+use Rattle.pairs.specs.Pair.{rules as pairRules, verdictOf as pairVerdict}
+use Rattle.pairs.specs.declared.Range.{Range}
+use Rattle.pairs.specs.declared.PairKind.{PairKind}
+use Rattle.handshake.specs.Versions.{numberVerdict, versionOf, numberedBy, numbered}
+use Rattle.c_structs.specs.Answers.{goOn, atVersion, writtenAnswer}
+use Rattle.c_claims.specs.NumberZero.{VerdictTells, WrittenTells}
+
+-- each rule's number is not 0
+abbrev pub Named : List Rule → Type 0
+Named [] = Unit
+Named (r ∷ rs) = (eqb (r .number) 0 ≡ false) × Named rs
+
+pub told-if : (b : Bool) (n p : ℕ) → eqb n 0 ≡ false → VerdictTells (faultIf b n p)
+unfolding faultIf
+told-if true n p h = h
+told-if false n p h = refl
+
+pub told-first : (a b : Verdict) → VerdictTells a → VerdictTells b → VerdictTells (firstOf a b)
+unfolding firstOf
+told-first Fits b x y = y
+told-first (Fault r) b x y = x
+
+told-from : (v : Verdict) (rs : List Rule) → VerdictTells v → Named rs → VerdictTells (judgeFrom v rs)
+unfolding judgeFrom
+told-from v [] x y = x
+told-from v (r ∷ rs) x y =
+    told-from (firstOf v (faultIf (r .broken) (r .number) (r .place))) rs
+    (told-first v (faultIf (r .broken) (r .number) (r .place)) x (told-if (r .broken) (r .number) (r .place) (y .0)))
+    (y .1)
+
+pub told-rules : (rs : List Rule) → Named rs → VerdictTells (judge rs)
+told-rules rs y = told-from Fits rs refl y
+
+pub told-exact : (fixed n : ℕ) → VerdictTells (exactLength fixed n)
+unfolding exactLength
+told-exact fixed n = told-rules _ (refl, (refl, tt))
+
+pub told-open : (fixed n : ℕ) → VerdictTells (openLength fixed n)
+unfolding openLength
+told-open fixed n = told-rules _ (refl, (refl, tt))
+
+pub told-pair : (kind : PairKind) (fixed limit place n : ℕ) (p : Range) → VerdictTells (pairVerdict kind fixed limit place n p)
+unfolding pairVerdict pairRules
+told-pair kind fixed limit place n p = told-rules _ (refl, (refl, (refl, (refl, (refl, tt)))))
+
+pub told-each : (f : ℕ → Verdict) (n : ℕ) → ((i : ℕ) → VerdictTells (f i)) → VerdictTells (firstFault f n)
+unfolding firstFault
+told-each f zero h = refl
+told-each f (suc n) h = told-first (firstFault f n) (f n) (told-each f n h) (h n)
+
+-- what holds of both sides of a test holds of what it picks
+pub by-test : {A : Type 0} (P : A → Type 0) (t : Bool) {a b : A} → P a → P b → P (cond t a b)
+by-test P true p q = p
+by-test P false p q = q
+
+-- ---- a writer, where what it is to write is judged by v
+
+pub told-room : (v : Verdict) (b s : List ℕ) → VerdictTells v → VerdictTells (withRoom v b s)
+unfolding withRoom
+told-room v b s x =
+    told-first v (faultIf (ltb (length s) (length b)) outputTooSmall (length b)) x (told-if (ltb (length s) (length b)) outputTooSmall (length b) refl)
+
+pub told-writing : (v : Verdict) (b s : List ℕ) → VerdictTells v → WrittenTells (writing v b s .answer)
+unfolding writing given writtenAnswer
+told-writing v b s x = given-told (withRoom v b s) (told-room v b s x)
+  where
+    given-told : (w : Verdict) → VerdictTells w → WrittenTells (given w b s .answer)
+    given-told Fits y = refl
+    given-told (Fault r) y = y
+
+-- ---- a version's number, judged first
+
+pub told-number : (n : ℕ) → VerdictTells (numberVerdict n)
+unfolding numberVerdict
+told-number n = told-rules _ (refl, tt)
+
+-- what is claimed of a refusal, and of what goes on at either version, is claimed of the whole
+pub told-at : {A : Type 0} (P : A → Type 0) (n : ℕ) {stop : Refusal → A} {go : Version → A} → ((r : Refusal) → eqb (r .number) 0 ≡ false → P (stop r)) → ((v : Version) → P (go v))
+    → P (atVersion n stop go)
+unfolding numbered
+told-at P n {stop} {go} p q = by-verdict (numberVerdict n) (versionOf n) (told-number n)
+  where
+    by-verdict : (x : Verdict) (v : Version) → VerdictTells x → P (goOn (numberedBy x v) stop go)
+    by-verdict Fits v t = q v
+    by-verdict (Fault r) v t = p r t
