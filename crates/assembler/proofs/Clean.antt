@@ -12,7 +12,7 @@ use Rattle.wire.proofs.Laws.{drop-sets}
 use Rattle.message.specs.declared.FragmentHeader.{FragmentHeader}
 use Rattle.message.specs.declared.FirstHeader.{FirstHeader}
 use Rattle.assembler.specs.Assembly.{Step, zeros, assemblyOf, empty, isPending, refused, waiting, completed, grown, begunProgress, begunBytes, stepOf}
-use Rattle.assembler.specs.Run.{Piece, runOf, Clean}
+use Rattle.assembler.specs.Run.{Piece, runOf, Clean, Reached}
 use Rattle.assembler.specs.declared.Assembly.{Assembly}
 use Rattle.assembler.proofs.Laws.{Gathers}
 use Rattle.assembler.proofs.View.{GatherView, refuses, waits, completes, StepView, bad, starts, joins, step-view}
@@ -77,5 +77,5 @@ clean-run a [] C = C
 clean-run a (p ∷ ps) C = clean-run (stepOf a (p .bytes) (p .room) .assembly) ps (clean-step a (p .bytes) (p .room) C)
 
 -- whatever is fed from the empty assembly
-pub reached : (ps : List Piece) → Clean (runOf empty ps .end)
+pub reached : Reached
 reached ps = clean-run empty ps clean-empty

@@ -35,3 +35,7 @@ pub record Clean (a : Assembly) : Type 0 where
   pub whole : length (a .bytes) ≡ 4096
   pub past : drop (a .progress .gathered) (a .bytes) ≡ replicate (4096 - a .progress .gathered) 0
   pub idle : a .progress .total ≡ 0 → a ≡ empty
+
+-- whatever is fed from the empty assembly
+abbrev pub Reached : Type 0
+Reached = (ps : List Piece) → Clean (runOf empty ps .end)

@@ -104,11 +104,10 @@ kind-known id cid =
     (by-test CarriedTells (sameId id (idAt extensions 0)) (among-told cid extensionsCids) refl)
 
 pub kind-told : (m : MessageHeader) → KindTells (shownOf m)
-unfolding shownOf kindInfo
+unfolding shownOf shownBy kindInfo
 kind-told m = by-test KindTells (isFragmented (m .«message_type»)) (by-kind (kindOf (m .service) (m .cid)) (kind-known (m .service) (m .cid))) refl
   where
     by-kind : (c : Carried) → CarriedTells c → KindTells (shownBy m c)
-    unfolding shownBy
     by-kind (carried.Refused r) t = t
     by-kind (carried.Payload k) t = way-told (rowOf k) (wayOf m) (row-told k)
 

@@ -23,14 +23,15 @@ use Rattle.signal_state.specs.declared.SignalState.{SignalState}
 use Rattle.c_structs.specs.Packets.{infoOf as packetInfo, recordOf as packetOf, formOf as packetForm, highestIn, currentIn, rangeIn}
 use Rattle.c_structs.specs.Registrations.{infoOf as registrationInfo, recordOf as registrationOf, formOf as registrationForm, preferredIn}
 use Rattle.c_structs.specs.Signals.{infoOf as signalInfo, recordOf as signalOf, formOf as signalForm, countIn}
+use Rattle.c_structs.specs.Claims.{PacketBack, RegistrationBack, SignalBack, NumberBack}
 
 -- a version's number is judged to be that version
-pub number-back : (v : Version) → numbered (numberOf v) ≡ At v
+pub number-back : NumberBack
 unfolding numbered numberVerdict judgeFrom firstOf faultIf
 number-back V1 = refl
 number-back V2 = refl
 
-pub packet-back : (p : PacketService) → packetOf (packetVersion p) (packetInfo p) ≡ p
+pub packet-back : PacketBack
 unfolding packetOf packetInfo
 packet-back p = λ i. record {
   «nw_error» = p .«nw_error»;
@@ -44,7 +45,7 @@ packet-back p = λ i. record {
     by-form (packet.V1 class) = refl
     by-form (packet.V2 class range) = refl
 
-pub registration-back : (p : Registration) → registrationOf (registrationVersion p) (registrationInfo p) ≡ p
+pub registration-back : RegistrationBack
 unfolding registrationOf registrationInfo
 registration-back p = λ i. record {
   «nw_error» = p .«nw_error»;
@@ -60,7 +61,7 @@ registration-back p = λ i. record {
     by-form registration.V1 = refl
     by-form (registration.V2 class) = refl
 
-pub signal-back : (p : SignalState) (es : List RsrpSnr) → signalOf (signalVersion p) (signalInfo p es) ≡ p
+pub signal-back : SignalBack
 unfolding signalOf signalInfo
 signal-back p es = λ i. record {
   rssi = p .rssi;

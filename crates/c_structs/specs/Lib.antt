@@ -7,3 +7,4 @@ pub mod Services
 pub mod Quality
 pub mod Messages
 pub mod Ends
+pub mod Claims

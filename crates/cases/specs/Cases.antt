@@ -178,3 +178,6 @@ cases =
     ∷ snrRead 1 (Read (Db (ofBits binary32 0xC1B80000)))
     ∷ snrRead 127 (Read (Db (ofBits binary32 0x42200000)))
     ∷ []
+
+abbrev pub AsWorked : Type 0
+AsWorked = AllHold cases

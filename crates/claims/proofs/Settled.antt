@@ -21,7 +21,7 @@ use Rattle.handshake.specs.Versions.{infoOf, larger, lower}
 use Rattle.handshake.specs.Modem.{noDeviceSupport}
 use Rattle.handshake.specs.Commands.{versionCid}
 use Rattle.handshake.specs.Run.{Message, asksServices, asksVersion, replyTo, Passes, listedAs}
-use Rattle.handshake.proofs.Run.{both-settle}
+use Rattle.handshake.proofs.Run.{ends-settle}
 use Rattle.services_writer.specs.declared.ServiceList.{ServiceList}
 use Rattle.claims.specs.Transfer.{deviceServices, OfWidth, writeOf as written}
 use Rattle.claims.specs.Wire.{Way, Open, wire, Sendable}
@@ -107,7 +107,7 @@ pub both-ends : BothSettle
 both-ends host modem advertised below p out n l given o S t₁ t₂ x y x32 y32 to₁ back₁ to₂ back₂ a₁ b₁ a₂ b₂ w₁ w₂ rh rm g f =
     let s = take n (writeOf p out .output) in
     let small = list-few p out n l in
-    both-settle (wire to₁ back₁) (wire to₂ back₂) w₁ w₂ t₁ t₂ given s host modem advertised (listsVersion p) g f (record {
+    ends-settle (wire to₁ back₁) (wire to₂ back₂) w₁ w₂ t₁ t₂ given s host modem advertised (listsVersion p) g f (record {
       below = below;
       list = round-trip p out n (l .width) (l .accepted) .listed (idAt extensions 0) versionCid ∙ said (listsVersion p);
       other = o;

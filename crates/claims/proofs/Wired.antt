@@ -21,7 +21,7 @@ use Rattle.exchange.specs.Messages.{headerSeen, parts, pieces, received}
 use Rattle.exchange.proofs.Delivered.{fragments-received}
 use Rattle.exchange.proofs.Sent.{sent, sent-parts}
 use Rattle.handshake.specs.Run.{Message, Sent, sends}
-use Rattle.claims.specs.Wire.{Way, Open, partsBy, lastArrived, arrives, Sendable}
+use Rattle.claims.specs.Wire.{Way, Open, partsBy, lastArrived, arrives, Sendable, ArrivesWhole}
 use Rattle.claims.proofs.Accepts.{HeaderKept, kept-accepted}
 
 header-kept : (m : Message) → Sendable m → HeaderKept (m .header)
@@ -48,7 +48,7 @@ last-received h s d room zero l = rw (le-ltb room (length s) l)
 last-received h s d room (suc zero) l = rw (le-ltb room (length s) l)
 last-received h s d room (suc (suc n)) l = last-received h s false room (suc n) l
 
-pub arrives-whole : (w : Way) → Open w → (m : Message) → Sendable m → arrives w m ≡ sends m
+pub arrives-whole : ArrivesWhole
 unfolding arrives partsBy
 arrives-whole w o m s =
     let h = m .header in

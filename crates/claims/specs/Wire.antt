@@ -67,3 +67,6 @@ pub record Sendable (m : Message) : Type 0 where
   pub word : wrongWord (m .header) ≡ false
   pub width : OfWidth (m .header)
   pub few : length (m .information) ≤ 4096
+
+abbrev pub ArrivesWhole : Type 0
+ArrivesWhole = (w : Way) → Open w → (m : Message) → Sendable m → arrives w m ≡ sends m

@@ -21,7 +21,7 @@ use Rattle.device_services.specs.declared.DeviceServices.{DeviceServices
 use Rattle.device_services.specs.declared.DeviceServicesRead.the-variants.{Info}
 use Rattle.device_services.specs.declared.ElementJudged.the-variants as element
 use Rattle.device_services.specs.DeviceServices.{countOf, headAt, pairPlace, fixedPart, pairOf, cidCountAt, lengthVerdict, elementForm, contentRules, elementVerdict, judgedAs, elementJudged, verdictOf, shown, readOf}
-use Rattle.device_services.specs.Claims.{ElementFits, Acceptable}
+use Rattle.device_services.specs.Claims.{ElementFits, Acceptable, Accepted, AcceptedExactly, NumberedExactly}
 use Rattle.device_services.proofs.Laws.{few}
 
 -- ---- one element
@@ -80,8 +80,7 @@ fits-by Fits e false h = let z : _≡_ {A = ℕ} 0 1 = cc in absurd (omega arith
 fits-by (Fault r) e t h = let z : _≡_ {A = ℕ} 0 1 = cc in absurd (omega arith)
 
 -- fits exactly when the length and the count do, the list has it, and it keeps its rules
-pub numbered-exactly : (s : List ℕ) (i : ℕ)
-    → (elementJudged s i ≡ element.Fits) ↔ ((lengthVerdict (length s) (countOf s) ≡ Fits) × (i < countOf s) × ElementFits s (fixedPart (countOf s)) i)
+pub numbered-exactly : NumberedExactly
 unfolding elementJudged
 numbered-exactly s i = (
   λ e. let k = fits-by (lengthVerdict (length s) (countOf s)) (elementVerdict s (fixedPart (countOf s)) i) (ltb i (countOf s)) e in
@@ -96,7 +95,7 @@ shows Fits p q e = (refl, cc)
 shows (Fault r) p q e = let z : _≡_ {A = ℕ} 0 1 = cc in absurd (omega arith)
 
 -- an accepted list keeps the rules, and shows the numbers at their places
-pub accepted : (s : List ℕ) (p : DeviceServices) → readOf s ≡ Info p → Acceptable s × (p ≡ headAt s)
+pub accepted : Accepted
 unfolding readOf
 accepted s p e = let d = shows (verdictOf s) (headAt s) p e in (list-said s (d .0), sym (d .1))
 
@@ -104,5 +103,5 @@ pub acceptable : (s : List ℕ) → Acceptable s → readOf s ≡ Info (headAt s
 unfolding readOf
 acceptable s a = rw (said-list s a)
 
-pub accepted-exactly : (s : List ℕ) → (readOf s ≡ Info (headAt s)) ↔ Acceptable s
+pub accepted-exactly : AcceptedExactly
 accepted-exactly s = (λ e. accepted s (headAt s) e .0, acceptable s)

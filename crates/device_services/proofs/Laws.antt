@@ -13,6 +13,7 @@ use Rattle.pairs.specs.Pair.{range}
 use Rattle.pairs.specs.declared.PairKind.the-variants.{List as ListKind}
 use Rattle.pairs.proofs.Laws.{absent-fits}
 use Rattle.device_services.specs.DeviceServices.{pairPlace, fixedPart, pairOf, lengthVerdict, contentRules, elementVerdict}
+use Rattle.device_services.specs.Claims.{EmptyPair}
 
 -- there are at most 32 elements
 pub few : (n count : ℕ) → lengthVerdict n count ≡ Fits → count ≤ 32
@@ -20,6 +21,6 @@ unfolding lengthVerdict
 few n count e = ltb-false 32 count (fits-kept _ (left-fits _ (openLength (fixedPart count) n) e) .1 .0)
 
 -- a pair (0, 0) has no element: 8 at its offset field
-pub empty-pair : (s : List ℕ) (fixed i : ℕ) → pairOf s i ≡ range 0 0 → elementVerdict s fixed i ≡ Fault (refusal wrongSize (pairPlace i))
+pub empty-pair : EmptyPair
 unfolding elementVerdict contentRules judgeFrom faultIf firstOf
 empty-pair s fixed i e = rw (e, absent-fits ListKind fixed 540 (pairPlace i) (length s))

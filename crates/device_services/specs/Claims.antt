@@ -1,9 +1,16 @@
 -- What is claimed of the DEVICE_SERVICES payload beside the promises: the rules in words of fields.
+use mathlib.Core.Logic.{_↔_}
 use Prim.Native.Nat.{ℕ, _+_, _*_, _%_, _≤_, _<_}
 use mathlib.Core.Path.{_≡_}
 use mathlib.Core.List.{List}
 use lib.ListN.{length}
-use Rattle.device_services.specs.DeviceServices.{countOf, fixedPart, pairOf, cidCountAt}
+use Rattle.device_services.specs.DeviceServices.{countOf, fixedPart, pairOf, cidCountAt, headAt, readOf, elementJudged, lengthVerdict, elementVerdict, pairPlace}
+use Rattle.device_services.specs.declared.DeviceServices.{DeviceServices}
+use Rattle.device_services.specs.declared.DeviceServicesRead.the-variants.{Info}
+use Rattle.protocol.specs.declared.Verdict.the-variants.{Fits, Fault}
+use Rattle.device_services.specs.declared.ElementJudged.the-variants as element
+use Rattle.pairs.specs.Pair.{range}
+use Rattle.protocol.specs.Refusal.{refusal, wrongSize}
 
 -- element i: at most 128 CIDs, a size that is theirs, and its bytes behind the pairs, at a multiple of 4, and inside the payload
 pub record ElementFits (s : List ℕ) (fixed i : ℕ) : Type 0 where
@@ -18,3 +25,21 @@ pub record Acceptable (s : List ℕ) : Type 0 where
   pub fixed : fixedPart (countOf s) ≤ length s
   pub most : length s ≤ 4096
   pub elements : (i : ℕ) → i < countOf s → ElementFits s (fixedPart (countOf s)) i
+
+-- ---- what is proved (proofs/Acceptance, proofs/Laws)
+
+-- an accepted list keeps the rules, and shows the numbers at their places
+abbrev pub Accepted : Type 0
+Accepted = (s : List ℕ) (p : DeviceServices) → readOf s ≡ Info p → Acceptable s × (p ≡ headAt s)
+
+abbrev pub AcceptedExactly : Type 0
+AcceptedExactly = (s : List ℕ) → (readOf s ≡ Info (headAt s)) ↔ Acceptable s
+
+-- fits exactly when the length and the count do, the list has it, and it keeps its rules
+abbrev pub NumberedExactly : Type 0
+NumberedExactly = (s : List ℕ) (i : ℕ)
+    → (elementJudged s i ≡ element.Fits) ↔ ((lengthVerdict (length s) (countOf s) ≡ Fits) × (i < countOf s) × ElementFits s (fixedPart (countOf s)) i)
+
+-- a pair (0, 0) has no element: 8 at its offset field
+abbrev pub EmptyPair : Type 0
+EmptyPair = (s : List ℕ) (fixed i : ℕ) → pairOf s i ≡ range 0 0 → elementVerdict s fixed i ≡ Fault (refusal wrongSize (pairPlace i))

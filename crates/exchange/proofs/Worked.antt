@@ -5,8 +5,8 @@ use mathlib.Core.List.{map}
 use Rattle.message.specs.Message.{lengthPlace}
 use Rattle.protocol.specs.Service.{idBytes}
 use Rattle.cutter.specs.Cut.{headerBytes, fragmentBytes, wordBytes, openingBytes, firstBytes, laterCount, laterFragments, fragmentsBy, fragmentsOf}
-use Rattle.exchange.specs.Cases.{Case, cases, lengthsOf}
+use Rattle.exchange.specs.Cases.{Case, cases, lengthsOf, Worked}
 
-pub worked : map lengthsOf cases ≡ map (λ (c : Case). c .lengths) cases
+pub worked : Worked
 unfolding lengthsOf fragmentsOf fragmentsBy laterFragments laterCount firstBytes openingBytes wordBytes fragmentBytes headerBytes idBytes lengthPlace
 worked = refl

@@ -5,6 +5,7 @@ use lib.ListN.{length, replicate}
 use Rattle.protocol.specs.MessageType.{COMMAND}
 use Rattle.message.specs.declared.MessageHeader.{MessageHeader}
 use Rattle.cutter.specs.Cut.{fragmentsOf}
+use mathlib.Core.Path.{_≡_}
 
 pub record Case : Type 0 where
   pub size : ℕ
@@ -36,3 +37,6 @@ command = record {
 
 unfoldable pub lengthsOf : Case → List ℕ
 lengthsOf c = map length (fragmentsOf command (c .size) (replicate (c .amount) 5))
+
+abbrev pub Worked : Type 0
+Worked = map lengthsOf cases ≡ map (λ (c : Case). c .lengths) cases

@@ -41,6 +41,7 @@ use Rattle.handshake.specs.declared.modem.Modem.{Modem}
 use Rattle.handshake.specs.declared.modem.ModemMade.the-variants as modemMade
 use Rattle.handshake.specs.declared.Role.{Role}
 use Rattle.handshake.specs.declared.Role.the-variants as role
+use Rattle.handshake.specs.Claims.{HostNeverAbove, ModemNeverAbove}
 
 -- ---- the host
 
@@ -203,8 +204,7 @@ made-host (Fault r) v h e = let z : _≡_ {A = ℕ} 0 1 = cc in absurd (omega ar
 host-below : (n : Version) (g : HostStage) (v : Version) → HostSound n g → g ≡ host.Settled v → above v n ≡ false
 host-below n g v k e = rw e at k
 
-pub host-never-above : (native : ℕ) (h : Host) → madeOf native ≡ hostMade.Made h → (cs : List HostCall) (v : Version)
-    → hostAfterAll h cs .stage ≡ host.Settled v → above v (versionOf native) ≡ false
+pub host-never-above : HostNeverAbove
 unfolding madeOf
 host-never-above native h e cs v q =
     let p = made-host (numberVerdict native) (versionOf native) h e in
@@ -249,8 +249,7 @@ made-sound native advertised listed e =
 settled-below : (n : Version) (g : ModemStage) (v : Version) → ModemSoundAt n g → g ≡ modem.Settled v → above v n ≡ false
 settled-below n g v k e = rw e at k
 
-pub modem-never-above : (native advertised : ℕ) (s : List ℕ) (m : Modem) → modemMadeOf native advertised s ≡ modemMade.Made m
-    → (cs : List ModemCall) (v : Version) → modemAfterAll m cs .stage ≡ modem.Settled v → above v (m .native) ≡ false
+pub modem-never-above : ModemNeverAbove
 unfolding modemMadeOf
 modem-never-above native advertised s m e cs v q =
     let p = made-modem (judge (madeRules native advertised)) native advertised s m e in

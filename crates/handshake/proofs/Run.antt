@@ -39,6 +39,7 @@ use Rattle.handshake.specs.declared.modem.ModemStage.{ModemStage}
 use Rattle.handshake.specs.declared.modem.ModemStage.the-variants as modem
 use Rattle.handshake.specs.declared.Role.the-variants as role
 use Rattle.handshake.proofs.Refusing.{list-judged}
+use Rattle.handshake.specs.Claims.{MadeByList, EndsSettle}
 
 -- ---- the two commands of the handshake
 
@@ -52,7 +53,7 @@ kind-version = refl
 
 -- ---- the bytes of VERSION
 
-number-back : (v : Version) → versionOf (numberOf v) ≡ v
+pub number-back : (v : Version) → versionOf (numberOf v) ≡ v
 number-back V1 = refl
 number-back V2 = refl
 
@@ -91,16 +92,15 @@ host-made V1 = refl
 host-made V2 = refl
 
 -- a modem lists VERSION exactly where its list does
-pub modem-made : (k a : Version) (listed : Bool) (s : List ℕ) → above a k ≡ false → versionListed s ≡ listedAs listed
-    → modemMadeOf (numberOf k) (numberOf a) s ≡ modemMade.Made (modemEnd k a listed modem.Start)
+pub made-by-list : MadeByList
 unfolding modemMadeOf madeRules judgeFrom firstOf faultIf
-modem-made V1 V1 true s e l = rw l
-modem-made V1 V1 false s e l = rw l
-modem-made V1 V2 listed s e l = let z : _≡_ {A = ℕ} 0 1 = cc in absurd (omega arith)
-modem-made V2 V1 true s e l = rw l
-modem-made V2 V1 false s e l = rw l
-modem-made V2 V2 true s e l = rw l
-modem-made V2 V2 false s e l = rw l
+made-by-list V1 V1 true s e l = rw l
+made-by-list V1 V1 false s e l = rw l
+made-by-list V1 V2 listed s e l = let z : _≡_ {A = ℕ} 0 1 = cc in absurd (omega arith)
+made-by-list V2 V1 true s e l = rw l
+made-by-list V2 V1 false s e l = rw l
+made-by-list V2 V2 true s e l = rw l
+made-by-list V2 V2 false s e l = rw l
 
 -- ---- each turn
 
@@ -189,7 +189,5 @@ module _ (l₁ l₂ : Line) (w₁ w₂ : Rooms) (t₁ t₂ : ℕ) (given : Messa
       rw (first-turn l₁ l₂ w₁ w₂ t₁ t₂ given s V2 V2 V2 true r, last-version l₁ l₂ w₁ w₂ t₁ t₂ given s V2 V2 V2 true r)
       (record { sent = refl; host = refl; modem = refl; below-host = refl; below-modem = refl })
 
-  -- from ends just opened, whatever they were before
-  pub both-settle : (n k a : Version) (listed : Bool) (g : HostStage) (f : ModemStage) → Ready n k a listed l₁ l₂ w₂ t₁ t₂ given s
-      → Outcome (expected n k a listed) n k a listed t₁ t₂ given (run l₁ l₂ w₁ w₂ t₁ t₂ given s (openedOf (end n g) (numberOf a) .host) (startOf (modemEnd k a listed f)))
-  both-settle n k a listed g f r = rw (just-opened n g a) (from-start n k a listed r)
+pub ends-settle : EndsSettle
+ends-settle l₁ l₂ w₁ w₂ t₁ t₂ given s n k a listed g f r = rw (just-opened n g a) (from-start l₁ l₂ w₁ w₂ t₁ t₂ given s n k a listed r)

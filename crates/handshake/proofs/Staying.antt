@@ -28,6 +28,7 @@ use Rattle.handshake.specs.declared.modem.ModemStage.the-variants as mod
 use Rattle.handshake.specs.declared.modem.Modem.{Modem}
 use Rattle.handshake.specs.declared.Role.{Role}
 use Rattle.handshake.specs.declared.Role.the-variants as role
+use Rattle.handshake.specs.Claims.{HostStays, ModemStays}
 
 -- ---- the host
 
@@ -65,7 +66,7 @@ module _ (h : Host) (v : Version) (e : h .stage ≡ host.Settled v) where
   keeps-message role.Version status s = keeps-version status s
   keeps-message role.Other status s = refl
 
-pub host-stays : (h : Host) (v : Version) → h .stage ≡ host.Settled v → (cs : List HostCall) → HostQuiet cs → hostAfterAll h cs ≡ h
+pub host-stays : HostStays
 unfolding hostAfterAll hostAfter receiveOf
 host-stays h v e [] q = refl
 host-stays h v e (host-opens a ∷ cs) q = absurd q
@@ -94,7 +95,7 @@ module _ (m : Modem) (v : Version) (e : m .stage ≡ modem.Settled v) where
   by-verdict Fits h s out = by-role (roleOf (kindOf (h .service) (h .cid))) (kindOf (h .service) (h .cid)) (h .word) s out
   by-verdict (Fault r) h s out = refl
 
-pub modem-stays : (m : Modem) (v : Version) → m .stage ≡ modem.Settled v → (cs : List ModemCall) → ModemQuiet cs → modemAfterAll m cs ≡ m
+pub modem-stays : ModemStays
 unfolding modemAfterAll modemAfter modemReceives
 modem-stays m v e [] q = refl
 modem-stays m v e (modem-opens ∷ cs) q = absurd q

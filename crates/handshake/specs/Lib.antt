@@ -4,3 +4,4 @@ pub mod Host
 pub mod Modem
 pub mod Calls
 pub mod Run
+pub mod Claims

@@ -16,7 +16,7 @@ use Rattle.request_line.specs.declared.Request.{Request}
 use Rattle.request_line.specs.declared.Request.the-variants.{Payload, BadLine}
 use Rattle.request_line.proofs.Requests.{within}
 use Rattle.request_line.proofs.Cut.{request-cut}
-use Rattle.listing.specs.Listing.{payloadText, spelledText, requestText, lineText}
+use Rattle.listing.specs.Listing.{payloadText, spelledText, requestText, lineText, LineCut}
 
 text-cut : (n : ℕ) (s : List ℕ) (r : Request) → requestOf (take n s) ≡ r → requestText (take n s) r ≡ requestText s r
 unfolding requestText spelledText
@@ -26,7 +26,7 @@ text-cut n s (Payload k v f m) e =
     ap (λ (x : List ℕ). payloadText k v (unhexed (m / 2) x)) (part-front f m n s (omega (arith, w .0, length-take n s)))
 
 -- a line and its front of at least 16,407 bytes have the same listing
-pub line-cut : (n : ℕ) (s : List ℕ) → 16407 ≤ n → lineText (take n s) ≡ lineText s
+pub line-cut : LineCut
 unfolding lineText
 line-cut n s h = go (leb n (length s)) refl
   where

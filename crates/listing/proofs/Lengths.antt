@@ -15,7 +15,7 @@ use Rattle.request_line.specs.declared.ListingKind.{ListingKind}
 use Rattle.request_line.specs.declared.ListingKind.the-variants.{PacketService, Version as VersionKind, Registration, SignalState, DeviceServices}
 use Rattle.request_line.specs.declared.Request.{Request}
 use Rattle.request_line.specs.declared.Request.the-variants.{Payload, BadLine}
-use Rattle.listing.specs.Listing.{payloadText, spelledText, badLine, requestText, lineText}
+use Rattle.listing.specs.Listing.{payloadText, spelledText, badLine, requestText, lineText, ListingFits}
 
 pub payload-le : (kind : ListingKind) (v : Version) (s : List ℕ) → length (payloadText kind v s) ≤ 524288
 unfolding payloadText
@@ -30,6 +30,6 @@ unfolding requestText spelledText badLine
 request-le s (BadLine c) = omega (arith, row-le (ascii "bad line") c (omega arith))
 request-le s (Payload kind v from n) = payload-le kind v (unhexed (n / 2) (take n (drop from s)))
 
-pub listing-le : (s : List ℕ) → length (lineText s) ≤ 524288
+pub listing-fits : ListingFits
 unfolding lineText
-listing-le s = request-le s (requestOf s)
+listing-fits s = request-le s (requestOf s)

@@ -1,8 +1,8 @@
 -- Listings (document 01, "Cases worked out"; docs/listing.md): a header and one row a field, in the payload's order, or one line for a refusal or a bad line.
 -- In this order: a payload of a kind; a line.
-use Prim.Native.Nat.{ℕ, _/_}
+use Prim.Native.Nat.{ℕ, _/_, _≤_}
 use mathlib.Core.List.{List}
-use lib.ListN.{take, drop}
+use lib.ListN.{take, drop, length}
 use Rattle.ascii.specs.Ascii.{ascii, unhexed}
 use Rattle.protocol.specs.declared.Version.{Version}
 use Rattle.packet_service.specs.PacketService.{readOf as packetRead}
@@ -21,6 +21,7 @@ use Rattle.request_line.specs.declared.ListingKind.{ListingKind}
 use Rattle.request_line.specs.declared.ListingKind.the-variants.{PacketService as PacketKind, Version as VersionKind, Registration as RegistrationKind, SignalState as SignalKind, DeviceServices as ServicesKind}
 use Rattle.request_line.specs.declared.Request.{Request}
 use Rattle.request_line.specs.declared.Request.the-variants.{Payload, BadLine}
+use mathlib.Core.Path.{_≡_}
 
 unfoldable pub payloadText : ListingKind → Version → List ℕ → List ℕ
 payloadText PacketKind version s = packetText (packetRead version s)
@@ -43,3 +44,13 @@ requestText line (Payload kind version from n) = spelledText line kind version f
 
 unfoldable pub lineText : List ℕ → List ℕ
 lineText line = requestText line (requestOf line)
+
+-- ---- what is proved (proofs/Lengths, proofs/Cut)
+
+-- no listing is longer than the output of `list_line`
+abbrev pub ListingFits : Type 0
+ListingFits = (s : List ℕ) → length (lineText s) ≤ 524288
+
+-- a line and its front of at least 16,407 bytes have the same listing
+abbrev pub LineCut : Type 0
+LineCut = (n : ℕ) (s : List ℕ) → 16407 ≤ n → lineText (take n s) ≡ lineText s

@@ -26,7 +26,7 @@ use Rattle.packet_service.specs.declared.PacketForm.the-variants.{V1 as 
 use Rattle.packet_service.specs.declared.PacketService.{PacketService}
 use Rattle.packet_service.specs.declared.PacketServiceRead.the-variants.{Info}
 use Rattle.packet_service.specs.PacketService.{lengthOf, recordAt, laterRules, formRules, rules, verdictOf, shown, readOf, bytesOf, writeOf}
-use Rattle.packet_service.specs.Claims.{LaterFits, FormFits, Acceptable, FormWritable, Writable}
+use Rattle.packet_service.specs.Claims.{LaterFits, FormFits, Acceptable, FormWritable, Writable, Accepted, AcceptedExactly, WrittenExactly}
 
 -- ---- each rule as a fact
 
@@ -89,7 +89,7 @@ shows Fits p q e = (refl, cc)
 shows (Fault r) p q e = let z : _≡_ {A = ℕ} 0 1 = cc in absurd (omega arith)
 
 -- an accepted payload keeps the rules, and shows the record at its places
-pub accepted : (v : Version) (s : List ℕ) (p : PacketService) → readOf v s ≡ Info p → Acceptable v s × (p ≡ recordAt v s)
+pub accepted : Accepted
 unfolding readOf verdictOf
 accepted v s p e =
     let d = shows _ (recordAt v s) p e in
@@ -103,7 +103,7 @@ acceptable v s a =
     kept-then (exactLength (lengthOf v) (length s)) (rules (recordAt v s)) (length-exact (lengthOf v) (length s) (a .long)) (said-fields v s a) in
     rw f
 
-pub accepted-exactly : (v : Version) (s : List ℕ) → (readOf v s ≡ Info (recordAt v s)) ↔ Acceptable v s
+pub accepted-exactly : AcceptedExactly
 accepted-exactly v s = (λ e. accepted v s (recordAt v s) e .0, acceptable v s)
 
 -- ---- written exactly when the fields are in their tables and there is room
@@ -128,7 +128,7 @@ said-writable : (p : PacketService) → Writable p → verdictOf p ≡ Fits
 unfolding verdictOf rules
 said-writable p w = kept-fits (rules p) (le-ltb 4 (p .«packet_service_state») (w .state), said-form (p .«packet_service_state») (p .form) (w .form))
 
-pub written-exactly : (p : PacketService) (s : List ℕ) → (writeOf p s .answer ≡ Length (length (bytesOf p))) ↔ (Writable p × (length (bytesOf p) ≤ length s))
+pub written-exactly : WrittenExactly
 unfolding writeOf
 written-exactly p s = (
   λ e. let w = written-both (verdictOf p) (bytesOf p) s (length (bytesOf p)) e in (writable-said p (w .0), w .1),

@@ -11,11 +11,12 @@ use Rattle.packet_service.specs.declared.PacketService.{PacketService}
 use Rattle.packet_service.specs.declared.PacketServiceRead.the-variants.{Refused}
 use Rattle.packet_service.specs.PacketService.{readOf, versionOf, bytesOf}
 use Rattle.packet_service.proofs.Laws.{length-bytes}
+use Rattle.packet_service.specs.Claims.{LaterReadEarlier, EarlierReadLater}
 
-pub later-read-earlier : (p : PacketService) → versionOf p ≡ V2 → readOf V1 (bytesOf p) ≡ Refused (refusal wrongLength 32)
+pub later-read-earlier : LaterReadEarlier
 unfolding readOf firstOf
 later-read-earlier p e = rw (length-bytes p, e, length-long 28 32 (omega arith))
 
-pub earlier-read-later : (p : PacketService) → versionOf p ≡ V1 → readOf V2 (bytesOf p) ≡ Refused (refusal tooShort 28)
+pub earlier-read-later : EarlierReadLater
 unfolding readOf firstOf
 earlier-read-later p e = rw (length-bytes p, e, length-short 32 28 (omega arith))

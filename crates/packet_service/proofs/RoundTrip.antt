@@ -15,7 +15,7 @@ use Rattle.packet_service.specs.declared.PacketForm.the-variants.{V1 as 
 use Rattle.packet_service.specs.declared.PacketService.{PacketService}
 use Rattle.packet_service.specs.declared.PacketServiceRead.the-variants.{Info}
 use Rattle.packet_service.specs.PacketService.{lengthOf, formAt, recordAt, verdictOf, readOf, versionIn, versionOf, classIn, sharedBytes, rangeBytes, bytesOf, writeOf}
-use Rattle.packet_service.specs.Claims.{FormOfWidth, OfWidth}
+use Rattle.packet_service.specs.Claims.{FormOfWidth, OfWidth, RoundTrip}
 use Rattle.packet_service.proofs.Laws.{length-bytes}
 
 form-back : (p : PacketService) (f : PacketForm) → FormOfWidth f → formAt (versionIn f) (sharedBytes p (classIn f) ++ rangeBytes f) ≡ f
@@ -40,8 +40,7 @@ unfolding readOf firstOf
 bytes-read p z e = rw (record-back p z, length-exact (lengthOf (versionOf p)) (length (bytesOf p)) (length-bytes p), e)
 
 -- what the writer puts into an output, read at the record's version, is the record
-pub round-trip : (p : PacketService) (s : List ℕ) (n : ℕ) → OfWidth p → writeOf p s .answer ≡ Length n
-    → readOf (versionOf p) (take n (writeOf p s .output)) ≡ Info p
+pub round-trip : RoundTrip
 unfolding writeOf
 round-trip p s n z e =
     rw (written-front (verdictOf p) (bytesOf p) s n e) (bytes-read p z (written-fits (verdictOf p) (bytesOf p) s n e))

@@ -1,9 +1,9 @@
 -- What is claimed of the PACKET_SERVICE payload beside the promises: the rules in words of fields, and the width of each field.
 use Prim.Native.Nat.{ℕ, _≤_, _<_, _^_}
 use mathlib.Core.Path.{_≡_}
-use mathlib.Core.Logic.{_⊎_}
+use mathlib.Core.Logic.{_⊎_, _↔_}
 use mathlib.Core.List.{List}
-use lib.ListN.{length}
+use lib.ListN.{length, take}
 use Rattle.wire.specs.Numbers.{u32At}
 use Rattle.protocol.specs.DataClass.{IsClass}
 use Rattle.protocol.specs.declared.Version.{Version}
@@ -11,7 +11,10 @@ use Rattle.protocol.specs.declared.Version.the-variants.{V1, V2}
 use Rattle.packet_service.specs.declared.PacketForm.{PacketForm}
 use Rattle.packet_service.specs.declared.PacketForm.the-variants.{V1 as Form1, V2 as Form2}
 use Rattle.packet_service.specs.declared.PacketService.{PacketService}
-use Rattle.packet_service.specs.PacketService.{lengthOf}
+use Rattle.packet_service.specs.PacketService.{lengthOf, readOf, recordAt, bytesOf, writeOf, versionOf}
+use Rattle.packet_service.specs.declared.PacketServiceRead.the-variants.{Info, Refused}
+use Rattle.protocol.specs.declared.Written.the-variants.{Length}
+use Rattle.protocol.specs.Refusal.{refusal, wrongLength, tooShort}
 
 -- ---- the rules in words of fields
 
@@ -53,3 +56,26 @@ pub record OfWidth (p : PacketService) : Type 0 where
   pub up : p .«uplink_speed» < 2 ^ 64
   pub down : p .«downlink_speed» < 2 ^ 64
   pub form : FormOfWidth (p .form)
+
+-- ---- what is proved (proofs/Acceptance, proofs/RoundTrip, proofs/OtherVersion)
+
+-- an accepted payload keeps the rules, and shows the record at its places
+abbrev pub Accepted : Type 0
+Accepted = (v : Version) (s : List ℕ) (p : PacketService) → readOf v s ≡ Info p → Acceptable v s × (p ≡ recordAt v s)
+
+abbrev pub AcceptedExactly : Type 0
+AcceptedExactly = (v : Version) (s : List ℕ) → (readOf v s ≡ Info (recordAt v s)) ↔ Acceptable v s
+
+abbrev pub WrittenExactly : Type 0
+WrittenExactly = (p : PacketService) (s : List ℕ) → (writeOf p s .answer ≡ Length (length (bytesOf p))) ↔ (Writable p × (length (bytesOf p) ≤ length s))
+
+-- what the writer puts into an output, read at the record's version, is the record
+abbrev pub RoundTrip : Type 0
+RoundTrip = (p : PacketService) (s : List ℕ) (n : ℕ) → OfWidth p → writeOf p s .answer ≡ Length n
+    → readOf (versionOf p) (take n (writeOf p s .output)) ≡ Info p
+
+abbrev pub LaterReadEarlier : Type 0
+LaterReadEarlier = (p : PacketService) → versionOf p ≡ V2 → readOf V1 (bytesOf p) ≡ Refused (refusal wrongLength 32)
+
+abbrev pub EarlierReadLater : Type 0
+EarlierReadLater = (p : PacketService) → versionOf p ≡ V1 → readOf V2 (bytesOf p) ≡ Refused (refusal tooShort 28)

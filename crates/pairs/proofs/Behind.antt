@@ -19,7 +19,7 @@ use Rattle.pairs.specs.declared.PairKind.the-variants.{List as ListKind}
 use Rattle.pairs.specs.declared.lists.ListForm.{ListForm}
 use Rattle.pairs.specs.Pair.{rangeAt, verdictOf}
 use Rattle.pairs.specs.Lists.{absentIn, countIn, outside, listRules, listVerdict}
-use Rattle.pairs.specs.Claims.{PairFits, Whole}
+use Rattle.pairs.specs.Claims.{PairFits, Whole, ListExactly}
 use Rattle.pairs.proofs.Laws.{fits-said, said-fits}
 
 -- two 32-bit numbers multiplied
@@ -67,3 +67,6 @@ module _ (f : ListForm) (fixed place : ℕ) (s : List ℕ) where
   said-behind a b =
       kept-then (verdictOf ListKind fixed (f .limit) place (length s) behind) (listRules f place behind (countIn f s behind))
       (said-fits ListKind fixed (f .limit) place (length s) behind a) (said-list f place behind (countIn f s behind) b)
+
+pub list-exactly : ListExactly
+list-exactly f fixed place s = (behind-said f fixed place s, λ k. said-behind f fixed place s (k .0) (k .1))

@@ -21,7 +21,7 @@ use Rattle.pairs.specs.declared.Range.{Range}
 use Rattle.pairs.specs.declared.PairKind.{PairKind}
 use Rattle.pairs.specs.declared.PairKind.the-variants.{Text, List as ListKind}
 use Rattle.pairs.specs.Pair.{range, partOf, oddFor, unfit, rules, verdictOf, padded, placed}
-use Rattle.pairs.specs.Claims.{Absent, Inside, Even, SizeFits, PairFits, RangeOfWidth, shownIn}
+use Rattle.pairs.specs.Claims.{Absent, Inside, Even, SizeFits, PairFits, RangeOfWidth, shownIn, FitsExactly}
 
 -- ---- sizes
 
@@ -86,8 +86,8 @@ module _ (kind : PairKind) (fixed limit place n : ℕ) (p : Range) where
           kept-fits (rules kind fixed limit place n p)
           (fit, (rw e refl, (rw e (le-ltb (p .start) fixed (i .behind)), (rw e (kept-equal (p .start % 4) 0 (i .aligned)), (rw e (le-ltb n (p .start + p .length) (i .within)), tt)))))
 
-  pub fits-exactly : (verdictOf kind fixed limit place n p ≡ Fits) ↔ PairFits kind fixed limit n p
-  fits-exactly = (fits-said, said-fits)
+pub fits-exactly : FitsExactly
+fits-exactly kind fixed limit place n p = (fits-said kind fixed limit place n p, said-fits kind fixed limit place n p)
 
 -- an absent pair fits
 pub absent-fits : (kind : PairKind) (fixed limit place n : ℕ) → verdictOf kind fixed limit place n (range 0 0) ≡ Fits

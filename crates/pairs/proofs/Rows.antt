@@ -23,7 +23,7 @@ use Rattle.pairs.specs.declared.Range.{Range}
 use Rattle.pairs.specs.declared.PairKind.the-variants.{Text}
 use Rattle.pairs.specs.Pair.{rangeAt, unfit, verdictOf, padded, rangeBytes}
 use Rattle.pairs.specs.Texts.{placeOf, limitOf, rangesAt, inTurn, eachVerdict, textsVerdict, sizeRules, laid, endOf, startOf, rangesBytes, textBytes, textsBytes, sizesOf}
-use Rattle.pairs.specs.Claims.{RangeOfWidth, TextsFit, SizesFit, TextsShown, Adjoining, RangesOfWidth, firstInside}
+use Rattle.pairs.specs.Claims.{RangeOfWidth, TextsFit, SizesFit, TextsShown, Adjoining, RangesOfWidth, firstInside, TextsExactly}
 use Rattle.pairs.proofs.Laws.{size-said, said-size, fits-said, said-fits, absent-fits, placed-fits, placed-inside, placed-sized, placed-back}
 
 -- ---- verdicts in turn
@@ -48,6 +48,9 @@ said-texts fixed n [] ps f = refl
 said-texts fixed n (x ∷ xs) [] f = refl
 said-texts fixed n (x ∷ xs) (p ∷ ps) f =
     turn _ (eachVerdict fixed n xs ps) ∙ rw (said-fits Text fixed (limitOf x) (placeOf x) n p (f .0)) (said-texts fixed n xs ps (f .1))
+
+pub texts-exactly : TextsExactly
+texts-exactly fixed n rows ps = (texts-said fixed n rows ps, said-texts fixed n rows ps)
 
 pub sizes-said : (rows : List (List ℕ)) (ks : List ℕ) → Kept (sizeRules rows ks) → SizesFit rows ks
 sizes-said [] ks k = tt

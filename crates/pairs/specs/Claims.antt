@@ -2,18 +2,21 @@
 -- texts of a record, row by row.
 use Prim.Native.Nat.{ℕ, _+_, _*_, _%_, _≤_, _<_, _^_}
 use mathlib.Core.Path.{_≡_}
-use mathlib.Core.Logic.{_⊎_}
-use mathlib.Core.Bool.{cond}
+use mathlib.Core.Logic.{_⊎_, _↔_}
+use mathlib.Core.Bool.{true, cond}
 use mathlib.Core.List.{List, [], _∷_}
 use lib.Dec.{eqb}
-use lib.ListN.{take, drop}
+use lib.ListN.{length, take, drop}
 use Rattle.protocol.specs.Refusal.{refusal, wrongOffset}
 use Rattle.protocol.specs.declared.Refusal.{Refusal}
+use Rattle.protocol.specs.declared.Verdict.the-variants.{Fits}
 use Rattle.pairs.specs.declared.Range.{Range}
 use Rattle.pairs.specs.declared.PairKind.{PairKind}
 use Rattle.pairs.specs.declared.PairKind.the-variants.{Text, List as ListKind}
 use Rattle.pairs.specs.declared.lists.ListForm.{ListForm}
-use Rattle.pairs.specs.Texts.{placeOf, limitOf}
+use Rattle.pairs.specs.Pair.{rangeAt, verdictOf}
+use Rattle.pairs.specs.Texts.{placeOf, limitOf, textsVerdict}
+use Rattle.pairs.specs.Lists.{absentIn, countIn, listVerdict}
 
 pub record Absent (p : Range) : Type 0 where
   pub nowhere : p .start ≡ 0
@@ -90,3 +93,17 @@ abbrev pub firstInside : Refusal → List (List ℕ) → List ℕ → Refusal
 firstInside r [] ks = r
 firstInside r (x ∷ xs) [] = r
 firstInside r (x ∷ xs) (k ∷ ks) = cond (eqb k 0) (firstInside r xs ks) (refusal wrongOffset (placeOf x))
+
+-- ---- what is proved (proofs/Laws, proofs/Rows, proofs/Behind)
+
+abbrev pub FitsExactly : Type 0
+FitsExactly = (kind : PairKind) (fixed limit place n : ℕ) (p : Range) → (verdictOf kind fixed limit place n p ≡ Fits) ↔ PairFits kind fixed limit n p
+
+abbrev pub TextsExactly : Type 0
+TextsExactly = (fixed n : ℕ) (rows : List (List ℕ)) (ps : List Range) → (textsVerdict fixed n rows ps ≡ Fits) ↔ TextsFit fixed n rows ps
+
+-- a list behind a pair is absent, where its form allows that, or whole
+abbrev pub ListExactly : Type 0
+ListExactly = (f : ListForm) (fixed place : ℕ) (s : List ℕ)
+    → (listVerdict f fixed place s ≡ Fits)
+    ↔ (PairFits ListKind fixed (f .limit) (length s) (rangeAt s place) × ((absentIn f (rangeAt s place) ≡ true) ⊎ Whole f (rangeAt s place) (countIn f s (rangeAt s place))))

@@ -14,7 +14,7 @@ use lib.Bits.{bitAnd, and-step, and-zero-l, and-le-r}
 use lib.Count.{ones}
 use Rattle.protocol.specs.declared.Version.{Version}
 use Rattle.protocol.specs.declared.Version.the-variants.{V1, V2}
-use Rattle.protocol.specs.DataClass.{classBits, sumOfBits, maskOf, isBit, oneClass, oneClassOrNone, IsClass}
+use Rattle.protocol.specs.DataClass.{classBits, sumOfBits, maskOf, isBit, oneClass, oneClassOrNone, IsClass, Counted, CountedOne, Outside, OutsideOne, Masks}
 use Rattle.protocol.proofs.Tests.{or-cases, cases-or}
 use Rattle.protocol.proofs.Bits.{ones-none, ones-one, ones-power, and-power}
 
@@ -104,7 +104,7 @@ unfolding ones
 none v c h = rw (ne-eqb c 0 (λ e. omega (arith, ap ones e)), many (classBits v) c h)
 
 -- under the mask, at most one digit is what the table says
-pub counted : (v : Version) (c : ℕ) → c < 2 ^ 32 → bitAnd c (maskOf v) ≡ c → leb (ones c) 1 ≡ oneClassOrNone v c
+pub counted : Counted
 counted v c b h = go (leb (ones c) 1) refl
   where
     go : (t : Bool) → leb (ones c) 1 ≡ t → leb (ones c) 1 ≡ oneClassOrNone v c
@@ -112,7 +112,7 @@ counted v c b h = go (leb (ones c) 1) refl
     go false e = e ∙ sym (none v c (leb-false (ones c) 1 e))
 
 -- a bit outside the mask is of no class
-pub outside : (v : Version) (c : ℕ) → (bitAnd c (maskOf v) ≡ c → ⊥) → oneClassOrNone v c ≡ false
+pub outside : Outside
 unfolding masked
 outside v c h = rw (ne-eqb c 0 (λ e. h (ap (λ (x : ℕ). bitAnd x (maskOf v)) e ∙ and-zero-l (maskOf v) ∙ sym e)), lost (classBits v) c (maskOf v) (masked-ok v) h)
 
@@ -133,7 +133,7 @@ one-of-some (suc zero) h = refl
 one-of-some (suc (suc n)) h = ne-eqb (suc (suc n)) 1 (λ e. omega arith) ∙ sym (lt-leb (suc (suc n)) 1 (omega arith))
 
 -- under the mask, exactly one digit is what the table says
-pub counted-one : (v : Version) (c : ℕ) → c < 2 ^ 32 → bitAnd c (maskOf v) ≡ c → eqb (ones c) 1 ≡ oneClass v c
+pub counted-one : CountedOne
 unfolding ones
 counted-one v c b h = go (eqb c 0) refl
   where
@@ -142,11 +142,11 @@ counted-one v c b h = go (eqb c 0) refl
     go false e = one-of-some (ones c) (λ z. eqb-false c 0 e (ones-none 32 c b z)) ∙ counted v c b h ∙ not-none v c (eqb-false c 0 e)
 
 -- a bit outside the mask is no class
-pub outside-one : (v : Version) (c : ℕ) → (bitAnd c (maskOf v) ≡ c → ⊥) → oneClass v c ≡ false
+pub outside-one : OutsideOne
 outside-one v c h = sym (not-none v c (λ e. h (ap (λ (x : ℕ). bitAnd x (maskOf v)) e ∙ and-zero-l (maskOf v) ∙ sym e))) ∙ outside v c h
 
 -- the masks that document 01 prints
-pub masks : (maskOf V1 ≡ 0x807F003F) × (maskOf V2 ≡ 0x807F00FF)
+pub masks : Masks
 unfolding maskOf sumOfBits classBits
 masks = (refl, refl)
 

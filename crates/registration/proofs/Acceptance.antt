@@ -31,7 +31,7 @@ use Rattle.registration.specs.declared.RegistrationTexts.{RegistrationTe
 use Rattle.registration.specs.declared.RegistrationRead.the-variants.{Info}
 use Rattle.registration.specs.Registration.{fixedPart, recordAt, textRows, textsAt, frontRules, textsVerdict, unregistered, preferredRules, backRules, shown, readOf, versionOf, three, sizeRules, writtenVerdict, bytesOf, writeOf}
 use Rattle.registration.proofs.Laws.{parts, small}
-use Rattle.registration.specs.Claims.{FormFits, NumbersFit, Acceptable, Writable, TextsSafe}
+use Rattle.registration.specs.Claims.{FormFits, NumbersFit, Acceptable, Writable, TextsSafe, Accepted, AcceptedExactly, EveryTextSafe, WrittenExactly}
 
 -- ---- each rule as a fact
 
@@ -154,8 +154,7 @@ shows Fits p q t u e = (refl, (cc, cc))
 shows (Fault r) p q t u e = let z : _≡_ {A = ℕ} 0 1 = cc in absurd (omega arith)
 
 -- an accepted payload keeps the rules, and shows the record and the texts at their places
-pub accepted : (v : Version) (s : List ℕ) (p : Registration) (t : RegistrationTexts) → readOf v s ≡ Info p t
-    → Acceptable v s × ((p ≡ recordAt v s) × (t ≡ textsAt s))
+pub accepted : Accepted
 unfolding readOf verdict
 accepted v s p t e =
     let d = shows (verdict v s) (recordAt v s) p (textsAt s) t e in
@@ -165,15 +164,14 @@ pub acceptable : (v : Version) (s : List ℕ) → Acceptable v s → readOf v s 
 unfolding readOf verdict
 acceptable v s a = let f : verdict v s ≡ Fits = kept-all v s (said-fields v s a) in rw f
 
-pub accepted-exactly : (v : Version) (s : List ℕ) → (readOf v s ≡ Info (recordAt v s) (textsAt s)) ↔ Acceptable v s
+pub accepted-exactly : AcceptedExactly
 accepted-exactly v s = (λ e. accepted v s (recordAt v s) (textsAt s) e .0, acceptable v s)
 
 -- ---- each text shown is absent, or lies behind the fixed part, at a multiple of 4, and inside the payload
 
-pub texts-safe : (v : Version) (s : List ℕ) (p : Registration) (t : RegistrationTexts) → readOf v s ≡ Info p t
-    → TextsSafe (fixedPart v) (length s) t
+pub every-text-safe : EveryTextSafe
 unfolding textsAt
-texts-safe v s p t e =
+every-text-safe v s p t e =
     let k = accepted v s p t e in
     rw (k .1 .1) (record { id = k .0 .id .safe; name = k .0 .name .safe; roaming = k .0 .roaming .safe })
 
@@ -199,8 +197,7 @@ said-writable p id name roaming w =
       kept-fits (backRules p) (said-rest p (versionOf p) (w .numbers)),
     )
 
-pub written-exactly : (p : Registration) (x y z s : List ℕ)
-    → (writeOf p x y z s .answer ≡ Length (length (bytesOf p x y z))) ↔ (Writable p (length x) (length y) (length z) × (length (bytesOf p x y z) ≤ length s))
+pub written-exactly : WrittenExactly
 unfolding writeOf
 written-exactly p x y z s =
     let v = writtenVerdict p (length x) (length y) (length z) in (

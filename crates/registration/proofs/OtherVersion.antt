@@ -27,7 +27,7 @@ use Rattle.registration.specs.declared.Registration.{Registration}
 use Rattle.registration.specs.declared.RegistrationTexts.{RegistrationTexts}
 use Rattle.registration.specs.declared.RegistrationRead.the-variants.{Refused}
 use Rattle.registration.specs.Registration.{fixedPart, recordAt, textRows, textsAt, frontRules, textsVerdict, backRules, shown, readOf, versionOf, three, sizeRules, writtenVerdict, laidTexts, laidFor, lengthOf, bytesOf}
-use Rattle.registration.specs.Claims.{inForm, shownEarlier, refusedLater, OfWidth}
+use Rattle.registration.specs.Claims.{inForm, shownEarlier, refusedLater, OfWidth, LaterReadEarlier, EarlierReadLater}
 use Rattle.registration.proofs.Laws.{parts, length-bytes}
 use Rattle.registration.proofs.RoundTrip.{read-back, texts-shown, shared-shown, length-fits}
 
@@ -49,8 +49,7 @@ unfolding frontRules judgeFrom faultIf firstOf
 earlier-by p t k true e = rw (k .0, k .1 .0, e, k .1 .1 .1 .0)
 earlier-by p t k false e = rw (k .0, k .1 .0, e)
 
-pub later-read-earlier : (p : Registration) (x y z : List ℕ) → versionOf p ≡ V2 → OfWidth p → writtenVerdict p (length x) (length y) (length z) ≡ Fits
-    → readOf V1 (bytesOf p x y z) ≡ shownEarlier p (laidFor p x y z)
+pub later-read-earlier : LaterReadEarlier
 unfolding firstOf
 later-read-earlier p x y z e s ok =
     let k = parts p (length x) (length y) (length z) ok in
@@ -96,8 +95,7 @@ module _ (p : Registration) (x y z : List ℕ) (e : versionOf p ≡ V1) where
       rw (texts-shown p x y z ok, e) (laid-inside 52 n 48 (refusal tooShort 48) textRows sizes (k .sizes) (omega arith) (omega arith) h) in
       rw (o, front, texts)
 
-pub earlier-read-later : (p : Registration) (x y z : List ℕ) → versionOf p ≡ V1 → OfWidth p → writtenVerdict p (length x) (length y) (length z) ≡ Fits
-    → readOf V2 (bytesOf p x y z) ≡ Refused (refusedLater (length x) (length y) (length z))
+pub earlier-read-later : EarlierReadLater
 earlier-read-later p x y z e s ok = by-sizes (eqb (endOf 48 (three (length x) (length y) (length z))) 48) refl
   where
     by-sizes : (b : Bool) → eqb (endOf 48 (three (length x) (length y) (length z))) 48 ≡ b → readOf V2 (bytesOf p x y z) ≡ Refused (refusedLater (length x) (length y) (length z))

@@ -23,7 +23,7 @@ use Rattle.registration.specs.declared.Registration.{Registration}
 use Rattle.registration.specs.declared.RegistrationTexts.{RegistrationTexts}
 use Rattle.registration.specs.declared.RegistrationRead.the-variants.{Info}
 use Rattle.registration.specs.Registration.{fixedPart, formAt, recordAt, textRows, textsOf, textsAt, frontRules, textsVerdict, backRules, shown, readOf, versionIn, versionOf, three, sizeRules, writtenVerdict, laidTexts, laidFor, lengthOf, frontBytes, textsBytes, preferredBytes, backBytes, fixedBytes, fixedWith, bytesOf, writeOf}
-use Rattle.registration.specs.Claims.{Returned, inForm, FormOfWidth, OfWidth}
+use Rattle.registration.specs.Claims.{Returned, inForm, FormOfWidth, OfWidth, RoundTrip}
 use Rattle.registration.proofs.Laws.{fixed-four, length-fixed, length-bytes, parts, end-most}
 
 -- ---- the fixed part, whatever follows
@@ -119,8 +119,7 @@ module _ (p : Registration) (x y z : List ℕ) (ok : writtenVerdict p (length x)
       (t .0, (t .1 .0, t .1 .1 .0))
 
 -- what the writer puts into an output, read at the record's version, is the record with its texts
-pub round-trip : (p : Registration) (x y z s : List ℕ) (n : ℕ) → OfWidth p → writeOf p x y z s .answer ≡ Length n
-    → Returned p x y z (take n (writeOf p x y z s .output))
+pub round-trip : RoundTrip
 unfolding writeOf
 round-trip p x y z s n sized e =
     let v = writtenVerdict p (length x) (length y) (length z) in

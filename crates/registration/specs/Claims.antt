@@ -1,11 +1,11 @@
 -- What is claimed of the REGISTER_STATE payload beside the promises: the rules in words of fields, what the other version shows, widths.
 use Prim.Native.Nat.{ℕ, _≤_, _<_, _^_}
 use mathlib.Core.Path.{_≡_}
-use mathlib.Core.Logic.{_⊎_}
+use mathlib.Core.Logic.{_⊎_, _↔_}
 use mathlib.Core.Bool.{cond}
 use mathlib.Core.List.{List}
 use lib.Bits.{bitAnd}
-use lib.ListN.{length}
+use lib.ListN.{length, take}
 use Rattle.protocol.specs.Refusal.{refusal, tooShort, outsideTable}
 use Rattle.protocol.specs.DataClass.{maskOf, onlyClasses}
 use Rattle.protocol.specs.declared.Refusal.{Refusal}
@@ -20,7 +20,9 @@ use Rattle.registration.specs.declared.Registration.{Registration}
 use Rattle.registration.specs.declared.RegistrationTexts.{RegistrationTexts}
 use Rattle.registration.specs.declared.RegistrationRead.{RegistrationRead}
 use Rattle.registration.specs.declared.RegistrationRead.the-variants.{Info, Refused}
-use Rattle.registration.specs.Registration.{fixedPart, recordAt, textRows, readOf, versionOf, three}
+use Rattle.registration.specs.Registration.{fixedPart, recordAt, textRows, readOf, versionOf, three, textsAt, bytesOf, writeOf, laidFor, writtenVerdict}
+use Rattle.protocol.specs.declared.Written.the-variants.{Length}
+use Rattle.protocol.specs.declared.Verdict.the-variants.{Fits}
 
 -- ---- the rules in words of fields
 
@@ -111,3 +113,35 @@ pub record OfWidth (p : Registration) : Type 0 where
   pub cellular : p .«cellular_class» < 2 ^ 32
   pub flag : p .«registration_flag» < 2 ^ 32
   pub form : FormOfWidth (p .form)
+
+-- ---- what is proved (proofs/Acceptance, proofs/RoundTrip, proofs/OtherVersion)
+
+-- an accepted payload keeps the rules, and shows the record and the texts at their places
+abbrev pub Accepted : Type 0
+Accepted = (v : Version) (s : List ℕ) (p : Registration) (t : RegistrationTexts) → readOf v s ≡ Info p t
+    → Acceptable v s × ((p ≡ recordAt v s) × (t ≡ textsAt s))
+
+abbrev pub AcceptedExactly : Type 0
+AcceptedExactly = (v : Version) (s : List ℕ) → (readOf v s ≡ Info (recordAt v s) (textsAt s)) ↔ Acceptable v s
+
+-- each text shown is absent, or lies behind the fixed part, at a multiple of 4, and inside the payload
+abbrev pub EveryTextSafe : Type 0
+EveryTextSafe = (v : Version) (s : List ℕ) (p : Registration) (t : RegistrationTexts) → readOf v s ≡ Info p t
+    → TextsSafe (fixedPart v) (length s) t
+
+abbrev pub WrittenExactly : Type 0
+WrittenExactly = (p : Registration) (x y z s : List ℕ)
+    → (writeOf p x y z s .answer ≡ Length (length (bytesOf p x y z))) ↔ (Writable p (length x) (length y) (length z) × (length (bytesOf p x y z) ≤ length s))
+
+-- what the writer puts into an output, read at the record's version, is the record with its texts
+abbrev pub RoundTrip : Type 0
+RoundTrip = (p : Registration) (x y z s : List ℕ) (n : ℕ) → OfWidth p → writeOf p x y z s .answer ≡ Length n
+    → Returned p x y z (take n (writeOf p x y z s .output))
+
+abbrev pub LaterReadEarlier : Type 0
+LaterReadEarlier = (p : Registration) (x y z : List ℕ) → versionOf p ≡ V2 → OfWidth p → writtenVerdict p (length x) (length y) (length z) ≡ Fits
+    → readOf V1 (bytesOf p x y z) ≡ shownEarlier p (laidFor p x y z)
+
+abbrev pub EarlierReadLater : Type 0
+EarlierReadLater = (p : Registration) (x y z : List ℕ) → versionOf p ≡ V1 → OfWidth p → writtenVerdict p (length x) (length y) (length z) ≡ Fits
+    → readOf V2 (bytesOf p x y z) ≡ Refused (refusedLater (length x) (length y) (length z))

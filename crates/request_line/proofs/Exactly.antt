@@ -24,6 +24,7 @@ use Rattle.request_line.specs.declared.ListingKind.the-variants.{PacketS
 use Rattle.request_line.specs.declared.Request.{Request}
 use Rattle.request_line.specs.declared.Request.the-variants.{Payload, BadLine}
 use Rattle.request_line.proofs.Columns.{request-right}
+use Rattle.request_line.specs.Claims.{AcceptedExactly, BadExactly}
 
 -- ---- the parts of a good line are found
 
@@ -66,7 +67,7 @@ accepted s kind v from n e =
 pub acceptable : (s : List ℕ) (kind : ListingKind) (v : Version) (from n : ℕ) → GoodWith s kind v from n → requestOf s ≡ Payload kind v from n
 acceptable s kind v from n g = rw (g .2, g .3, g .4) (request-found (g .0) (g .1) kind v)
 
-pub accepted-exactly : (s : List ℕ) (kind : ListingKind) (v : Version) (from n : ℕ) → (requestOf s ≡ Payload kind v from n) ↔ GoodWith s kind v from n
+pub accepted-exactly : AcceptedExactly
 accepted-exactly s kind v from n = (accepted s kind v from n, acceptable s kind v from n)
 
 -- (2) the column: the first c bytes begin a good line and no more do, and the line is not good itself
@@ -80,5 +81,5 @@ column-bad s c p never = go (requestOf s) refl
     go (Payload kind v from n) e = absurd (never (rw e at (request-right s)))
     go (BadLine d) e = ap BadLine (longest-one Good s d c (bad-column s d e .0) p)
 
-pub bad-exactly : (s : List ℕ) (c : ℕ) → (requestOf s ≡ BadLine c) ↔ (Longest Good s c × (Good s → ⊥))
+pub bad-exactly : BadExactly
 bad-exactly s c = (bad-column s c, λ h. column-bad s c (h .0) (h .1))

@@ -34,11 +34,7 @@ pub fn write_registration(
     registration::write(info, provider_id, provider_name, roaming_text, out)
 }
 
-pub fn write_signal_state(
-    info: SignalState,
-    entries: [RsrpSnr; 16],
-    out: &mut [u8],
-) -> Written
+pub fn write_signal_state(info: SignalState, entries: [RsrpSnr; 16], out: &mut [u8]) -> Written
     ensures { λ r. ⌜ r ≡ signalWritten info entries (now (out .entry)) .answer ⌝ }
     ensures { λ _. ⌜ now (out .exit) ≡ signalWritten info entries (now (out .entry)) .output ⌝ }
     ensures { λ r. ⌜ SignalBack r info entries (now (out .exit)) ⌝ }

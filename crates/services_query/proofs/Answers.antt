@@ -24,7 +24,7 @@ use Rattle.services_query.specs.declared.ElementAnswer.the-variants.{Not
 use Rattle.services_query.specs.declared.ListedAnswer.the-variants.{Listed}
 use Rattle.services_query.specs.declared.ListedAnswer.the-variants as list
 use Rattle.services_query.specs.ServicesQuery.{Shown, isOf, isCid, hasCid, holds, plain, judged, elementShown, chosenShown, elementOf, cidsOf, told, listedOf}
-use Rattle.services_query.specs.Claims.{Serves, Held, First, ElementNotListed, CidsNotListed}
+use Rattle.services_query.specs.Claims.{Serves, Held, First, ElementNotListed, CidsNotListed, ListedExactly, NotListedExactly, FirstShown, ElementShown}
 
 -- ---- a service and a CID
 
@@ -57,7 +57,7 @@ told-listed Fits false e = let z : _≡_ {A = ℕ} 0 1 = cc in absurd (omega ari
 told-listed (Fault r) b e = let z : _≡_ {A = ℕ} 0 1 = cc in absurd (omega arith)
 
 -- listed exactly when the list is accepted and one of its elements holds both
-pub listed-exactly : (s : List ℕ) (service : ServiceId) (cid : ℕ) → (listedOf s service cid ≡ Listed) ↔ ((verdictOf s ≡ Fits) × Held s service cid)
+pub listed-exactly : ListedExactly
 unfolding listedOf
 listed-exactly s service cid = (
   λ e. let d = told-listed (verdictOf s) (anyOf (holds s service cid) (countOf s)) e in (d .0, held-said s service cid (d .1)),
@@ -70,7 +70,7 @@ told-not Fits false e = (refl, refl)
 told-not (Fault r) b e = let z : _≡_ {A = ℕ} 0 1 = cc in absurd (omega arith)
 
 -- not listed exactly when the list is accepted and none of its elements holds both
-pub not-listed-exactly : (s : List ℕ) (service : ServiceId) (cid : ℕ) → (listedOf s service cid ≡ list.NotListed) ↔ ((verdictOf s ≡ Fits) × (Held s service cid → ⊥))
+pub not-listed-exactly : NotListedExactly
 unfolding listedOf
 not-listed-exactly s service cid = (
   λ e. let d = told-not (verdictOf s) (anyOf (holds s service cid) (countOf s)) e in (d .0, λ h. let y = said-held s service cid h in let z : _≡_ {A = Bool} true false = cc in apart z),
@@ -95,7 +95,7 @@ none-serves s service n l h = each-none (isOf s service) n (λ j k. by-test (isO
     by-test false j e k = e
 
 -- the element with a number below the count is shown, and no other is listed
-pub element-shown : (s : List ℕ) (i : ℕ) (out : List ℕ) → verdictOf s ≡ Fits → i < countOf s → elementOf s i out ≡ elementShown s i out
+pub element-shown : ElementShown
 unfolding elementOf chosenShown
 element-shown s i out e l = rw (e, lt-ltb i (countOf s) l)
 
@@ -104,8 +104,7 @@ unfolding elementOf chosenShown
 element-none s i out e l = rw (e, le-ltb i (countOf s) l)
 
 -- the first element of a service is shown
-pub first-shown : (s : List ℕ) (service : ServiceId) (i : ℕ) (out : List ℕ) → verdictOf s ≡ Fits → First s service i
-    → cidsOf s service out ≡ elementShown s i out
+pub first-shown : FirstShown
 unfolding cidsOf chosenShown
 first-shown s service i out e f =
     let l : i < countOf s = f .serves .below in

@@ -6,8 +6,10 @@ use mathlib.Core.List.{List}
 use Rattle.protocol.specs.declared.Verdict.the-variants.{Fits}
 use Rattle.protocol.specs.declared.service.ServiceId.{ServiceId}
 use Rattle.device_services.specs.DeviceServices.{countOf, offsetOf, cidCountAt, elementAt, cidAt, verdictOf}
-use Rattle.services_query.specs.ServicesQuery.{elementOf, cidsOf}
+use Rattle.services_query.specs.ServicesQuery.{elementOf, cidsOf, listedOf, elementShown}
 use Rattle.services_query.specs.declared.ElementAnswer.the-variants.{NotListed}
+use Rattle.services_query.specs.declared.ListedAnswer.the-variants.{Listed}
+use Rattle.services_query.specs.declared.ListedAnswer.the-variants as list
 
 -- element i of the list s is of the service
 pub record Serves (s : List ℕ) (service : ServiceId) (i : ℕ) : Type 0 where
@@ -34,3 +36,20 @@ ElementNotListed = (s : List ℕ) (i : ℕ) (out : List ℕ) → (elementOf s i 
 abbrev pub CidsNotListed : Type 0
 CidsNotListed = (s : List ℕ) (service : ServiceId) (out : List ℕ)
     → (cidsOf s service out .answer ≡ NotListed) ↔ ((verdictOf s ≡ Fits) × ((j : ℕ) → Serves s service j → ⊥))
+
+-- listed exactly when the list is accepted and one of its elements holds both
+abbrev pub ListedExactly : Type 0
+ListedExactly = (s : List ℕ) (service : ServiceId) (cid : ℕ) → (listedOf s service cid ≡ Listed) ↔ ((verdictOf s ≡ Fits) × Held s service cid)
+
+-- not listed exactly when the list is accepted and none of its elements holds both
+abbrev pub NotListedExactly : Type 0
+NotListedExactly = (s : List ℕ) (service : ServiceId) (cid : ℕ) → (listedOf s service cid ≡ list.NotListed) ↔ ((verdictOf s ≡ Fits) × (Held s service cid → ⊥))
+
+-- the first element of a service is shown
+abbrev pub FirstShown : Type 0
+FirstShown = (s : List ℕ) (service : ServiceId) (i : ℕ) (out : List ℕ) → verdictOf s ≡ Fits → First s service i
+    → cidsOf s service out ≡ elementShown s i out
+
+-- the element with a number below the count is shown, and no other is listed
+abbrev pub ElementShown : Type 0
+ElementShown = (s : List ℕ) (i : ℕ) (out : List ℕ) → verdictOf s ≡ Fits → i < countOf s → elementOf s i out ≡ elementShown s i out

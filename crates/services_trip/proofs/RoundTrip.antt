@@ -31,7 +31,7 @@ use Rattle.services_query.specs.ServicesQuery.{isOf, isCid, hasCid, holds, plai
 use Rattle.services_writer.specs.declared.ServiceList.{ServiceList}
 use Rattle.services_writer.specs.ServicesWriter.{elementOf, sizeOf, startOf, lengthOf, writtenVerdict, fieldBytes, cidPiece, cidBytes, elementBytes, headBytes, pairBytes, piece, bytesOf, writeOf}
 use Rattle.services_writer.proofs.Laws.{length-fields, length-cids, length-pairs, length-pieces, length-bytes, start-within, Fitting, fitting, size-within}
-use Rattle.services_trip.specs.ServicesTrip.{cidsIn, elementIn, chosenIn, servesIn, holdsIn, Returned, OfWidth}
+use Rattle.services_trip.specs.ServicesTrip.{cidsIn, elementIn, chosenIn, servesIn, holdsIn, Returned, OfWidth, RoundTrip}
 
 -- each size is a multiple of 4
 sum-four : (p : ServiceList) (i : ℕ) → sumOf (sizeOf p) i % 4 ≡ 0
@@ -190,7 +190,7 @@ module _ (p : ServiceList) (z : OfWidth p) (ok : writtenVerdict p ≡ Fits) wher
   }
 
 -- what the writer puts into an output returns the record
-pub round-trip : (p : ServiceList) (s : List ℕ) (n : ℕ) → OfWidth p → writeOf p s .answer ≡ Length n → Returned p (take n (writeOf p s .output))
+pub round-trip : RoundTrip
 unfolding writeOf
 round-trip p s n z e =
     rw (written-front (writtenVerdict p) (bytesOf p) s n e) (bytes-read p z (written-fits (writtenVerdict p) (bytesOf p) s n e))

@@ -88,3 +88,7 @@ pub record ElementOfWidth (e : ServiceElement) : Type 0 where
 pub record OfWidth (p : ServiceList) : Type 0 where
   pub sessions : p .«max_dss_sessions» < 2 ^ 32
   pub elements : (i : ℕ) → i < p .«device_services_count» → ElementOfWidth (elementOf p i)
+
+-- what the writer puts into an output returns the record
+abbrev pub RoundTrip : Type 0
+RoundTrip = (p : ServiceList) (s : List ℕ) (n : ℕ) → OfWidth p → writeOf p s .answer ≡ Length n → Returned p (take n (writeOf p s .output))

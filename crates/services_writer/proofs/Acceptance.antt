@@ -15,7 +15,7 @@ use Rattle.folds.specs.Folds.{firstFault}
 use Rattle.folds.proofs.Laws.{fits-each, each-fits}
 use Rattle.services_writer.specs.declared.ServiceList.{ServiceList}
 use Rattle.services_writer.specs.ServicesWriter.{elementOf, lengthOf, sizeOf, sizeVerdict, writtenVerdict, bytesOf, writeOf}
-use Rattle.services_writer.specs.Claims.{Writable}
+use Rattle.services_writer.specs.Claims.{Writable, WrittenExactly}
 
 writable-said : (p : ServiceList) → writtenVerdict p ≡ Fits → Writable p
 unfolding writtenVerdict
@@ -38,7 +38,7 @@ said-writable p w =
     fits i k = let l : sizeOf p i ≤ 540 = omega (arith, k) in rw (le-ltb 540 (sizeOf p i) l)
 
 -- accepted exactly where the record is within the tables and there is room
-pub written-exactly : (p : ServiceList) (s : List ℕ) → (writeOf p s .answer ≡ Length (length (bytesOf p))) ↔ (Writable p × (length (bytesOf p) ≤ length s))
+pub written-exactly : WrittenExactly
 unfolding writeOf
 written-exactly p s = (
   λ e. let w = written-both (writtenVerdict p) (bytesOf p) s (length (bytesOf p)) e in (writable-said p (w .0), w .1),

@@ -25,6 +25,7 @@ use Rattle.device_services.specs.DeviceServices.{pairPlace, fixedPart}
 use Rattle.services_writer.specs.declared.ServiceElement.{ServiceElement}
 use Rattle.services_writer.specs.declared.ServiceList.{ServiceList}
 use Rattle.services_writer.specs.ServicesWriter.{elementOf, sizeOf, startOf, lengthOf, sizeVerdict, writtenVerdict, fieldBytes, cidPiece, cidBytes, elementBytes, headBytes, pairBytes, piece, bytesOf}
+use Rattle.services_writer.specs.Claims.{TooMany, TooLarge}
 
 -- ---- an element
 
@@ -136,17 +137,14 @@ module _ (p : ServiceList) where
   pub size-within : (n i : ℕ) → firstFault (sizeVerdict p) n ≡ Fits → i < n → sizeOf p i ≤ 540
   size-within n i e h = ltb-false 540 (sizeOf p i) (not-broken _ wrongSize (pairPlace i) (fits-each (sizeVerdict p) n e i h))
 
-  -- ---- a record that does not
+-- ---- a record that does not
 
-  -- 33 elements are 15 at the count
-  pub too-many : 32 < p .«device_services_count» → writtenVerdict p ≡ Fault (refusal wrongCount 0)
-  unfolding writtenVerdict firstOf faultIf
-  too-many h = rw (lt-ltb 32 (p .«device_services_count») h)
+pub too-many : TooMany
+unfolding writtenVerdict firstOf faultIf
+too-many p h = rw (lt-ltb 32 (p .«device_services_count») h)
 
-  -- 129 CIDs are 8 at the pair's offset field, where those before fit
-  pub too-large : (i : ℕ) → p .«device_services_count» ≤ 32 → i < p .«device_services_count» → firstFault (sizeVerdict p) i ≡ Fits
-      → 128 < elementOf p i .fields .«cid_count» → writtenVerdict p ≡ Fault (refusal wrongSize (pairPlace i))
-  unfolding writtenVerdict firstOf faultIf
-  too-large i c l e h =
-      let over : ltb 540 (sizeOf p i) ≡ true = lt-ltb 540 (sizeOf p i) (omega arith) in
-      rw (le-ltb 32 (p .«device_services_count») c, fault-at (sizeVerdict p) (p .«device_services_count») i (refusal wrongSize (pairPlace i)) e l (rw over))
+pub too-large : TooLarge
+unfolding writtenVerdict firstOf faultIf
+too-large p i c l e h =
+    let over : ltb 540 (sizeOf p i) ≡ true = lt-ltb 540 (sizeOf p i) (omega arith) in
+    rw (le-ltb 32 (p .«device_services_count») c, fault-at (sizeVerdict p) (p .«device_services_count») i (refusal wrongSize (pairPlace i)) e l (rw over))

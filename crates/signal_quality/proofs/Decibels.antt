@@ -17,7 +17,7 @@ use Rattle.signal_quality.specs.declared.Reading.{Reading}
 use Rattle.signal_quality.specs.declared.Reading.the-variants.{Dbm, Db, BelowRange}
 use Rattle.signal_quality.specs.declared.ReadingRead.the-variants.{Info}
 use Rattle.signal_quality.specs.Decibels.{exactly, isNegative, coded, rsrpOf, snrOf}
-use Rattle.signal_quality.specs.Claims.{Is, Edges}
+use Rattle.signal_quality.specs.Claims.{Is, Edges, RsrpExact, SnrExact}
 use Rattle.signal_quality.proofs.Tables.{rows, agree}
 
 -- ---- the code's numbers: the difference fits 16 bits, and its float is the exact one
@@ -95,12 +95,12 @@ unfolding coded
 known-read mark edge r c h l = rw (le-ltb mark c (omega arith), ne-eqb c mark (λ e. omega arith), ne-eqb c 0 (λ e. omega arith))
 
 -- RSRP code c from 1 to 126 is c − 157 dBm
-pub rsrp-exact : (c : ℕ) → 0 < c → c < 127 → (x : Float) × ((rsrpOf c ≡ Info (Dbm x)) × Is x (pos c -ℤ pos 157) 0)
+pub rsrp-exact : RsrpExact
 unfolding rsrpOf
 rsrp-exact c h l = (exactly (pos c -ℤ pos 157) 0, (known-read 127 _ _ c h l, exact (pos c -ℤ pos 157) 0))
 
 -- SNR code c from 1 to 127 is (c − 47)/2 dB, and twice that is the whole number c − 47
-pub snr-exact : (c : ℕ) → 0 < c → c < 128 → (x : Float) × ((snrOf c ≡ Info (Db x)) × (Is x (pos c -ℤ pos 47) 1 × Is (add binary32 x x) (pos c -ℤ pos 47) 0))
+pub snr-exact : SnrExact
 unfolding snrOf
 snr-exact c h l = (
   exactly (pos c -ℤ pos 47) 1,

@@ -11,6 +11,7 @@ use lib.ListN.{length, drop, getD}
 use lib.Seq.{drop-cons}
 use Rattle.signal_quality.specs.Bars.{reached, barsTable, from, count}
 use Rattle.signal_quality.proofs.Tables.{rows, agree}
+use Rattle.signal_quality.specs.Claims.{Highest}
 
 next : (t : List (List ℕ)) (i r : ℕ) → i < length t
     → reached (drop i t) r ≡ cond (leb (from (getD t i [])) r) (count (getD t i [])) (reached (drop (suc i) t) r)
@@ -35,7 +36,7 @@ all-most : rows (λ (r : ℕ). rows (most r) 5) 32 ≡ rows (λ (r : ℕ). rows 
 unfolding most always reached barsTable
 all-most = refl
 
-pub highest : (r k : ℕ) → r < 32 → k < 5 → from (getD barsTable k []) ≤ r → count (getD barsTable k []) ≤ reached barsTable r
+pub highest : Highest
 unfolding most always
 highest r k hr hk l =
     let e = agree (most r) (always r) 5 (agree (λ (r : ℕ). rows (most r) 5) (λ (r : ℕ). rows (always r) 5) 32 all-most r hr) k hk in

@@ -37,7 +37,7 @@ use Rattle.signal_state.specs.declared.SignalState.{SignalState}
 use Rattle.signal_state.specs.declared.SignalStateRead.the-variants.{Info, Refused}
 use Rattle.signal_state.specs.declared.SignalStateShown.{SignalStateShown}
 use Rattle.signal_state.specs.SignalState.{listForm, countAt, listPlace, entryPlace, entryAt, unmarked, numberRules, listRules, entryRules, entriesVerdict, isKnown, anyKnown, contradicts, bodyVerdict, headOf, headVerdict, verdictAt, shown, recordAt, shownEntries, readOf, entryIn, sizeOf, limitVerdict, listedVerdict, verdictIn, bytesOf, writtenVerdict, writeOf}
-use Rattle.signal_state.specs.Claims.{Marked, CountFits, EntryFits, Unknown, Acceptable, FormWritable, Writable}
+use Rattle.signal_state.specs.Claims.{info, Marked, CountFits, EntryFits, Unknown, Acceptable, FormWritable, Writable, Accepted, AcceptedExactly, WrittenExactly}
 use Rattle.signal_state.proofs.Laws.{size-small, small-size}
 
 -- ---- each rule as a fact
@@ -159,9 +159,6 @@ said-fields V2 s a =
 
 -- ---- accepted exactly when the rules hold
 
-abbrev info : SignalState → List RsrpSnr → SignalStateShown
-info p es = record { answer = Info p; entries = es }
-
 shows : (d : Verdict) (p q : SignalState) (es fs : List RsrpSnr) → shown d p es ≡ info q fs → (d ≡ Fits) × ((p ≡ q) × (es ≡ fs))
 shows Fits p q es fs e =
     let a : Info p ≡ Info q = ap (λ (x : SignalStateShown). x .answer) e in
@@ -171,8 +168,7 @@ shows (Fault r) p q es fs e =
     let z : _≡_ {A = ℕ} 0 1 = cc in absurd (omega arith)
 
 -- an accepted payload keeps the rules, and shows the record and the entries at their places
-pub accepted : (v : Version) (s : List ℕ) (p : SignalState) (es : List RsrpSnr) → readOf v s ≡ info p es
-    → Acceptable v s × ((p ≡ recordAt v s) × (es ≡ shownEntries v s))
+pub accepted : Accepted
 unfolding readOf
 accepted v s p es e =
     let d = shows (verdictAt v s) (recordAt v s) p (shownEntries v s) es e in
@@ -182,7 +178,7 @@ pub acceptable : (v : Version) (s : List ℕ) → Acceptable v s → readOf v s 
 unfolding readOf
 acceptable v s a = ap (λ (d : Verdict). shown d (recordAt v s) (shownEntries v s)) (said-fields v s a)
 
-pub accepted-exactly : (v : Version) (s : List ℕ) → (readOf v s ≡ info (recordAt v s) (shownEntries v s)) ↔ Acceptable v s
+pub accepted-exactly : AcceptedExactly
 accepted-exactly v s = (λ e. accepted v s (recordAt v s) (shownEntries v s) e .0, acceptable v s)
 
 -- ---- a writer accepts exactly what its rules allow, where it has room
@@ -218,8 +214,7 @@ module _ (p : SignalState) (f : ℕ → RsrpSnr) where
       rw (kept-fits (numberRules (p .rssi) (p .«error_rate»)) (said-numbers (p .rssi) (p .«error_rate») a b), said-limit n (w .few))
       (said-body (p .rssi) 28 f n (w .entries) (w .alone))
 
-pub written-exactly : (p : SignalState) (es : List RsrpSnr) (s : List ℕ)
-    → (writeOf p es s .answer ≡ Length (length (bytesOf p es))) ↔ (Writable p (entryIn es) × (length (bytesOf p es) ≤ length s))
+pub written-exactly : WrittenExactly
 unfolding writeOf
 written-exactly p es s = (
   λ e. let w = written-both (writtenVerdict p es) (bytesOf p es) s (length (bytesOf p es)) e in

@@ -14,6 +14,7 @@ use Rattle.signal_state.specs.declared.SignalForm.the-variants.{V1 as Fo
 use Rattle.signal_state.specs.declared.SignalState.{SignalState}
 use Rattle.signal_state.specs.SignalState.{headOf, verdictAt, refused, readOf, entryIn, sizeOf, numberBytes, listedBytes, bytesIn, bytesOf}
 use Rattle.signal_state.proofs.Laws.{length-numbers, length-listed}
+use Rattle.signal_state.specs.Claims.{LaterReadEarlier, EarlierReadLater}
 
 listed-long : (p : SignalState) (n : ℕ) (f : ℕ → RsrpSnr) → readOf V1 (listedBytes p n f) ≡ refused (refusal wrongLength (28 + sizeOf n))
 unfolding readOf verdictAt firstOf
@@ -23,8 +24,8 @@ numbers-short : (p : SignalState) → readOf V2 (numberBytes p) ≡ refused (ref
 unfolding readOf verdictAt headOf firstOf
 numbers-short p = rw (length-numbers p, open-short 28 20 (omega arith))
 
-pub later-read-earlier : (p : SignalState) (es : List RsrpSnr) (n : ℕ) → p .form ≡ Form2 n → readOf V1 (bytesOf p es) ≡ refused (refusal wrongLength (28 + sizeOf n))
+pub later-read-earlier : LaterReadEarlier
 later-read-earlier p es n e = ap (λ (g : SignalForm). readOf V1 (bytesIn g p (entryIn es))) e ∙ listed-long p n (entryIn es)
 
-pub earlier-read-later : (p : SignalState) (es : List RsrpSnr) → p .form ≡ Form1 → readOf V2 (bytesOf p es) ≡ refused (refusal tooShort 20)
+pub earlier-read-later : EarlierReadLater
 earlier-read-later p es e = ap (λ (g : SignalForm). readOf V2 (bytesIn g p (entryIn es))) e ∙ numbers-short p

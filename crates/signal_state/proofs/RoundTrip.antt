@@ -36,7 +36,7 @@ use Rattle.signal_state.specs.declared.SignalState.{SignalState}
 use Rattle.signal_state.specs.declared.SignalStateRead.the-variants.{Info}
 use Rattle.signal_state.specs.declared.SignalStateShown.{SignalStateShown}
 use Rattle.signal_state.specs.SignalState.{stateAt, listForm, countIn, entryPlace, entryAt, noEntries, sixteen, entriesAt, numberRules, listRules, entriesVerdict, anyKnown, bodyVerdict, headOf, verdictAt, shown, readOf, versionIn, versionOf, entryIn, sizeOf, limitVerdict, listedVerdict, numberBytes, entryBytes, entriesBytes, listBytes, listedBytes, verdictIn, bytesIn, bytesOf, writtenVerdict, writeOf}
-use Rattle.signal_state.specs.Claims.{CountFits, keptIn, OfWidth, EntryOfWidth, EntriesOfWidth}
+use Rattle.signal_state.specs.Claims.{CountFits, keptIn, OfWidth, EntryOfWidth, EntriesOfWidth, RoundTrip}
 use Rattle.signal_state.proofs.Laws.{body-same, size-is, small-size, limit-small, length-numbers, length-entries, length-listed}
 use Rattle.signal_state.proofs.Acceptance.{said-list}
 
@@ -207,10 +207,8 @@ module _ (p : SignalState) (es : List RsrpSnr) (z : OfWidth p) (zs : EntriesOfWi
   pub bytes-read : writtenVerdict p es ≡ Fits → readOf (versionOf p) (bytesOf p es) ≡ record { answer = Info p; entries = keptIn (p .form) es }
   bytes-read v = form-read (p .form) refl v
 
-  -- what the writer puts into an output, read at the record's version, is the record with its entries
-  pub round-trip : (s : List ℕ) (n : ℕ) → writeOf p es s .answer ≡ Length n
-      → readOf (versionOf p) (take n (writeOf p es s .output)) ≡ record { answer = Info p; entries = keptIn (p .form) es }
-  unfolding writeOf
-  round-trip s n e =
-      ap (readOf (versionOf p)) (written-front (writtenVerdict p es) (bytesOf p es) s n e)
-      ∙ bytes-read (written-fits (writtenVerdict p es) (bytesOf p es) s n e)
+pub round-trip : RoundTrip
+unfolding writeOf
+round-trip p es z zs s n e =
+    ap (readOf (versionOf p)) (written-front (writtenVerdict p es) (bytesOf p es) s n e)
+    ∙ bytes-read p es z zs (written-fits (writtenVerdict p es) (bytesOf p es) s n e)

@@ -1,9 +1,9 @@
 -- What is claimed of the SIGNAL_STATE payload beside the promises: the rules in words of fields, and the width of each field.
 use Prim.Native.Nat.{ℕ, _+_, _*_, _≤_, _<_, _^_}
 use mathlib.Core.Path.{_≡_}
-use mathlib.Core.Logic.{_⊎_}
+use mathlib.Core.Logic.{_⊎_, _↔_}
 use mathlib.Core.List.{List}
-use lib.ListN.{length}
+use lib.ListN.{length, take}
 use Rattle.wire.specs.Numbers.{u32At}
 use Rattle.protocol.specs.DataClass.{IsClass}
 use Rattle.protocol.specs.declared.Version.{Version}
@@ -16,7 +16,11 @@ use Rattle.signal_state.specs.declared.RsrpSnr.{RsrpSnr}
 use Rattle.signal_state.specs.declared.SignalForm.{SignalForm}
 use Rattle.signal_state.specs.declared.SignalForm.the-variants.{V1 as Form1, V2 as Form2}
 use Rattle.signal_state.specs.declared.SignalState.{SignalState}
-use Rattle.signal_state.specs.SignalState.{countAt, listPlace, entryAt, noEntries, sixteen, entryIn}
+use Rattle.signal_state.specs.declared.SignalStateShown.{SignalStateShown}
+use Rattle.signal_state.specs.declared.SignalStateRead.the-variants.{Info}
+use Rattle.signal_state.specs.SignalState.{versionOf, countAt, listPlace, entryAt, noEntries, sixteen, entryIn, readOf, recordAt, shownEntries, bytesOf, writeOf, refused, sizeOf}
+use Rattle.protocol.specs.declared.Written.the-variants.{Length}
+use Rattle.protocol.specs.Refusal.{refusal, wrongLength, tooShort}
 
 -- ---- the rules in words of fields
 
@@ -95,3 +99,32 @@ pub record EntryOfWidth (e : RsrpSnr) : Type 0 where
 
 abbrev pub EntriesOfWidth : List RsrpSnr → Type 0
 EntriesOfWidth es = (i : ℕ) → EntryOfWidth (entryIn es i)
+
+-- ---- what is proved (proofs/Acceptance, proofs/RoundTrip, proofs/OtherVersion)
+
+-- a payload accepted: the record and its entries
+abbrev pub info : SignalState → List RsrpSnr → SignalStateShown
+info p es = record { answer = Info p; entries = es }
+
+-- an accepted payload keeps the rules, and shows the record and the entries at their places
+abbrev pub Accepted : Type 0
+Accepted = (v : Version) (s : List ℕ) (p : SignalState) (es : List RsrpSnr) → readOf v s ≡ info p es
+    → Acceptable v s × ((p ≡ recordAt v s) × (es ≡ shownEntries v s))
+
+abbrev pub AcceptedExactly : Type 0
+AcceptedExactly = (v : Version) (s : List ℕ) → (readOf v s ≡ info (recordAt v s) (shownEntries v s)) ↔ Acceptable v s
+
+abbrev pub WrittenExactly : Type 0
+WrittenExactly = (p : SignalState) (es : List RsrpSnr) (s : List ℕ)
+    → (writeOf p es s .answer ≡ Length (length (bytesOf p es))) ↔ (Writable p (entryIn es) × (length (bytesOf p es) ≤ length s))
+
+abbrev pub LaterReadEarlier : Type 0
+LaterReadEarlier = (p : SignalState) (es : List RsrpSnr) (n : ℕ) → p .form ≡ Form2 n → readOf V1 (bytesOf p es) ≡ refused (refusal wrongLength (28 + sizeOf n))
+
+abbrev pub EarlierReadLater : Type 0
+EarlierReadLater = (p : SignalState) (es : List RsrpSnr) → p .form ≡ Form1 → readOf V2 (bytesOf p es) ≡ refused (refusal tooShort 20)
+
+-- what the writer puts into an output, read at the record's version, is the record with its entries
+abbrev pub RoundTrip : Type 0
+RoundTrip = (p : SignalState) (es : List RsrpSnr) → OfWidth p → EntriesOfWidth es → (s : List ℕ) (n : ℕ) → writeOf p es s .answer ≡ Length n
+    → readOf (versionOf p) (take n (writeOf p es s .output)) ≡ info p (keptIn (p .form) es)

@@ -18,7 +18,7 @@ use Rattle.protocol.specs.declared.Written.the-variants.{Length}
 use Rattle.version_info.specs.declared.VersionInfo.{VersionInfo}
 use Rattle.version_info.specs.declared.VersionInfoRead.the-variants.{Info}
 use Rattle.version_info.specs.VersionInfo.{isExtension, recordAt, rules, verdictOf, shown, readOf, bytesOf, writeOf}
-use Rattle.version_info.specs.Claims.{InfoFits, Acceptable}
+use Rattle.version_info.specs.Claims.{InfoFits, Acceptable, Accepted, AcceptedExactly, WrittenExactly}
 
 info-said : (i : VersionInfo) → Kept (rules i) → InfoFits i
 unfolding rules
@@ -42,7 +42,7 @@ shows Fits i j e = (refl, cc)
 shows (Fault r) i j e = let z : _≡_ {A = ℕ} 0 1 = cc in absurd (omega arith)
 
 -- an accepted payload keeps the rules, and shows the record at its places
-pub accepted : (s : List ℕ) (i : VersionInfo) → readOf s ≡ Info i → Acceptable s × (i ≡ recordAt s)
+pub accepted : Accepted
 unfolding readOf verdictOf
 accepted s i e =
     let d = shows _ (recordAt s) i e in
@@ -56,12 +56,12 @@ acceptable s a =
     kept-then (exactLength 4 (length s)) (rules (recordAt s)) (length-exact 4 (length s) (a .long)) (said-info (recordAt s) (a .info)) in
     rw f
 
-pub accepted-exactly : (s : List ℕ) → (readOf s ≡ Info (recordAt s)) ↔ Acceptable s
+pub accepted-exactly : AcceptedExactly
 accepted-exactly s = (λ e. accepted s (recordAt s) e .0, acceptable s)
 
 -- ---- written exactly when the numbers are in their tables and there is room
 
-pub written-exactly : (i : VersionInfo) (s : List ℕ) → (writeOf i s .answer ≡ Length 4) ↔ (InfoFits i × (4 ≤ length s))
+pub written-exactly : WrittenExactly
 unfolding writeOf verdictOf bytesOf
 written-exactly i s = (
   λ e. let w = written-both (judge (rules i)) (bytesOf i) s 4 e in (info-said i (fits-kept (rules i) (w .0)), w .1),

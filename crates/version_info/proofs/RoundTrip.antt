@@ -19,6 +19,7 @@ use Rattle.protocol.proofs.Verdicts.{fits-kept, length-exact, written-fits, wri
 use Rattle.version_info.specs.declared.VersionInfo.{VersionInfo}
 use Rattle.version_info.specs.declared.VersionInfoRead.the-variants.{Info}
 use Rattle.version_info.specs.VersionInfo.{isExtension, recordAt, rules, verdictOf, readOf, bytesOf, writeOf}
+use Rattle.version_info.specs.Claims.{RoundTrip}
 
 -- a known extension fits two bytes
 small : (n : ℕ) → (eqb n 0x0100 ≡ true) ⊎ (eqb n 0x0200 ≡ true) → n < 65536
@@ -42,6 +43,6 @@ unfolding readOf firstOf bytesOf
 bytes-read i e = rw (record-back i e, length-exact 4 4 refl, e)
 
 -- what the writer puts into an output shows the record
-pub round-trip : (i : VersionInfo) (s : List ℕ) (n : ℕ) → writeOf i s .answer ≡ Length n → readOf (take n (writeOf i s .output)) ≡ Info i
+pub round-trip : RoundTrip
 unfolding writeOf
 round-trip i s n e = rw (written-front (verdictOf i) (bytesOf i) s n e) (bytes-read i (written-fits (verdictOf i) (bytesOf i) s n e))
