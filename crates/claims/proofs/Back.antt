@@ -48,30 +48,30 @@ use Rattle.claims.specs.Transfer.{Record, registerState, packetService, 
 
 -- ---- the bytes of each payload
 
-attached-back : (p : PacketService) → PacketOfWidth p → packet.verdictOf p ≡ Fits → (w v : Version) → packet.versionOf p ≡ w → PacketServiceBack w v p (packet.bytesOf p)
+packet-service-back : (p : PacketService) → PacketOfWidth p → packet.verdictOf p ≡ Fits → (w v : Version) → packet.versionOf p ≡ w → PacketServiceBack w v p (packet.bytesOf p)
 unfolding PacketServiceBack
-attached-back p z f V1 V1 e = rw e at (packetTrip.bytes-read p z f)
-attached-back p z f V2 V2 e = rw e at (packetTrip.bytes-read p z f)
-attached-back p z f V2 V1 e = packetOther.later-read-earlier p e
-attached-back p z f V1 V2 e = packetOther.earlier-read-later p e
+packet-service-back p z f V1 V1 e = rw e at (packetTrip.bytes-read p z f)
+packet-service-back p z f V2 V2 e = rw e at (packetTrip.bytes-read p z f)
+packet-service-back p z f V2 V1 e = packetOther.later-read-earlier p e
+packet-service-back p z f V1 V2 e = packetOther.earlier-read-later p e
 
-registered-back : (p : Registration) (x y z : List ℕ) → RegistrationOfWidth p → registration.writtenVerdict p (length x) (length y) (length z) ≡ Fits
+register-state-back : (p : Registration) (x y z : List ℕ) → RegistrationOfWidth p → registration.writtenVerdict p (length x) (length y) (length z) ≡ Fits
     → Returned p x y z (registration.bytesOf p x y z) → (w v : Version) → registration.versionOf p ≡ w → RegisterStateBack w v p x y z (registration.bytesOf p x y z)
 unfolding RegisterStateBack
-registered-back p x y z s f b V1 V1 e = b
-registered-back p x y z s f b V2 V2 e = b
-registered-back p x y z s f b V2 V1 e =
+register-state-back p x y z s f b V1 V1 e = b
+register-state-back p x y z s f b V2 V2 e = b
+register-state-back p x y z s f b V2 V1 e =
     let t = registrationTrip.texts-read p x y z f in
     (registration.laidFor p x y z, (registrationOther.later-read-earlier p x y z e s f, t))
-registered-back p x y z s f b V1 V2 e = registrationOther.earlier-read-later p x y z e s f
+register-state-back p x y z s f b V1 V2 e = registrationOther.earlier-read-later p x y z e s f
 
-heard-back : (p : SignalState) (es : List RsrpSnr) → SignalOfWidth p → EntriesOfWidth es → signal.writtenVerdict p es ≡ Fits → (g : SignalForm) (v : Version) → p .form ≡ g
+signal-state-back : (p : SignalState) (es : List RsrpSnr) → SignalOfWidth p → EntriesOfWidth es → signal.writtenVerdict p es ≡ Fits → (g : SignalForm) (v : Version) → p .form ≡ g
     → SignalStateBack (signal.versionIn g) v p es (signal.bytesOf p es)
 unfolding SignalStateBack
-heard-back p es z zs f Form1 V1 e = ap (λ (g : SignalForm). signal.readOf (signal.versionIn g) (signal.bytesOf p es)) (sym e) ∙ signalTrip.bytes-read p es z zs f
-heard-back p es z zs f Form1 V2 e = signalOther.earlier-read-later p es e
-heard-back p es z zs f (Form2 n) V2 e = ap (λ (g : SignalForm). signal.readOf (signal.versionIn g) (signal.bytesOf p es)) (sym e) ∙ signalTrip.bytes-read p es z zs f
-heard-back p es z zs f (Form2 n) V1 e =
+signal-state-back p es z zs f Form1 V1 e = ap (λ (g : SignalForm). signal.readOf (signal.versionIn g) (signal.bytesOf p es)) (sym e) ∙ signalTrip.bytes-read p es z zs f
+signal-state-back p es z zs f Form1 V2 e = signalOther.earlier-read-later p es e
+signal-state-back p es z zs f (Form2 n) V2 e = ap (λ (g : SignalForm). signal.readOf (signal.versionIn g) (signal.bytesOf p es)) (sym e) ∙ signalTrip.bytes-read p es z zs f
+signal-state-back p es z zs f (Form2 n) V1 e =
     let l : length (signal.bytesOf p es) ≡ 28 + signal.sizeOf n = ap (λ (g : SignalForm). length (signal.bytesIn g p (signal.entryIn es))) e ∙ signalLaws.length-listed p n (signal.entryIn es) in
     rw l (signalOther.later-read-earlier p es n e)
 
@@ -83,15 +83,15 @@ reads-back (registerState p x y z) s out n e v =
     let d = registration.writtenVerdict p (length x) (length y) (length z) in
     let b = registration.bytesOf p x y z in
     let front : take n (registrationWrite p x y z out .output) ≡ b = written-front d b out n e in
-    rw front (registered-back p x y z s (written-fits d b out n e) (rw front at (registrationTrip.round-trip p x y z out n s e)) (registration.versionOf p) v refl)
+    rw front (register-state-back p x y z s (written-fits d b out n e) (rw front at (registrationTrip.round-trip p x y z out n s e)) (registration.versionOf p) v refl)
 reads-back (packetService p) s out n e v =
     let d = packet.verdictOf p in
     let b = packet.bytesOf p in
-    rw (written-front d b out n e) (attached-back p s (written-fits d b out n e) (packet.versionOf p) v refl)
+    rw (written-front d b out n e) (packet-service-back p s (written-fits d b out n e) (packet.versionOf p) v refl)
 reads-back (signalState p es) s out n e v =
     let d = signal.writtenVerdict p es in
     let b = signal.bytesOf p es in
-    rw (written-front d b out n e) (heard-back p es (s .0) (s .1) (written-fits d b out n e) (p .form) v refl)
+    rw (written-front d b out n e) (signal-state-back p es (s .0) (s .1) (written-fits d b out n e) (p .form) v refl)
 reads-back (deviceServices p) s out n e v = servicesTrip.round-trip p out n s e
 reads-back (versionInfo i) s out n e v = versionTrip.round-trip i out n e
 

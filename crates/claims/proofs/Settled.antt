@@ -16,7 +16,6 @@ use Rattle.version_info.specs.VersionInfo.{bytesOf}
 use Rattle.services_query.specs.declared.ListedAnswer.the-variants.{Listed, NotListed}
 use Rattle.services_writer.specs.ServicesWriter.{writeOf}
 use Rattle.services_trip.proofs.RoundTrip.{round-trip}
-use Rattle.exchange.specs.Messages.{OfWidth}
 use Rattle.handshake.specs.Versions.{infoOf, larger, lower}
 use Rattle.handshake.specs.Modem.{noDeviceSupport}
 use Rattle.handshake.specs.Commands.{versionCid}
