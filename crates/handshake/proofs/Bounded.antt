@@ -1,9 +1,9 @@
--- No end ever settles above its native version, whatever it is called with.
+-- Whatever an end is called with, it stays sound: it never settles above its native version, and a modem not below its advertised one.
 -- Assumes nothing.
 use Prim.Native.Nat.{ℕ, _≤_}
 use mathlib.Core.Path.{_≡_, refl, _∙_}
 use mathlib.Core.Logic.{_⊎_, inl, inr, ⊎-map}
-use mathlib.Core.Bool.{Bool, true, false, cond}
+use mathlib.Core.Bool.{Bool, true, false, not, cond, _&&_}
 use mathlib.Core.List.{List, [], _∷_}
 use native.Mathlib.Omega.{arith}
 use borrow.Author.Tests.{eqb-true, ltb-false}
@@ -17,7 +17,7 @@ use Rattle.protocol.specs.declared.Version.the-variants.{V1, V2}
 use Rattle.protocol.specs.declared.Written.{Written}
 use Rattle.protocol.specs.declared.Written.the-variants as written
 use Rattle.protocol.specs.declared.service.Carried.{Carried}
-use Rattle.protocol.proofs.Tests.{or-cases, not-kept}
+use Rattle.protocol.proofs.Tests.{and-both, or-cases, not-kept}
 use Rattle.protocol.proofs.Verdicts.{fits-kept}
 use Rattle.message.specs.declared.MessageHeader.{MessageHeader}
 use Rattle.version_info.specs.VersionInfo.{isExtension, readOf, writeOf}
@@ -25,11 +25,11 @@ use Rattle.version_info.specs.declared.VersionInfoRead.{VersionInfoRead}
 use Rattle.version_info.specs.declared.VersionInfoRead.the-variants as read
 use Rattle.services_query.specs.declared.ListedAnswer.{ListedAnswer}
 use Rattle.services_query.specs.declared.ListedAnswer.the-variants as list
-use Rattle.handshake.specs.Versions.{numberVerdict, versionOf, infoOf, larger, lower, above}
+use Rattle.handshake.specs.Versions.{numberVerdict, versionOf, infoOf, larger, lower, above, isLater}
 use Rattle.handshake.specs.Commands.{roleOf, versionListed}
 use Rattle.handshake.specs.Host.{end, openedBy, openedOf, listRules, acceptedList, judgedList, listAt, listReply, servicesReplyOf, answeredAt, failedAt, answeredBy, versionReplyOf, replyRole, receiveBy, receiveOf, madeBy, madeOf}
-use Rattle.handshake.specs.Modem.{end as modemEnd, plain, failed, listedStage, servicesOf, answerOf, gaveBy, gave, giveOf, answerBy, canAnswer, versionOfCommand, firstOther, otherAt, commandBy, commandOf, commandRules, receiveBy as commandedBy, receiveOf as modemReceives, madeRules, listedBy, madeBy as modemMadeBy, madeOf as modemMadeOf}
-use Rattle.handshake.specs.Calls.{HostCall, host-opens, host-closes, host-receives, hostAfter, hostAfterAll, HostSound, ModemCall, modem-opens, modem-closes, modem-receives, modemAfter, modemAfterAll, ModemSoundAt, ModemSound}
+use Rattle.handshake.specs.Modem.{end as modemEnd, plain, failed, listedStage, servicesOf, answerOf, gaveBy, gave, giveOf, answerBy, isListed, canAnswer, versionOfCommand, firstOther, otherAt, commandBy, commandOf, commandRules, receiveBy as commandedBy, receiveOf as modemReceives, madeRules, listedBy, madeBy as modemMadeBy, madeOf as modemMadeOf}
+use Rattle.handshake.specs.Calls.{HostCall, host-opens, host-closes, host-receives, host-asks, hostAfter, hostAfterAll, HostSound, ModemCall, modem-opens, modem-closes, modem-receives, modemAfter, modemAfterAll, ModemSoundAt, ModemSound}
 use Rattle.handshake.specs.declared.host.HostStage.{HostStage}
 use Rattle.handshake.specs.declared.host.HostStage.the-variants as host
 use Rattle.handshake.specs.declared.host.Host.{Host}
@@ -46,10 +46,10 @@ use Rattle.handshake.specs.Claims.{HostNeverAbove, ModemNeverAbove}
 -- ---- the host
 
 -- a host of the same native version, at a stage that is sound
-abbrev HostKept : Version → Host → Type 0
+abbrev pub HostKept : Version → Host → Type 0
 HostKept n h = (h .native ≡ n) × HostSound n (h .stage)
 
-none-above : (v : Version) → above v V2 ≡ false
+pub none-above : (v : Version) → above v V2 ≡ false
 none-above V1 = refl
 none-above V2 = refl
 
@@ -108,13 +108,14 @@ message-kept role.Services h status s k = either (h .native) (eqb status 0) _ _ 
 message-kept role.Version h status s k = either (h .native) (eqb status 0) _ _ (payload-kept (readOf s) h k) (failed-kept (h .stage) h k k)
 message-kept role.Other h status s k = (refl, k)
 
-host-kept : (h : Host) (c : HostCall) → HostSound (h .native) (h .stage) → HostKept (h .native) (hostAfter h c)
+pub host-kept : (h : Host) (c : HostCall) → HostSound (h .native) (h .stage) → HostKept (h .native) (hostAfter h c)
 unfolding hostAfter openedOf receiveOf
 host-kept h (host-opens a) k = opened-kept (numberVerdict a) h (versionOf a) k
 host-kept h host-closes k = (refl, tt)
 host-kept h (host-receives m s) k = message-kept (replyRole m) h (m .word) s k
+host-kept h (host-asks out) k = (refl, k)
 
-sound-again : (n : Version) (h : Host) → HostKept n h → HostSound (h .native) (h .stage)
+pub sound-again : (n : Version) (h : Host) → HostKept n h → HostSound (h .native) (h .stage)
 sound-again n h k = rw (k .0) (k .1)
 
 kept-again : (m n : Version) (h : Host) → m ≡ n → HostKept m h → HostKept n h
@@ -130,8 +131,12 @@ host-bounded h (c ∷ cs) k =
 
 -- ---- the modem
 
-abbrev ModemKept : Modem → Modem → Type 0
+abbrev pub ModemKept : Modem → Modem → Type 0
 ModemKept m k = (k .native ≡ m .native) × ModemSound k
+
+-- a version that the modem m may settle on
+abbrev MaySettle : Modem → Version → Type 0
+MaySettle m v = ModemSoundAt (m .native) (m .advertised) (m .«lists_version») (modem.Settled v)
 
 answer-below : (a n v : Version) → above a n ≡ false → above (larger a (lower v n)) n ≡ false
 answer-below V1 n V1 k = refl
@@ -139,41 +144,61 @@ answer-below V1 V1 V2 k = refl
 answer-below V1 V2 V2 k = refl
 answer-below V2 n v k = k
 
-stage-sound : (n : Version) (g : ModemStage) → ModemSoundAt n g → ModemSoundAt n (listedStage g)
-stage-sound n modem.Start k = tt
-stage-sound n modem.Listed k = tt
-stage-sound n (modem.Settled v) k = k
+answer-above : (a v : Version) → above a (larger a v) ≡ false
+answer-above V1 v = refl
+answer-above V2 v = refl
 
-gave-kept : (w : Written) (m : Modem) (v : Version) → above v (m .native) ≡ false → ModemSound m → ModemKept m (gaveBy w m v .modem)
+none-unlisted : (v : Version) → (isLater v && not true) ≡ false
+none-unlisted V1 = refl
+none-unlisted V2 = refl
+
+may-answer : (m : Modem) (v : Version) → above (m .advertised) (m .native) ≡ false → m .«lists_version» ≡ true → MaySettle m (answerOf m v)
+may-answer m v k e = (
+  answer-below (m .advertised) (m .native) v k,
+  answer-above (m .advertised) (lower v (m .native)),
+  rw e (none-unlisted (answerOf m v)),
+)
+
+stage-sound : (n a : Version) (l : Bool) (g : ModemStage) → ModemSoundAt n a l g → ModemSoundAt n a l (listedStage g)
+stage-sound n a l modem.Start k = tt
+stage-sound n a l modem.Listed k = tt
+stage-sound n a l (modem.Settled v) k = k
+
+gave-kept : (w : Written) (m : Modem) (v : Version) → MaySettle m v → ModemSound m → ModemKept m (gaveBy w m v .modem)
 gave-kept (written.Length n) m v b k = (refl, (k .0, b))
 gave-kept (written.Refused r) m v b k = (refl, k)
 
-answer-kept : (r : VersionInfoRead) (m : Modem) (out : List ℕ) → ModemSound m → ModemKept m (answerBy m r out .step .modem)
+answer-kept : (r : VersionInfoRead) (m : Modem) (out : List ℕ) → m .«lists_version» ≡ true → ModemSound m → ModemKept m (answerBy m r out .step .modem)
 unfolding answerBy giveOf gave
-answer-kept (read.Info i) m out k =
+answer-kept (read.Info i) m out e k =
     let v = versionOf (i .«bcd_mbim_extended_version») in
-    gave-kept (writeOf (infoOf (answerOf m v)) out .answer) m (answerOf m v) (answer-below (m .advertised) (m .native) v (k .0)) k
-answer-kept (read.Refused r) m out k = (refl, k)
+    gave-kept (writeOf (infoOf (answerOf m v)) out .answer) m (answerOf m v) (may-answer m v (k .0) e) k
+answer-kept (read.Refused r) m out e k = (refl, k)
 
-version-kept : (b : Bool) (m : Modem) (r : VersionInfoRead) (out : List ℕ) → ModemSound m
+-- only a modem that lists VERSION answers it
+answers-listed : (m : Modem) (type : ℕ) → canAnswer m type ≡ true → m .«lists_version» ≡ true
+unfolding canAnswer
+answers-listed m type e = and-both (m .«lists_version») _ (and-both (isListed (m .stage)) _ e .1) .0
+
+version-kept : (b : Bool) (m : Modem) (r : VersionInfoRead) (out : List ℕ) → (b ≡ true → m .«lists_version» ≡ true) → ModemSound m
     → ModemKept m (cond b (answerBy m r out) (plain (failed m) out) .step .modem)
-version-kept true m r out k = answer-kept r m out k
-version-kept false m r out k = (refl, k)
+version-kept true m r out e k = answer-kept r m out (e refl) k
+version-kept false m r out e k = (refl, k)
 
-first-kept : (a : Version) (m : Modem) (c : Carried) → ModemSound m → ModemKept m (firstOther a m c .modem)
-first-kept V1 m c k = (refl, (k .0, refl))
-first-kept V2 m c k = (refl, k)
+first-kept : (a : Version) (m : Modem) (c : Carried) → m .advertised ≡ a → ModemSound m → ModemKept m (firstOther a m c .modem)
+first-kept V1 m c e k = (refl, (k .0, (refl, rw e refl, refl)))
+first-kept V2 m c e k = (refl, k)
 
 other-kept : (g : ModemStage) (m : Modem) (c : Carried) → ModemSound m → ModemKept m (otherAt g m c .modem)
 unfolding otherAt
 other-kept modem.Start m c k = (refl, k)
-other-kept modem.Listed m c k = first-kept (m .advertised) m c k
+other-kept modem.Listed m c k = first-kept (m .advertised) m c refl k
 other-kept (modem.Settled v) m c k = (refl, k)
 
 role-kept : (x : Role) (m : Modem) (c : Carried) (type : ℕ) (s out : List ℕ) → ModemSound m → ModemKept m (commandBy x m c type s out .step .modem)
 unfolding commandBy servicesOf versionOfCommand
-role-kept role.Services m c type s out k = (refl, (k .0, stage-sound (m .native) (m .stage) (k .1)))
-role-kept role.Version m c type s out k = version-kept (canAnswer m type) m (readOf s) out k
+role-kept role.Services m c type s out k = (refl, (k .0, stage-sound (m .native) (m .advertised) (m .«lists_version») (m .stage) (k .1)))
+role-kept role.Version m c type s out k = version-kept (canAnswer m type) m (readOf s) out (answers-listed m type) k
 role-kept role.Other m c type s out k = other-kept (m .stage) m c k
 
 verdict-kept : (d : Verdict) (m : Modem) (h : MessageHeader) (s out : List ℕ) → ModemSound m → ModemKept m (commandedBy d m h s out .step .modem)
@@ -181,7 +206,7 @@ unfolding commandedBy commandOf
 verdict-kept Fits m h s out k = role-kept (roleOf (kindOf (h .service) (h .cid))) m (kindOf (h .service) (h .cid)) (h .word) s out k
 verdict-kept (Fault r) m h s out k = (refl, k)
 
-modem-kept : (m : Modem) (c : ModemCall) → ModemSound m → ModemKept m (modemAfter m c)
+pub modem-kept : (m : Modem) (c : ModemCall) → ModemSound m → ModemKept m (modemAfter m c)
 unfolding modemAfter modemReceives
 modem-kept m modem-opens k = (refl, (k .0, tt))
 modem-kept m modem-closes k = (refl, (k .0, tt))
@@ -200,6 +225,10 @@ modem-bounded m (c ∷ cs) k =
 made-host : (d : Verdict) (v : Version) (h : Host) → madeBy d v ≡ hostMade.Made h → h ≡ end v host.Closed
 made-host Fits v h e = cc
 made-host (Fault r) v h e = let z : _≡_ {A = ℕ} 0 1 = cc in absurd (omega arith)
+
+pub host-made-sound : (native : ℕ) (h : Host) → madeOf native ≡ hostMade.Made h → HostSound (h .native) (h .stage)
+unfolding madeOf
+host-made-sound native h e = rw (made-host (numberVerdict native) (versionOf native) h e) tt
 
 host-below : (n : Version) (g : HostStage) (v : Version) → HostSound n g → g ≡ host.Settled v → above v n ≡ false
 host-below n g v k e = rw e at k
@@ -226,10 +255,10 @@ made-modem Fits n a s m e = (refl, listed-modem (versionListed s) n a m e)
 made-modem (Fault r) n a s m e = let z : _≡_ {A = ℕ} 0 1 = cc in absurd (omega arith)
 
 -- a number of the table
-known : (n : ℕ) → isExtension n ≡ true → (n ≡ 0x0100) ⊎ (n ≡ 0x0200)
-known n e = ⊎-map (eqb-true n 0x0100) (eqb-true n 0x0200) (or-cases (eqb n 0x0100) (eqb n 0x0200) e)
+pub extension-cases : (n : ℕ) → isExtension n ≡ true → (n ≡ 0x0100) ⊎ (n ≡ 0x0200)
+extension-cases n e = ⊎-map (eqb-true n 0x0100) (eqb-true n 0x0200) (or-cases (eqb n 0x0100) (eqb n 0x0200) e)
 
-advertised-below : (native advertised : ℕ) → (native ≡ 0x0100) ⊎ (native ≡ 0x0200) → (advertised ≡ 0x0100) ⊎ (advertised ≡ 0x0200)
+pub advertised-below : (native advertised : ℕ) → (native ≡ 0x0100) ⊎ (native ≡ 0x0200) → (advertised ≡ 0x0100) ⊎ (advertised ≡ 0x0200)
     → advertised ≤ native → above (versionOf advertised) (versionOf native) ≡ false
 advertised-below native advertised (inl p) (inl q) h = rw (p, q)
 advertised-below native advertised (inl p) (inr q) h = absurd (omega arith)
@@ -241,18 +270,22 @@ made-sound : (native advertised : ℕ) (listed : Bool) → judge (madeRules nati
 unfolding madeRules
 made-sound native advertised listed e =
     let k = fits-kept (madeRules native advertised) e in (
-      advertised-below native advertised (known native (not-kept (isExtension native) (k .0)))
-          (known advertised (not-kept (isExtension advertised) (k .1 .0))) (ltb-false native advertised (k .1 .1 .0)),
+      advertised-below native advertised (extension-cases native (not-kept (isExtension native) (k .0)))
+          (extension-cases advertised (not-kept (isExtension advertised) (k .1 .0))) (ltb-false native advertised (k .1 .1 .0)),
       tt,
     )
 
-settled-below : (n : Version) (g : ModemStage) (v : Version) → ModemSoundAt n g → g ≡ modem.Settled v → above v n ≡ false
-settled-below n g v k e = rw e at k
+pub modem-made-sound : (native advertised : ℕ) (s : List ℕ) (m : Modem) → modemMadeOf native advertised s ≡ modemMade.Made m → ModemSound m
+unfolding modemMadeOf
+modem-made-sound native advertised s m e =
+    let p = made-modem (judge (madeRules native advertised)) native advertised s m e in
+    rw (p .1 .1) (made-sound native advertised (p .1 .0) (p .0))
+
+settled-below : (n a : Version) (l : Bool) (g : ModemStage) (v : Version) → ModemSoundAt n a l g → g ≡ modem.Settled v → above v n ≡ false
+settled-below n a l g v k e = let q : ModemSoundAt n a l (modem.Settled v) = rw e at k in q .0
 
 pub modem-never-above : ModemNeverAbove
-unfolding modemMadeOf
 modem-never-above native advertised s m e cs v q =
-    let p = made-modem (judge (madeRules native advertised)) native advertised s m e in
-    let k : ModemSound m = rw (p .1 .1) (made-sound native advertised (p .1 .0) (p .0)) in
-    let b = modem-bounded m cs k in
-    rw (b .0) at (settled-below (modemAfterAll m cs .native) (modemAfterAll m cs .stage) v (b .1 .1) q)
+    let b = modem-bounded m cs (modem-made-sound native advertised s m e) in
+    let k = modemAfterAll m cs in
+    rw (b .0) at (settled-below (k .native) (k .advertised) (k .«lists_version») (k .stage) v (b .1 .1) q)

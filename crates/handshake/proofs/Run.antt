@@ -28,7 +28,7 @@ use Rattle.message.specs.declared.MessageHeader.{MessageHeader}
 use Rattle.handshake.specs.Commands.{servicesCid, versionCid, roleOfKind, roleOf, versionListed}
 use Rattle.handshake.specs.Host.{end, unchanged, settledAt, madeOf, openedOf, askOf, listRules, listAt, answeredAt, answeredBy, servicesReplyOf, versionReplyOf, replyRole, receiveBy, receiveOf}
 use Rattle.handshake.specs.Modem.{noDeviceSupport, end as modemEnd, madeRules, madeOf as modemMadeOf, startOf, servedAs, servicesOf, gave, giveOf, answerBy, canAnswer, versionOfCommand, otherAt, commandBy, commandOf, commandRules, receiveBy as commandedBy, receiveOf as modemReceives}
-use Rattle.handshake.specs.Run.{Message, headed, asksServices, asksVersion, sends, replyTo, replyBy, Line, reaches, Passes, both, hostAfter, answered, taken, commandOver, Rooms, turn, run, expected, Outcome, listedAs, OtherCommand, Ready}
+use Rattle.handshake.specs.Run.{Message, headed, asksServices, asksVersion, sends, replyTo, replyBy, Line, reaches, Passes, both, afterReply, answered, taken, commandOver, Rooms, turn, run, expected, Outcome, listedAs, OtherCommand, Ready}
 use Rattle.handshake.specs.declared.host.HostStage.{HostStage}
 use Rattle.handshake.specs.declared.host.HostStage.the-variants as host
 use Rattle.handshake.specs.declared.host.Host.{Host}
@@ -118,8 +118,8 @@ unfolding receiveOf receiveBy replyRole roleOf roleOfKind
 version-heard h t status s = rw kind-version
 
 other-after : (l : Line) (h : Host) (c : Carried) (x : Message) (out services : List ℕ) → roleOf (kindOf (x .header .service) (x .header .cid)) ≡ role.Other
-    → Passes l x 0 services → Passes l x noDeviceSupport [] → hostAfter h (reaches (l .back) (replyBy (servedAs c) (x .header) out services)) ≡ unchanged h
-unfolding hostAfter receiveOf receiveBy replyRole
+    → Passes l x 0 services → Passes l x noDeviceSupport [] → afterReply h (reaches (l .back) (replyBy (servedAs c) (x .header) out services)) ≡ unchanged h
+unfolding afterReply receiveOf receiveBy replyRole
 other-after l h (Payload k) x out services o p q = rw (p .1, o)
 other-after l h (Refused r) x out services o p q = rw (q .1, o)
 
@@ -128,7 +128,7 @@ module _ (l : Line) (w : Rooms) (t : ℕ) (numbered : 0 < t) (given : Message) (
   list-turn : (n k a : Version) (listed : Bool) → Passes l (asksServices t) 0 s → versionListed s ≡ listedAs listed
       → turn l w t given s (end n (host.Open a)) (modemEnd k a listed modem.Start)
       ≡ both (listAt (host.Open a) (end n (host.Open a)) listed) (modemEnd k a listed modem.Listed) (sends (asksServices t))
-  unfolding turn askOf commandOver taken answered hostAfter modemReceives commandedBy commandOf commandBy servicesOf roleOf roleOfKind
+  unfolding turn askOf commandOver taken answered afterReply modemReceives commandedBy commandOf commandBy servicesOf roleOf roleOfKind
   list-turn n k a listed p e =
       rw (p .0, commanded (asksServices t .header) refl numbered, kind-services, p .1, services-heard (end n (host.Open a)) t 0 s, list-judged n a listed s e)
 
@@ -136,7 +136,7 @@ module _ (l : Line) (w : Rooms) (t : ℕ) (numbered : 0 < t) (given : Message) (
   version-turn : (n k a : Version) → Passes l (asksVersion t (bytesOf (infoOf n))) 0 (bytesOf (infoOf (larger a (lower n k)))) → 4 ≤ length (w .host) → 4 ≤ length (w .modem)
       → turn l w t given s (end n (host.AwaitsVersion a)) (modemEnd k a true modem.Listed)
       ≡ both (settledAt (end n (host.AwaitsVersion a)) (larger a (larger a (lower n k)))) (modemEnd k a true (modem.Settled (larger a (lower n k)))) (sends (asksVersion t (bytesOf (infoOf n))))
-  unfolding turn askOf commandOver taken answered hostAfter modemReceives commandedBy commandOf commandBy versionOfCommand canAnswer roleOf roleOfKind answerBy giveOf gave versionReplyOf answeredBy answeredAt
+  unfolding turn askOf commandOver taken answered afterReply modemReceives commandedBy commandOf commandBy versionOfCommand canAnswer roleOf roleOfKind answerBy giveOf gave versionReplyOf answeredBy answeredAt
   version-turn n k a z p q =
       let v = larger a (lower n k) in
       let r = version-heard (end n (host.AwaitsVersion a)) t 0 (bytesOf (infoOf v)) in

@@ -20,7 +20,7 @@ use Rattle.services_query.specs.declared.ListedAnswer.the-variants as list
 use Rattle.handshake.specs.Commands.{roleOf, versionListed}
 use Rattle.handshake.specs.Host.{listAt, listReply, servicesReplyOf, answeredAt, failedAt, answeredBy, versionReplyOf, replyRole, receiveBy, receiveOf}
 use Rattle.handshake.specs.Modem.{at, listedStage, servicesOf, canAnswer, versionOfCommand, otherAt, commandBy, commandOf, commandRules, receiveBy as commandedBy, receiveOf as modemReceives}
-use Rattle.handshake.specs.Calls.{HostCall, host-opens, host-closes, host-receives, hostAfter, hostAfterAll, HostQuiet, ModemCall, modem-opens, modem-closes, modem-receives, modemAfter, modemAfterAll, ModemQuiet}
+use Rattle.handshake.specs.Calls.{HostCall, host-opens, host-closes, host-receives, host-asks, hostAfter, hostAfterAll, HostQuiet, ModemCall, modem-opens, modem-closes, modem-receives, modemAfter, modemAfterAll, ModemQuiet}
 use Rattle.handshake.specs.declared.host.HostStage.the-variants as host
 use Rattle.handshake.specs.declared.host.Host.{Host}
 use Rattle.handshake.specs.declared.host.HostStep.{HostStep}
@@ -72,6 +72,7 @@ host-stays h v e [] q = refl
 host-stays h v e (host-opens a ∷ cs) q = absurd q
 host-stays h v e (host-closes ∷ cs) q = absurd q
 host-stays h v e (host-receives m s ∷ cs) q = rw (keeps-message h v e (replyRole m) (m .word) s) (host-stays h v e cs q)
+host-stays h v e (host-asks out ∷ cs) q = host-stays h v e cs q
 
 -- ---- the modem
 

@@ -1,12 +1,12 @@
 -- Any calls of an end, one after the other: each is given the end as the one before left it.
 use Prim.Native.Nat.{ℕ}
 use mathlib.Core.Path.{_≡_}
-use mathlib.Core.Bool.{false}
+use mathlib.Core.Bool.{Bool, false, not, _&&_}
 use mathlib.Core.List.{List, [], _∷_}
 use Rattle.protocol.specs.declared.Version.{Version}
 use Rattle.protocol.specs.declared.Version.the-variants.{V2}
 use Rattle.message.specs.declared.MessageHeader.{MessageHeader}
-use Rattle.handshake.specs.Versions.{above}
+use Rattle.handshake.specs.Versions.{above, isLater}
 use Rattle.handshake.specs.Host.{openedOf, closedOf, receiveOf}
 use Rattle.handshake.specs.Modem.{startOf, receiveOf as modemReceives}
 use Rattle.handshake.specs.declared.host.HostStage.{HostStage}
@@ -18,16 +18,18 @@ use Rattle.handshake.specs.declared.modem.Modem.{Modem}
 
 -- ---- the host's
 
--- a message is a header and its information
+-- OPEN with an advertised number, CLOSE, a message as a header and its information, and what it asks next, with the lent output
 pub data HostCall : Type 0 where
   host-opens : ℕ → HostCall
   host-closes : HostCall
   host-receives : MessageHeader → List ℕ → HostCall
+  host-asks : List ℕ → HostCall
 
 unfoldable pub hostAfter : Host → HostCall → Host
 hostAfter h (host-opens advertised) = openedOf h advertised .host
 hostAfter h host-closes = closedOf h
 hostAfter h (host-receives m s) = receiveOf h m s .host
+hostAfter h (host-asks out) = h
 
 unfoldable pub hostAfterAll : Host → List HostCall → Host
 hostAfterAll h [] = h
@@ -39,6 +41,7 @@ HostQuiet [] = Unit
 HostQuiet (host-opens advertised ∷ cs) = ⊥
 HostQuiet (host-closes ∷ cs) = ⊥
 HostQuiet (host-receives m s ∷ cs) = HostQuiet cs
+HostQuiet (host-asks out ∷ cs) = HostQuiet cs
 
 -- what holds of a host at each stage: only one of 2.00 asks VERSION, and none settles above its native version
 abbrev pub HostSound : Version → HostStage → Type 0
@@ -70,11 +73,14 @@ ModemQuiet (modem-opens ∷ cs) = ⊥
 ModemQuiet (modem-closes ∷ cs) = ⊥
 ModemQuiet (modem-receives h s out ∷ cs) = ModemQuiet cs
 
-abbrev pub ModemSoundAt : Version → ModemStage → Type 0
-ModemSoundAt native modem.Start = Unit
-ModemSoundAt native modem.Listed = Unit
-ModemSoundAt native (modem.Settled v) = above v native ≡ false
+-- what holds of a modem at each stage, by its native and advertised versions and by whether it lists VERSION:
+-- it settles neither above the one nor below the other, and at 2.00 only where VERSION can be asked
+abbrev pub ModemSoundAt : Version → Version → Bool → ModemStage → Type 0
+ModemSoundAt native advertised listed modem.Start = Unit
+ModemSoundAt native advertised listed modem.Listed = Unit
+ModemSoundAt native advertised listed (modem.Settled v) =
+    (above v native ≡ false) × (above advertised v ≡ false) × ((isLater v && not listed) ≡ false)
 
--- a modem advertises nothing above its native version, and settles on nothing above it
+-- and it advertises nothing above its native version
 abbrev pub ModemSound : Modem → Type 0
-ModemSound m = (above (m .advertised) (m .native) ≡ false) × ModemSoundAt (m .native) (m .stage)
+ModemSound m = (above (m .advertised) (m .native) ≡ false) × ModemSoundAt (m .native) (m .advertised) (m .«lists_version») (m .stage)

@@ -112,13 +112,13 @@ pub record Both : Type 0 where
 abbrev pub both : HostStep → Modem → Sent → Both
 both s m c = record { host = s .host; modem = m; answer = s .answer; sent = c }
 
-unfoldable pub hostAfter : Host → Sent → HostStep
-hostAfter h nothing = unchanged h
-hostAfter h (sends r) = receiveOf h (r .header) (r .information)
+unfoldable pub afterReply : Host → Sent → HostStep
+afterReply h nothing = unchanged h
+afterReply h (sends r) = receiveOf h (r .header) (r .information)
 
 -- the command c was sent, and d is what the modem did with what arrived of it
 unfoldable pub answered : Line → Host → Message → MessageHeader → Commanding → List ℕ → Both
-answered l h c arrived d services = both (hostAfter h (reaches (l .back) (replyOf d arrived services))) (d .step .modem) (sends c)
+answered l h c arrived d services = both (afterReply h (reaches (l .back) (replyOf d arrived services))) (d .step .modem) (sends c)
 
 unfoldable pub taken : Line → Message → Sent → Host → Modem → List ℕ → List ℕ → Both
 taken l c nothing h m room services = both (unchanged h) m (sends c)
@@ -150,7 +150,7 @@ unlessRefused (answer.Refused r) before after = before
 abbrev pub andThen : Both → Line → Rooms → ℕ → Message → List ℕ → Both
 andThen b l w transaction given services = unlessRefused (b .answer) b (turn l w transaction given services (b .host) (b .modem))
 
--- the two turns in two transactions, each over a line of its own: a later one may have hostAfter more
+-- the two turns in two transactions, each over a line of its own: a later one may have afterReply more
 unfoldable pub run : Line → Line → Rooms → Rooms → ℕ → ℕ → Message → List ℕ → Host → Modem → Both
 run l₁ l₂ w₁ w₂ t₁ t₂ given services h m = andThen (turn l₁ w₁ t₁ given services h m) l₂ w₂ t₂ given services
 

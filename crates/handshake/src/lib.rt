@@ -72,7 +72,7 @@ fn judge_number(number: u16) -> Verdict
 }
 
 // The version of one of the two numbers.
-fn version_of(number: u16) -> Version
+pub fn version_of(number: u16) -> Version
     ensures { λ r. ⌜ r ≡ versionOf number ⌝ }
 {
     if number == EXTENSIONS_2_0 {

@@ -61,7 +61,7 @@ length-buffer m room = length-take 4096 (drop 48 m) ∙ simp length-drop (omega 
 -- ---- a number put back where it was read
 
 -- the lowest byte, then the others
-lowest : (n x y : ℕ) → x < 256 → digits (suc n) (x + 256 * y) ≡ x ∷ digits n y
+pub lowest : (n x y : ℕ) → x < 256 → digits (suc n) (x + 256 * y) ≡ x ∷ digits n y
 lowest n x y l =
     let e : (x + 256 * y) % 256 ≡ x = omega (arith, l) in
     let f : (x + 256 * y) / 256 ≡ y = omega (arith, l) in

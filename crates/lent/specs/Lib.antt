@@ -1,3 +1,2 @@
 pub mod Stored
 pub mod LentAssembly
-pub mod Holding

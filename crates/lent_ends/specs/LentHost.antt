@@ -1,20 +1,20 @@
 -- The host's end in lent memory: native version at 0, stage at 2, the stage's version at 4, 16 bits each.
 -- In this order: stages as numbers; what the memory holds; the bytes of an end; an end made; a call on the end; what it asks.
--- Memory that holds no end is refused, and stays as it was.
+-- Memory that holds no end which calls can have left is refused, 10 at the field's place, and stays as it was.
 use Prim.Native.Nat.{ℕ}
-use mathlib.Core.Bool.{Bool, not, cond}
+use mathlib.Core.Bool.{not, cond, _&&_}
 use mathlib.Core.List.{List, [], _∷_, _++_}
 use lib.Dec.{ltb, eqb}
 use lib.ListN.{length}
 use lib.Seq.{sets}
 use Rattle.wire.specs.Numbers.{u16At, digits}
-use Rattle.protocol.specs.Refusal.{outsideTable, outputTooSmall}
+use Rattle.protocol.specs.Refusal.{contradiction, outputTooSmall}
 use Rattle.protocol.specs.Verdict.{Rule, rule, judge}
 use Rattle.protocol.specs.declared.Verdict.{Verdict}
 use Rattle.protocol.specs.declared.Verdict.the-variants.{Fits, Fault}
 use Rattle.protocol.specs.declared.Version.{Version}
 use Rattle.version_info.specs.VersionInfo.{isExtension}
-use Rattle.handshake.specs.Versions.{numberOf, versionOf}
+use Rattle.handshake.specs.Versions.{extensions2, numberOf, versionOf}
 use Rattle.message.specs.declared.MessageHeader.{MessageHeader}
 use Rattle.handshake.specs.Host.{step, madeOf, openedOf, closedOf, receiveOf, Asking, plain, askOf}
 use Rattle.handshake.specs.declared.host.Host.{Host}
@@ -27,6 +27,7 @@ use Rattle.handshake.specs.declared.host.Ask.the-variants as ask
 use Rattle.handshake.specs.declared.host.HostStage.{HostStage}
 use Rattle.handshake.specs.declared.host.HostStage.the-variants.{Closed, Open, AwaitsVersion, Settled}
 use Rattle.lent.specs.Stored.{Stored, unstored, stored}
+use Rattle.lent_ends.specs.Stages.{strayVersion}
 use Rattle.lent_ends.specs.declared.host.HostHeld.{HostHeld}
 use Rattle.lent_ends.specs.declared.host.HostHeld.the-variants as held
 
@@ -48,33 +49,31 @@ stageVersion (Open v) = numberOf v
 stageVersion (AwaitsVersion v) = numberOf v
 stageVersion (Settled v) = numberOf v
 
--- a closed end has no version
-abbrev pub wrongVersion : ℕ → ℕ → Bool
-wrongVersion stage version = cond (eqb stage 0) (not (eqb version 0)) (not (isExtension version))
-
 -- ---- what the memory holds
 
 abbrev pub hostSize : ℕ
 hostSize = 6
 
+-- of any end its numbers; only a host of 2.00 asks VERSION; a closed one has no version, and none settles above its native one
 abbrev pub hostRules : List ℕ → List Rule
 hostRules m =
     rule (ltb (length m) hostSize) outputTooSmall hostSize
-    ∷ rule (not (isExtension (u16At m 0))) outsideTable 0
-    ∷ rule (ltb 3 (u16At m 2)) outsideTable 2
-    ∷ rule (wrongVersion (u16At m 2) (u16At m 4)) outsideTable 4
+    ∷ rule (not (isExtension (u16At m 0))) contradiction 0
+    ∷ rule (ltb 3 (u16At m 2)) contradiction 2
+    ∷ rule (eqb (u16At m 2) 2 && ltb (u16At m 0) extensions2) contradiction 2
+    ∷ rule (strayVersion (not (eqb (u16At m 2) 0)) (u16At m 4)) contradiction 4
+    ∷ rule (eqb (u16At m 2) 3 && ltb (u16At m 0) (u16At m 4)) contradiction 4
     ∷ []
+
+unfoldable pub hostAt : List ℕ → Host
+hostAt m = record { native = versionOf (u16At m 0); stage = stageOf (u16At m 2) (versionOf (u16At m 4)) }
 
 abbrev pub heldBy : Verdict → Host → HostHeld
 heldBy Fits h = held.Held h
 heldBy (Fault r) h = held.Refused r
 
 unfoldable pub hostIn : List ℕ → HostHeld
-hostIn m =
-    heldBy (judge (hostRules m)) record {
-      native = versionOf (u16At m 0);
-      stage = stageOf (u16At m 2) (versionOf (u16At m 4));
-    }
+hostIn m = heldBy (judge (hostRules m)) (hostAt m)
 
 -- ---- the bytes of an end
 

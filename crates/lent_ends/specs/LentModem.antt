@@ -1,20 +1,20 @@
 -- The modem's end in lent memory: native version at 0, advertised at 2, whether it lists VERSION at 4, stage at 6, the version settled on at 8, 16 bits each.
 -- In this order: stages as numbers; what the memory holds; the bytes of an end; an end made; an end put back to its start; a message.
--- Memory that holds no end is refused, and stays as it was.
+-- Memory that holds no end which calls can have left is refused, 10 at the field's place, and stays as it was.
 use Prim.Native.Nat.{ℕ}
-use mathlib.Core.Bool.{Bool, not, cond}
+use mathlib.Core.Bool.{Bool, not, cond, _&&_}
 use mathlib.Core.List.{List, [], _∷_, _++_}
 use lib.Dec.{ltb, eqb}
 use lib.ListN.{length}
 use lib.Seq.{sets}
 use Rattle.wire.specs.Numbers.{u16At, digits}
-use Rattle.protocol.specs.Refusal.{outsideTable, contradiction, outputTooSmall}
+use Rattle.protocol.specs.Refusal.{contradiction, outputTooSmall}
 use Rattle.protocol.specs.Verdict.{Rule, rule, judge}
 use Rattle.protocol.specs.declared.Verdict.{Verdict}
 use Rattle.protocol.specs.declared.Verdict.the-variants.{Fits, Fault}
 use Rattle.protocol.specs.declared.Version.{Version}
 use Rattle.version_info.specs.VersionInfo.{isExtension}
-use Rattle.handshake.specs.Versions.{numberOf, versionOf}
+use Rattle.handshake.specs.Versions.{extensions2, numberOf, versionOf}
 use Rattle.message.specs.declared.MessageHeader.{MessageHeader}
 use Rattle.handshake.specs.Modem.{settledNumber, madeOf, startOf, Commanding, receiveOf}
 use Rattle.handshake.specs.declared.modem.Modem.{Modem}
@@ -24,6 +24,7 @@ use Rattle.handshake.specs.declared.modem.ModemAnswer.the-variants as answer
 use Rattle.handshake.specs.declared.modem.ModemStage.{ModemStage}
 use Rattle.handshake.specs.declared.modem.ModemStage.the-variants.{Start, Listed, Settled}
 use Rattle.lent.specs.Stored.{Stored, unstored, stored}
+use Rattle.lent_ends.specs.Stages.{strayVersion}
 use Rattle.lent_ends.specs.declared.modem.ModemReply.{ModemReply}
 use Rattle.lent_ends.specs.declared.modem.ModemHeld.{ModemHeld}
 use Rattle.lent_ends.specs.declared.modem.ModemHeld.the-variants as held
@@ -41,26 +42,30 @@ stageNumber (Settled v) = 2
 abbrev pub flagNumber : Bool → ℕ
 flagNumber b = cond b 1 0
 
--- only a settled end has a version
-abbrev pub wrongVersion : ℕ → ℕ → Bool
-wrongVersion stage version = cond (eqb stage 2) (not (isExtension version)) (not (eqb version 0))
-
 -- ---- what the memory holds
 
 abbrev pub modemSize : ℕ
 modemSize = 10
 
--- last, "advertised above native"
+-- only a settled end has a version: not above its native one, not below its advertised one, and 2.00 only where VERSION is listed
+abbrev pub stageRules : ℕ → ℕ → ℕ → ℕ → ℕ → List Rule
+stageRules native advertised listed stage version =
+    rule (ltb 2 stage) contradiction 6
+    ∷ rule (strayVersion (eqb stage 2) version) contradiction 8
+    ∷ rule (ltb native version) contradiction 8
+    ∷ rule (eqb stage 2 && ltb version advertised) contradiction 8
+    ∷ rule (eqb listed 0 && eqb version extensions2) contradiction 8
+    ∷ []
+
+-- advertised is not above native
 abbrev pub modemRules : List ℕ → List Rule
 modemRules m =
     rule (ltb (length m) modemSize) outputTooSmall modemSize
-    ∷ rule (not (isExtension (u16At m 0))) outsideTable 0
-    ∷ rule (not (isExtension (u16At m 2))) outsideTable 2
-    ∷ rule (ltb 1 (u16At m 4)) outsideTable 4
-    ∷ rule (ltb 2 (u16At m 6)) outsideTable 6
-    ∷ rule (wrongVersion (u16At m 6) (u16At m 8)) outsideTable 8
+    ∷ rule (not (isExtension (u16At m 0))) contradiction 0
+    ∷ rule (not (isExtension (u16At m 2))) contradiction 2
     ∷ rule (ltb (u16At m 0) (u16At m 2)) contradiction 2
-    ∷ []
+    ∷ rule (ltb 1 (u16At m 4)) contradiction 4
+    ∷ stageRules (u16At m 0) (u16At m 2) (u16At m 4) (u16At m 6) (u16At m 8)
 
 unfoldable pub modemAt : List ℕ → Modem
 modemAt m = record {

@@ -1,5 +1,6 @@
 // The host's end in 6 bytes: its native version, its stage and the stage's version, 16 bits each.
-use crate::version_of;
+use crate::both;
+use crate::is_stray_version;
 use handshake::host::Ask;
 use handshake::host::Host;
 use handshake::host::HostAnswer;
@@ -7,19 +8,22 @@ use handshake::host::HostMade;
 use handshake::host::HostStage;
 use handshake::host::HostStep;
 use handshake::number_of;
+use handshake::version_of;
 use message::MessageHeader;
+use protocol::CONTRADICTION;
 use protocol::OUTPUT_TOO_SMALL;
-use protocol::OUTSIDE_TABLE;
 use protocol::Refusal;
 use protocol::Verdict;
 use protocol::Version;
 use protocol::also;
+use version_info::EXTENSIONS_2_0;
 use version_info::is_extension;
 use wire::put_u16;
 use wire::u16_at;
 ghost use mathlib.Core.Path.{_≡_};
 ghost use lib.Seq.{sets};
-ghost use Rattle.lent_ends.specs.LentHost.{hostSize, stageOf, stageNumber, stageVersion, wrongVersion, hostIn, hostBytes, makeIn, openIn, closeIn, receiveIn, askIn};
+ghost use Rattle.protocol.specs.Verdict.{judge};
+ghost use Rattle.lent_ends.specs.LentHost.{hostSize, stageOf, stageNumber, stageVersion, hostRules, hostAt, hostIn, hostBytes, makeIn, openIn, closeIn, receiveIn, askIn};
 ghost use Rattle.lent.specs.Stored.{stored};
 
 // How many bytes a host's end takes.
@@ -111,6 +115,16 @@ pub fn receive(memory: &mut [u8], message: MessageHeader, information: &[u8]) ->
 fn host_at(memory: &[u8]) -> HostHeld
     ensures { λ r. ⌜ r ≡ hostIn (now (memory .entry)) ⌝ }
 {
+    match judge_host(memory) {
+        Verdict::Fits => HostHeld::Held(fields_at(memory)),
+        Verdict::Fault(refusal) => HostHeld::Refused(refusal),
+    }
+}
+
+// The verdict on what calls can have left.
+fn judge_host(memory: &[u8]) -> Verdict
+    ensures { λ r. ⌜ r ≡ judge (hostRules (now (memory .entry))) ⌝ }
+{
     let native = u16_at(memory, NATIVE);
     let stage = u16_at(memory, STAGE);
     let version = u16_at(memory, VERSION);
@@ -120,19 +134,36 @@ fn host_at(memory: &[u8]) -> HostHeld
         OUTPUT_TOO_SMALL,
         HOST_SIZE,
     );
-    let known = also(room, !is_extension(native), OUTSIDE_TABLE, NATIVE);
-    let staged = also(known, SETTLED < stage, OUTSIDE_TABLE, STAGE);
-    match also(
+    let known = also(room, !is_extension(native), CONTRADICTION, NATIVE);
+    let staged = also(known, SETTLED < stage, CONTRADICTION, STAGE);
+    let asks = also(
         staged,
-        is_wrong_version(stage, version),
-        OUTSIDE_TABLE,
+        both(stage == AWAITS_VERSION, native < EXTENSIONS_2_0),
+        CONTRADICTION,
+        STAGE,
+    );
+    let versioned = also(
+        asks,
+        is_stray_version(stage != CLOSED, version),
+        CONTRADICTION,
         VERSION,
-    ) {
-        Verdict::Fits => HostHeld::Held(Host {
-            native: version_of(native),
-            stage: stage_of(stage, version_of(version)),
-        }),
-        Verdict::Fault(refusal) => HostHeld::Refused(refusal),
+    );
+    also(
+        versioned,
+        both(stage == SETTLED, native < version),
+        CONTRADICTION,
+        VERSION,
+    )
+}
+
+fn fields_at(memory: &[u8]) -> Host
+    ensures { λ r. ⌜ r ≡ hostAt (now (memory .entry)) ⌝ }
+{
+    let stage = u16_at(memory, STAGE);
+    let version = u16_at(memory, VERSION);
+    Host {
+        native: version_of(u16_at(memory, NATIVE)),
+        stage: stage_of(stage, version_of(version)),
     }
 }
 
@@ -169,16 +200,6 @@ fn put_host(memory: &mut [u8], host: Host)
     put_u16(memory, NATIVE, number_of(native));
     put_u16(memory, STAGE, stage_number(stage));
     put_u16(memory, VERSION, stage_version(stage));
-}
-
-// Whether a stage can't have the version's number: a closed one has none.
-fn is_wrong_version(stage: u16, version: u16) -> bool
-    ensures { λ r. ⌜ r ≡ wrongVersion stage version ⌝ }
-{
-    if stage == CLOSED {
-        return version != 0;
-    }
-    !is_extension(version)
 }
 
 fn stage_of(stage: u16, version: Version) -> HostStage

@@ -1,19 +1,28 @@
 // The ends of the handshake in memory that the caller lends, 6 bytes a host and 10 a modem. Memory that
-// is too small, or whose numbers are outside their tables, is refused and stays as it was.
+// is too small, or whose numbers no calls can have left, is refused and stays as it was.
 pub mod host;
 pub mod modem;
 
-use protocol::Version;
-use version_info::EXTENSIONS_2_0;
+use version_info::is_extension;
 ghost use mathlib.Core.Path.{_≡_};
-ghost use Rattle.handshake.specs.Versions.{versionOf};
+ghost use mathlib.Core.Bool.{_&&_};
+ghost use Rattle.lent_ends.specs.Stages.{strayVersion};
 
-// The version of a number that was judged.
-fn version_of(number: u16) -> Version
-    ensures { λ r. ⌜ r ≡ versionOf number ⌝ }
+// Whether a stage can't have the number for its version: one with no version has 0.
+fn is_stray_version(versioned: bool, number: u16) -> bool
+    ensures { λ r. ⌜ r ≡ strayVersion versioned number ⌝ }
 {
-    if number == EXTENSIONS_2_0 {
-        return Version::V2;
+    if versioned {
+        return !is_extension(number);
     }
-    Version::V1
+    number != 0
+}
+
+fn both(a: bool, b: bool) -> bool
+    ensures { λ r. ⌜ r ≡ (a && b) ⌝ }
+{
+    if a {
+        return b;
+    }
+    false
 }

@@ -1,6 +1,7 @@
 // The modem's end in 10 bytes: its native and its advertised version, whether it lists VERSION, its
 // stage and the version that it settled on, 16 bits each.
-use crate::version_of;
+use crate::both;
+use crate::is_stray_version;
 use handshake::modem::Modem;
 use handshake::modem::ModemAnswer;
 use handshake::modem::ModemMade;
@@ -8,14 +9,15 @@ use handshake::modem::ModemStage;
 use handshake::modem::ModemStep;
 use handshake::modem::settled_number;
 use handshake::number_of;
+use handshake::version_of;
 use message::MessageHeader;
 use protocol::CONTRADICTION;
 use protocol::OUTPUT_TOO_SMALL;
-use protocol::OUTSIDE_TABLE;
 use protocol::Refusal;
 use protocol::Verdict;
 use protocol::Version;
 use protocol::also;
+use version_info::EXTENSIONS_2_0;
 use version_info::is_extension;
 use wire::put_u16;
 use wire::u16_at;
@@ -23,8 +25,9 @@ ghost use mathlib.Core.Path.{_≡_};
 ghost use mathlib.Core.Bool.{not};
 ghost use lib.Dec.{eqb};
 ghost use lib.Seq.{sets};
-ghost use Rattle.protocol.specs.Verdict.{judge};
-ghost use Rattle.lent_ends.specs.LentModem.{modemSize, stageOf, stageNumber, wrongVersion, flagNumber, modemRules, modemAt, modemIn, modemBytes, makeIn, restartIn, receiveIn};
+ghost use Rattle.wire.specs.Numbers.{u16At};
+ghost use Rattle.protocol.specs.Verdict.{judge, judgeFrom};
+ghost use Rattle.lent_ends.specs.LentModem.{modemSize, stageOf, stageNumber, flagNumber, stageRules, modemRules, modemAt, modemIn, modemBytes, makeIn, restartIn, receiveIn};
 ghost use Rattle.lent.specs.Stored.{stored};
 
 // How many bytes a modem's end takes.
@@ -170,35 +173,58 @@ fn put_modem(memory: &mut [u8], modem: Modem)
     put_u16(memory, VERSION, settled_number(stage));
 }
 
+// The verdict on what calls can have left.
 fn judge_modem(memory: &[u8]) -> Verdict
     ensures { λ r. ⌜ r ≡ judge (modemRules (now (memory .entry))) ⌝ }
 {
     let native = u16_at(memory, NATIVE);
     let advertised = u16_at(memory, ADVERTISED);
-    let stage = u16_at(memory, STAGE);
-    let version = u16_at(memory, VERSION);
+    let listed = u16_at(memory, LISTS_VERSION);
     let room = also(
         Verdict::Fits,
         memory.len() < MODEM_SIZE,
         OUTPUT_TOO_SMALL,
         MODEM_SIZE,
     );
-    let known = also(room, !is_extension(native), OUTSIDE_TABLE, NATIVE);
-    let offered = also(known, !is_extension(advertised), OUTSIDE_TABLE, ADVERTISED);
-    let flagged = also(
-        offered,
-        1 < u16_at(memory, LISTS_VERSION),
-        OUTSIDE_TABLE,
-        LISTS_VERSION,
-    );
-    let staged = also(flagged, SETTLED < stage, OUTSIDE_TABLE, STAGE);
+    let known = also(room, !is_extension(native), CONTRADICTION, NATIVE);
+    let offered = also(known, !is_extension(advertised), CONTRADICTION, ADVERTISED);
+    let below = also(offered, native < advertised, CONTRADICTION, ADVERTISED);
+    let flagged = also(below, 1 < listed, CONTRADICTION, LISTS_VERSION);
+    judge_stage(flagged, memory, native, advertised, listed)
+}
+
+// The verdict so far, and then the stage with the version that the end settled on.
+fn judge_stage(
+    verdict: Verdict,
+    memory: &[u8],
+    native: u16,
+    advertised: u16,
+    listed: u16,
+) -> Verdict
+    ensures { λ r. ⌜ r ≡ judgeFrom verdict (stageRules native advertised listed (u16At (now (memory .entry)) 6) (u16At (now (memory .entry)) 8)) ⌝ }
+{
+    let stage = u16_at(memory, STAGE);
+    let version = u16_at(memory, VERSION);
+    let staged = also(verdict, SETTLED < stage, CONTRADICTION, STAGE);
     let versioned = also(
         staged,
-        is_wrong_version(stage, version),
-        OUTSIDE_TABLE,
+        is_stray_version(stage == SETTLED, version),
+        CONTRADICTION,
         VERSION,
     );
-    also(versioned, native < advertised, CONTRADICTION, ADVERTISED)
+    let within = also(versioned, native < version, CONTRADICTION, VERSION);
+    let offered = also(
+        within,
+        both(stage == SETTLED, version < advertised),
+        CONTRADICTION,
+        VERSION,
+    );
+    also(
+        offered,
+        both(listed == 0, version == EXTENSIONS_2_0),
+        CONTRADICTION,
+        VERSION,
+    )
 }
 
 fn fields_at(memory: &[u8]) -> Modem
@@ -221,16 +247,6 @@ fn flag_number(flag: bool) -> u16
         return 1;
     }
     0
-}
-
-// Whether a stage can't have the version's number: only a settled one has any.
-fn is_wrong_version(stage: u16, version: u16) -> bool
-    ensures { λ r. ⌜ r ≡ wrongVersion stage version ⌝ }
-{
-    if stage == SETTLED {
-        return !is_extension(version);
-    }
-    version != 0
 }
 
 fn stage_of(stage: u16, version: Version) -> ModemStage

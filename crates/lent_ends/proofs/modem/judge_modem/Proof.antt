@@ -1,4 +1,4 @@
--- The rules in their order.
+-- The rules in their order, the stage's last.
 use borrow.Author.Needs.{needs}
 use Rattle.protocol.specs.Verdict.{judgeFrom}
 use Rattle.lent_ends.proofs.modem.judge_modem.Statement.{statement}
@@ -6,7 +6,7 @@ use Rattle.lent_ends.proofs.modem.judge_modem.Tie as tie
 
 returns : tie.Need-returns
 unfolding judgeFrom
-returns c = rw (← c .before .before .before .before .before .before .before .before .before .before .before .before .before .before .u16-at .ensures, ← c .before .before .before .before .before .before .before .before .before .before .before .before .before .u16-at2 .ensures, ← c .before .before .before .before .before .before .before .before .before .before .before .before .u16-at3 .ensures, ← c .before .before .before .before .before .before .before .before .before .before .before .u16-at4 .ensures, ← c .before .before .before .before .before .before .before .before .before .before .also .ensures, ← c .before .before .before .before .before .before .before .before .before .is-extension .ensures, ← c .before .before .before .before .before .before .before .before .also2 .ensures, ← c .before .before .before .before .before .before .before .is-extension2 .ensures, ← c .before .before .before .before .before .before .also3 .ensures, ← c .before .before .before .before .before .u16-at5 .ensures, ← c .before .before .before .before .also4 .ensures, ← c .before .before .before .also5 .ensures, ← c .before .before .is-wrong-version .ensures, ← c .before .also6 .ensures, ← c .also7 .ensures)
+returns c = rw (← c .before .before .before .before .before .before .before .before .before .before .u16-at .ensures, ← c .before .before .before .before .before .before .before .before .before .u16-at2 .ensures, ← c .before .before .before .before .before .before .before .before .u16-at3 .ensures, ← c .before .before .before .before .before .before .before .also .ensures, ← c .before .before .before .before .before .before .is-extension .ensures, ← c .before .before .before .before .before .also2 .ensures, ← c .before .before .before .before .is-extension2 .ensures, ← c .before .before .before .also3 .ensures, ← c .before .before .also4 .ensures, ← c .before .also5 .ensures, ← c .judge-stage .ensures)
 
 pub judge-modem-spec : {M : Type 1} → statement M
-judge-modem-spec = tie.close (tie.spec (λ c. search needs) (λ c. search needs) (λ c. search needs) (λ c. search needs) (λ c. search needs) (λ c. search needs) (λ c. search needs) (λ c. search needs) (λ c. search needs) (λ c. search needs) (λ c. search needs) (λ c. search needs) (λ c. search needs) (λ c. search needs) (λ c. search needs) returns)
+judge-modem-spec = tie.close (tie.spec (λ c. search needs) (λ c. search needs) (λ c. search needs) (λ c. search needs) (λ c. search needs) (λ c. search needs) (λ c. search needs) (λ c. search needs) (λ c. search needs) (λ c. search needs) (λ c. search needs) returns)

@@ -1,32 +1,24 @@
 -- When lent memory holds an assembly (document 01: "each feed gets the assembly .. as the one before left it, changed by nothing else").
--- In this order: numbers of 32 bits; the memory that holds an assembly; a run in memory, and what is claimed of it.
-use Prim.Native.Nat.{ℕ, _≤_, _<_, _^_}
+-- In this order: the memory that holds an assembly; a run in memory, and what is claimed of it.
+use Prim.Native.Nat.{ℕ, _≤_}
 use mathlib.Core.Path.{_≡_}
 use mathlib.Core.List.{List, [], _∷_}
-use lib.ListN.{length, getD}
+use lib.ListN.{length}
 use Rattle.protocol.specs.declared.Verdict.the-variants.{Fits}
 use Rattle.assembler.specs.Assembly.{empty}
 use Rattle.assembler.specs.Run.{Piece}
 use Rattle.assembler.specs.Door.{Seen, receiveAll}
 use Rattle.assembler.specs.declared.Progress.{Progress}
 use Rattle.assembler.specs.declared.Assembly.{Assembly}
 use Rattle.lent.specs.LentAssembly.{assemblySize, progressIn, bufferIn, progressVerdict, emptied, Receiving, receiveIn}
+use Rattle.lent_claims.specs.Given.{Each32, Bytes}
 
--- ---- numbers of 32 bits
-
+-- the numbers of an assembly
 abbrev pub wordsOf : Progress → List ℕ
 wordsOf p =
     p .message .«message_type» ∷ p .message .transaction
     ∷ p .message .service .word0 ∷ p .message .service .word1 ∷ p .message .service .word2 ∷ p .message .service .word3
     ∷ p .message .cid ∷ p .message .word ∷ p .total ∷ p .next ∷ p .«information_length» ∷ p .gathered ∷ []
-
-abbrev pub Each32 : List ℕ → Type 0
-Each32 [] = Unit
-Each32 (x ∷ xs) = (x < 2 ^ 32) × Each32 xs
-
--- a list of bytes
-abbrev pub Bytes : List ℕ → Type 0
-Bytes s = (i : ℕ) → getD s i 0 < 256
 
 -- ---- the memory m holds the assembly a, one that the next call takes
 

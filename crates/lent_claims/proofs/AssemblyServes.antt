@@ -25,9 +25,10 @@ use Rattle.assembler.specs.Door.{wholeShown, fedShown, Receiving as DoorReceivi
 use Rattle.assembler.specs.declared.Progress.{Progress}
 use Rattle.assembler.specs.declared.Assembly.{Assembly}
 use Rattle.assembler.proofs.Left.{Waits, begun, joined, Left, nothing, pending, left, left-whole}
 use Rattle.lent.specs.LentAssembly.{assemblySize, messageIn, progressIn, bufferIn, messageBytes, countBytes, progressBytes, held, isNone, pendingRules, progressVerdict, cleared, emptied, Feeding, kept, keptOf, feedIn, untouched, fedIn, receiveIn}
-use Rattle.lent.specs.Holding.{wordsOf, Each32, Bytes, Holds, runIn, AllBytes, MemoryServes}
+use Rattle.lent_claims.specs.Given.{Each32, Bytes, messageWords}
+use Rattle.lent_claims.specs.AssemblyMemory.{wordsOf, Holds, runIn, AllBytes, MemoryServes}
 use Rattle.lent.proofs.Memory.{length-progress, length-buffer}
 
 -- ---- words one after another
 
@@ -112,7 +113,7 @@ left-fits a s p (pending w from) = waits-fits p w
 
 -- ---- its numbers are of 32 bits
 
-word-small : (s : List ℕ) (at : ℕ) → Bytes s → num 4 s at < 2 ^ 32
+pub word-small : (s : List ℕ) (at : ℕ) → Bytes s → num 4 s at < 2 ^ 32
 word-small s at b = omega (arith, b at, b (suc at), b (suc (suc at)), b (suc (suc (suc at))))
 
 own-word-small : (t : ℕ) (s : List ℕ) → Bytes s → wordAt t s < 2 ^ 32
@@ -122,10 +123,6 @@ own-word-small t s b = go (eqb t INDICATE-STATUS)
     go : (i : Bool) → cond i 0 (u32At s 40) < 2 ^ 32
     go true = omega arith
     go false = word-small s 40 b
-
-abbrev messageWords : MessageHeader → List ℕ
-messageWords h =
-    h .«message_type» ∷ h .transaction ∷ h .service .word0 ∷ h .service .word1 ∷ h .service .word2 ∷ h .service .word3 ∷ h .cid ∷ h .word ∷ []
 
 message-small : (s : List ℕ) → Bytes s → Each32 (messageWords (messageAt s))
 unfolding messageAt idAt u32At

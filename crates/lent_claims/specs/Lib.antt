@@ -1,0 +1,5 @@
+pub mod Given
+pub mod Turns
+pub mod AssemblyMemory
+pub mod HostMemory
+pub mod ModemMemory
