@@ -5,6 +5,7 @@ use crate::inputs;
 use crate::measure::{growth, keep, Mode, Size};
 use crate::rows::all_elements;
 use culvertroost::c;
+use second::message::COMMAND;
 use std::hint::black_box;
 
 /// An input with so many elements or fragments.
@@ -72,9 +73,10 @@ fn lists(mode: Mode) {
 /// Messages that fill their fragments of 64 bytes: 16 bytes in the first, 44 in each other.
 fn messages(mode: Mode) {
     let messages = sized(&[1, 8, 32, 92], |count| vec![5; 16 + 44 * (count - 1)]);
+    let message = inputs::message(COMMAND);
     rows(mode, "cut at 64", "fragments", &messages, |information, _| {
         let mut out = [0u8; 8192];
-        move || keep(c::message_cut(inputs::header(), 64, black_box(information), &mut out))
+        move || keep(c::message_cut(message, 64, black_box(information), &mut out))
     });
     rows(mode, "receive at 64, all", "fragments", &messages, |information, _| {
         let pieces = inputs::cut(64, information);

@@ -3,6 +3,8 @@
 
 use crate::plain;
 use culvertroost::c;
+use second::message::Header;
+use second::payload::{BASIC_CONNECT, CID_DEVICE_SERVICES};
 use second::registration::Registration;
 use second::signal_state::RsrpSnr;
 
@@ -31,13 +33,21 @@ pub fn entries(count: usize) -> Vec<RsrpSnr> {
     vec![entry; count]
 }
 
-pub fn header() -> c::MessageHeader {
+/// The header of a query of the services list, or of a reply with status 0.
+pub fn header(message_type: u32) -> Header {
+    let (service, cid) = (BASIC_CONNECT, CID_DEVICE_SERVICES);
+    Header { message_type, transaction: 1, service, cid, word: 0 }
+}
+
+/// The same, as the library takes it.
+pub fn message(message_type: u32) -> c::MessageHeader {
+    let header = header(message_type);
     c::MessageHeader {
-        message_type: 3,
-        transaction: 1,
-        service: c::service_id(&[7; 16]),
-        cid: 16,
-        word: 0,
+        message_type,
+        transaction: header.transaction,
+        service: c::service_id(&header.service),
+        cid: header.cid,
+        word: header.word,
     }
 }
 

@@ -1,10 +1,12 @@
 //! The second program's side: each call gives what the library's gives, as a value of its own, and
 //! none is inlined into the loop that measures it.
 
+use crate::inputs;
 use second::assembler::Assembler;
 use second::device_services::{self, Element, Shown};
 use second::door::{self, Received};
-use second::message::Header;
+use second::handshake::{CommandAnswer, Host, Modem, ReplyAnswer};
+use second::message::{Header, COMMAND};
 use second::packet_service::{self, PacketService};
 use second::refusal::Refusal;
 use second::registration::{self, Range, Registration};
@@ -148,6 +150,15 @@ pub fn receive(
 
 #[inline(never)]
 pub fn cut(size: usize, information: &[u8], out: &mut [u8]) -> Result<(u32, usize), Refusal> {
-    let header = Header { message_type: 3, transaction: 1, service: [7; 16], cid: 16, word: 0 };
-    cutter::cut(&header, size, information, out)
+    cutter::cut(&inputs::header(COMMAND), size, information, out)
+}
+
+#[inline(never)]
+pub fn host_receive(host: &mut Host, header: &Header, information: &[u8]) -> ReplyAnswer {
+    host.receive(header, information)
+}
+
+#[inline(never)]
+pub fn modem_receive(modem: &mut Modem, header: &Header, out: &mut [u8]) -> CommandAnswer {
+    modem.receive(header, &[], out)
 }

@@ -5,6 +5,8 @@ use crate::inputs::{self, Inputs, TRANSFERS};
 use crate::measure::{keep, Mode, Row};
 use crate::plain;
 use culvertroost::c;
+use second::handshake::{Host, Modem};
+use second::message::{COMMAND, COMMAND_DONE};
 use std::hint::black_box;
 
 /// One thing a call.
@@ -102,19 +104,12 @@ fn signal_state(mode: Mode, inputs: &Inputs) {
     );
 }
 
-/// All elements of a list of so many, each with its CIDs: one call for each element.
-pub fn all_elements(payload: &[u8], count: usize, cids: &mut [u32]) {
-    for number in 0..count as u32 {
-        keep(c::device_services_element(black_box(payload), number, cids));
-    }
-}
-
 fn device_services(mode: Mode, inputs: &Inputs) {
     let payload = &inputs.services[..];
     let list = inputs::service_list();
     let id = inputs.last_service;
+    let service = c::service_id(&id);
     let (mut out, mut other) = ([0u8; 4096], [0u8; 4096]);
-    let (mut cids, mut more) = ([0; c::MOST_CIDS], [0; c::MOST_CIDS]);
     row(
         mode,
         "services read, 8 of 8 CIDs",
@@ -126,29 +121,8 @@ fn device_services(mode: Mode, inputs: &Inputs) {
         mode,
         "is a CID listed, the last of all",
         payload,
-        &mut || keep(c::device_services_listed(black_box(payload), c::service_id(&id), 8)),
+        &mut || keep(c::device_services_listed(black_box(payload), service, 8)),
         &mut || keep(plain::listed(black_box(payload), &id, 8)),
-    );
-    row(
-        mode,
-        "an element, the last of 8",
-        payload,
-        &mut || keep(c::device_services_element(black_box(payload), 7, &mut cids)),
-        &mut || keep(plain::element(black_box(payload), 7, &mut more)),
-    );
-    row(
-        mode,
-        "CIDs of a service, the last of 8",
-        payload,
-        &mut || keep(c::device_services_cids(black_box(payload), c::service_id(&id), &mut cids)),
-        &mut || keep(plain::cids_of(black_box(payload), &id, &mut more)),
-    );
-    row(
-        mode,
-        "all elements, 8 of 8 CIDs",
-        payload,
-        &mut || all_elements(payload, 8, &mut cids),
-        &mut || plain::all_elements(black_box(payload), 8, &mut more),
     );
     row(
         mode,
@@ -156,6 +130,41 @@ fn device_services(mode: Mode, inputs: &Inputs) {
         payload,
         &mut || keep(c::device_services_write(black_box(list), &mut out)),
         &mut || keep(plain::services_write(black_box(8), &inputs::CIDS, &mut other)),
+    );
+}
+
+/// All elements of a list of so many, each with its CIDs: one call for each element.
+pub fn all_elements(payload: &[u8], count: usize, cids: &mut [u32]) {
+    for number in 0..count as u32 {
+        keep(c::device_services_element(black_box(payload), number, cids));
+    }
+}
+
+fn elements(mode: Mode, inputs: &Inputs) {
+    let payload = &inputs.services[..];
+    let id = inputs.last_service;
+    let service = c::service_id(&id);
+    let (mut cids, mut other) = ([0; c::MOST_CIDS], [0; c::MOST_CIDS]);
+    row(
+        mode,
+        "an element, the last of 8",
+        payload,
+        &mut || keep(c::device_services_element(black_box(payload), 7, &mut cids)),
+        &mut || keep(plain::element(black_box(payload), 7, &mut other)),
+    );
+    row(
+        mode,
+        "CIDs of a service, the last of 8",
+        payload,
+        &mut || keep(c::device_services_cids(black_box(payload), service, &mut cids)),
+        &mut || keep(plain::cids_of(black_box(payload), &id, &mut other)),
+    );
+    row(
+        mode,
+        "all elements, 8 of 8 CIDs",
+        payload,
+        &mut || all_elements(payload, 8, &mut cids),
+        &mut || plain::all_elements(black_box(payload), 8, &mut other),
     );
 }
 
@@ -184,6 +193,7 @@ fn receiving(mode: Mode, inputs: &Inputs) {
 }
 
 fn cutting(mode: Mode, inputs: &Inputs) {
+    let message = inputs::message(COMMAND);
     let (mut stream, mut other) = ([0u8; 8192], [0u8; 8192]);
     for size in TRANSFERS {
         let information = &inputs.information(size)[..];
@@ -191,12 +201,54 @@ fn cutting(mode: Mode, inputs: &Inputs) {
             mode,
             &format!("cut at {size}"),
             information,
-            &mut || {
-                keep(c::message_cut(inputs::header(), size, black_box(information), &mut stream))
-            },
+            &mut || keep(c::message_cut(message, size, black_box(information), &mut stream)),
             &mut || keep(plain::cut(size, black_box(information), &mut other)),
         );
     }
+}
+
+/// The host is opened and takes the reply with the services list.
+fn host(mode: Mode, inputs: &Inputs) {
+    let list = &inputs.services[..];
+    let (reply, header) = (inputs::message(COMMAND_DONE), inputs::header(COMMAND_DONE));
+    let mut host = [0u8; c::HOST_SIZE];
+    assert_eq!(c::host_make(&mut host, 0x0200).number, 0);
+    let mut other = Host::make(0x0200).expect("a version");
+    row(
+        mode,
+        "host opened, takes a list",
+        list,
+        &mut || {
+            keep(c::host_open(&mut host, 0x0100));
+            keep(c::host_receive(&mut host, black_box(reply), black_box(list)))
+        },
+        &mut || {
+            keep(other.open(0x0100));
+            keep(plain::host_receive(&mut other, black_box(&header), black_box(list)))
+        },
+    );
+}
+
+/// The modem is opened and takes the query of that list.
+fn modem(mode: Mode, inputs: &Inputs) {
+    let list = &inputs.services[..];
+    let (query, header) = (inputs::message(COMMAND), inputs::header(COMMAND));
+    let mut modem = [0u8; c::MODEM_SIZE];
+    assert_eq!(c::modem_make(&mut modem, 0x0200, 0x0100, list).number, 0);
+    let mut other = Modem::make(0x0200, 0x0100, list).expect("versions and a list");
+    row(
+        mode,
+        "modem opened, takes a query",
+        &[],
+        &mut || {
+            keep(c::modem_open(&mut modem));
+            keep(c::modem_receive(&mut modem, black_box(query), &[], &mut []))
+        },
+        &mut || {
+            other.open();
+            keep(plain::modem_receive(&mut other, black_box(&header), &mut []))
+        },
+    );
 }
 
 pub fn run(mode: Mode, inputs: &Inputs) {
@@ -205,6 +257,9 @@ pub fn run(mode: Mode, inputs: &Inputs) {
     registration(mode, inputs);
     signal_state(mode, inputs);
     device_services(mode, inputs);
+    elements(mode, inputs);
     receiving(mode, inputs);
     cutting(mode, inputs);
+    host(mode, inputs);
+    modem(mode, inputs);
 }
