@@ -3,8 +3,8 @@
 //! No buffer is cleared between calls; what the library itself clears is part of its time. Then how the
 //! library's time grows with its input.
 //!
-//! `bench calls COUNT` measures nothing: it makes so many calls of each row of both tables, for
-//! `bench/instructions`.
+//! `bench calls COUNT [ROW]` measures nothing: it makes so many calls of each row of both tables, or of
+//! those whose name begins so, for a program that counts: `bench/instructions`, a profiler.
 
 mod growth;
 mod inputs;
@@ -16,18 +16,21 @@ use inputs::Inputs;
 use measure::Mode;
 
 /// What the words of the command ask for.
-fn mode() -> Option<Mode> {
-    let words: Vec<String> = std::env::args().skip(1).collect();
-    match words.iter().map(String::as_str).collect::<Vec<_>>()[..] {
+fn mode<'a>(words: &[&'a str]) -> Option<Mode<'a>> {
+    let calls = |count: &str, of| count.parse().ok().map(|count| Mode::Calls { count, of });
+    match *words {
         [] => Some(Mode::Times),
-        ["calls", count] => count.parse().ok().map(Mode::Calls),
+        ["calls", count] => calls(count, ""),
+        ["calls", count, row] => calls(count, row),
         _ => None,
     }
 }
 
 fn main() {
-    let Some(mode) = mode() else {
-        eprintln!("usage: bench [calls COUNT]");
+    let words: Vec<String> = std::env::args().skip(1).collect();
+    let words: Vec<&str> = words.iter().map(String::as_str).collect();
+    let Some(mode) = mode(&words) else {
+        eprintln!("usage: bench [calls COUNT [ROW]]");
         std::process::exit(2);
     };
     let heads = matches!(mode, Mode::Times);

@@ -10,11 +10,11 @@ const CALLS: usize = 4000;
 
 /// What the program was asked for.
 #[derive(Clone, Copy)]
-pub enum Mode {
+pub enum Mode<'a> {
     /// Tables of nanoseconds.
     Times,
-    /// So many calls of each row, whose names are printed.
-    Calls(usize),
+    /// So many calls of each row whose name begins so; their names are printed.
+    Calls { count: usize, of: &'a str },
 }
 
 /// Nanoseconds of one call, the least of the rounds so far.
@@ -53,10 +53,16 @@ pub fn bench_calls(count: usize, call: &mut dyn FnMut()) {
     }
 }
 
-/// A row's calls, and how many things they did, before its name.
-fn count(name: &str, count: usize, units: usize, call: &mut dyn FnMut()) {
-    bench_calls(count, call);
-    println!("{} {name}", count * units);
+impl Mode<'_> {
+    /// The row's calls, if these are asked for, and how many things they did, before its name.
+    fn calls(&self, name: &str, units: usize, call: &mut dyn FnMut()) {
+        if let Mode::Calls { count, of } = *self {
+            if name.starts_with(of) {
+                bench_calls(count, call);
+                println!("{} {name}", count * units);
+            }
+        }
+    }
 }
 
 /// Two calls that give the same, and what one of them does.
@@ -73,7 +79,7 @@ impl Row<'_> {
     pub fn run(&self, mode: Mode, library: &mut dyn FnMut(), second: &mut dyn FnMut()) {
         match mode {
             Mode::Times => self.times(library, second),
-            Mode::Calls(calls) => count(self.name, calls, self.units, library),
+            Mode::Calls { .. } => mode.calls(self.name, self.units, library),
         }
     }
 
@@ -107,9 +113,9 @@ pub struct Size<'a> {
 
 /// One call on sizes that grow, which take turns: its time, for one, and for each more than before.
 pub fn growth(mode: Mode, name: &str, of: &str, mut sizes: Vec<Size>) {
-    if let Mode::Calls(calls) = mode {
+    if let Mode::Calls { .. } = mode {
         for size in &mut sizes {
-            count(&format!("{name}, {} {of}", size.count), calls, 1, &mut size.call);
+            mode.calls(&format!("{name}, {} {of}", size.count), 1, &mut size.call);
         }
         return;
     }
