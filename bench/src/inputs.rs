@@ -3,11 +3,15 @@
 
 use crate::plain;
 use culvertroost::c;
+use second::message::Header;
+use second::payload::{BASIC_CONNECT, CID_DEVICE_SERVICES};
 use second::registration::Registration;
 use second::signal_state::RsrpSnr;
 
 /// Transfer sizes.
 pub const TRANSFERS: [usize; 3] = [64, 512, 4096];
+/// The CIDs of each element.
+pub const CIDS: [u32; 8] = [1, 2, 3, 4, 5, 6, 7, 8];
 
 pub struct Inputs {
     pub version: Vec<u8>,
@@ -22,23 +26,28 @@ fn words(numbers: &[u32]) -> Vec<u8> {
     numbers.iter().flat_map(|number| number.to_le_bytes()).collect()
 }
 
-/// 16 entries with known readings.
-pub fn entries() -> [RsrpSnr; 16] {
-    [RsrpSnr { rsrp: 60, snr: 50, rsrp_threshold: 0, snr_threshold: 0, system_type: 0x20 }; 16]
+/// Entries with known readings.
+pub fn entries(count: usize) -> Vec<RsrpSnr> {
+    let entry =
+        RsrpSnr { rsrp: 60, snr: 50, rsrp_threshold: 0, snr_threshold: 0, system_type: 0x20 };
+    vec![entry; count]
 }
 
-/// The CIDs of each element.
-pub fn cids() -> [u32; 8] {
-    [1, 2, 3, 4, 5, 6, 7, 8]
+/// The header of a query of the services list, or of a reply with status 0.
+pub fn header(message_type: u32) -> Header {
+    let (service, cid) = (BASIC_CONNECT, CID_DEVICE_SERVICES);
+    Header { message_type, transaction: 1, service, cid, word: 0 }
 }
 
-pub fn header() -> c::MessageHeader {
+/// The same, as the library takes it.
+pub fn message(message_type: u32) -> c::MessageHeader {
+    let header = header(message_type);
     c::MessageHeader {
-        message_type: 3,
-        transaction: 1,
-        service: c::service_id(&[7; 16]),
-        cid: 16,
-        word: 0,
+        message_type,
+        transaction: header.transaction,
+        service: c::service_id(&header.service),
+        cid: header.cid,
+        word: header.word,
     }
 }
 
@@ -50,14 +59,43 @@ fn written(write: impl Fn(&mut [u8]) -> Result<usize, second::refusal::Refusal>)
     out
 }
 
+/// A registration with the first of its three texts.
+pub fn registration(texts: usize) -> Vec<u8> {
+    let mut record = registration_record();
+    if texts < 3 {
+        record.roaming_text = &[];
+    }
+    if texts < 2 {
+        record.provider_name = &[];
+    }
+    written(|out| plain::registration_write(&record, out))
+}
+
+pub fn signal(count: usize) -> Vec<u8> {
+    written(|out| plain::signal_write(&entries(count), out))
+}
+
+/// A list in which element `n`, from 1, has the service whose bytes are all `n`.
+pub fn services(count: usize, cids: &[u32]) -> Vec<u8> {
+    written(|out| plain::services_write(count, cids, out))
+}
+
+/// The fragments of a message, as the second program cuts it.
+pub fn cut(size: usize, information: &[u8]) -> Vec<Vec<u8>> {
+    let mut stream = vec![0u8; 8192];
+    let (_, length) =
+        plain::cut(size, information, &mut stream).expect("a message within the limits");
+    stream[..length].chunks(size).map(<[u8]>::to_vec).collect()
+}
+
 impl Inputs {
     pub fn new() -> Inputs {
         let inputs = Inputs {
             version: vec![0, 1, 0, 2],
             packet: words(&[0, 2, 0x40, 50_000_000, 0, 150_000_000, 0, 1]),
-            registration: written(|out| plain::registration_write(&registration_record(), out)),
-            signal: written(|out| plain::signal_write(&entries(), out)),
-            services: written(|out| plain::services_write(&cids(), out)),
+            registration: registration(3),
+            signal: signal(16),
+            services: services(8, &CIDS),
             last_service: [8; 16],
         };
         inputs.check();
@@ -79,12 +117,9 @@ impl Inputs {
         vec![5; if size == TRANSFERS[2] { 4048 } else { 4000 }]
     }
 
-    /// The fragments of a message, as the second program cuts it.
+    /// Its fragments.
     pub fn pieces(&self, size: usize) -> Vec<Vec<u8>> {
-        let mut stream = vec![0u8; 8192];
-        let (_, length) = plain::cut(size, &self.information(size), &mut stream)
-            .expect("a message within the limits");
-        stream[..length].chunks(size).map(<[u8]>::to_vec).collect()
+        cut(size, &self.information(size))
     }
 }
 
@@ -113,7 +148,7 @@ pub fn service_list() -> c::ServiceList {
         cid_count: 8,
     };
     let mut all = [0; c::MOST_CIDS];
-    all[..8].copy_from_slice(&cids());
+    all[..8].copy_from_slice(&CIDS);
     let mut number = 0;
     let elements = [(); c::MOST_SERVICES].map(|()| {
         number += 1;

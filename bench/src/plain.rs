@@ -1,16 +1,19 @@
 //! The second program's side: each call gives what the library's gives, as a value of its own, and
 //! none is inlined into the loop that measures it.
 
+use crate::inputs;
 use second::assembler::Assembler;
-use second::device_services::{self, Element};
+use second::device_services::{self, Element, Shown};
 use second::door::{self, Received};
-use second::message::Header;
+use second::handshake::{CommandAnswer, Host, Modem, ReplyAnswer};
+use second::message::{Header, COMMAND};
 use second::packet_service::{self, PacketService};
 use second::refusal::Refusal;
 use second::registration::{self, Range, Registration};
 use second::signal_state::{self, RsrpSnr, SignalState};
 use second::version::Version;
 use second::{cutter, version_info};
+use std::hint::black_box;
 
 /// A loop that only copies.
 #[inline(never)]
@@ -103,16 +106,37 @@ pub fn listed(payload: &[u8], service: &[u8; 16], cid: u32) -> Result<bool, Refu
     device_services::listed(payload, service, cid)
 }
 
-/// A list of 8 elements with the same CIDs.
 #[inline(never)]
-pub fn services_write(cids: &[u32], out: &mut [u8]) -> Result<usize, Refusal> {
-    let element = |number| Element {
-        device_service_id: [number; 16],
-        dss_payload: 0,
-        max_dss_instances: 0,
-        cids,
-    };
-    device_services::write(0, &[1, 2, 3, 4, 5, 6, 7, 8].map(element), out)
+pub fn element(payload: &[u8], number: u32, cids: &mut [u32]) -> Result<Option<Shown>, Refusal> {
+    device_services::element(payload, number, cids)
+}
+
+#[inline(never)]
+pub fn cids_of(
+    payload: &[u8],
+    service: &[u8; 16],
+    cids: &mut [u32],
+) -> Result<Option<Shown>, Refusal> {
+    device_services::first_of_service(payload, service, cids)
+}
+
+/// All elements of a list of so many, each with its CIDs: one call for each element.
+#[inline(never)]
+pub fn all_elements(payload: &[u8], count: usize, cids: &mut [u32]) {
+    for number in 0..count as u32 {
+        let _ = black_box(element(payload, number, cids));
+    }
+}
+
+/// A list of so many elements, at most 32, with the same CIDs.
+#[inline(never)]
+pub fn services_write(count: usize, cids: &[u32], out: &mut [u8]) -> Result<usize, Refusal> {
+    let mut number = 0;
+    let elements = [(); 32].map(|()| {
+        number += 1;
+        Element { device_service_id: [number; 16], dss_payload: 0, max_dss_instances: 0, cids }
+    });
+    device_services::write(0, &elements[..count], out)
 }
 
 #[inline(never)]
@@ -126,6 +150,15 @@ pub fn receive(
 
 #[inline(never)]
 pub fn cut(size: usize, information: &[u8], out: &mut [u8]) -> Result<(u32, usize), Refusal> {
-    let header = Header { message_type: 3, transaction: 1, service: [7; 16], cid: 16, word: 0 };
-    cutter::cut(&header, size, information, out)
+    cutter::cut(&inputs::header(COMMAND), size, information, out)
+}
+
+#[inline(never)]
+pub fn host_receive(host: &mut Host, header: &Header, information: &[u8]) -> ReplyAnswer {
+    host.receive(header, information)
+}
+
+#[inline(never)]
+pub fn modem_receive(modem: &mut Modem, header: &Header, out: &mut [u8]) -> CommandAnswer {
+    modem.receive(header, &[], out)
 }
