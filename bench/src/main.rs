@@ -79,7 +79,7 @@ fn version(inputs: &Inputs) {
         "VERSION write",
         payload.len(),
         1,
-        &mut || keep(c::version_info_write(black_box(info), &mut out)),
+        &mut || keep(c::version_info_write(*black_box(&info), &mut out)),
         &mut || keep(plain::version_write(black_box(0x0100), black_box(0x0200), &mut other)),
     );
 }
@@ -100,7 +100,7 @@ fn packet_service(inputs: &Inputs) {
         "packet service write, 2.00",
         payload.len(),
         1,
-        &mut || keep(c::packet_service_write(black_box(info), &mut out)),
+        &mut || keep(c::packet_service_write(*black_box(&info), &mut out)),
         &mut || keep(plain::packet_write(black_box(&record), &mut other)),
     );
 }
@@ -122,7 +122,7 @@ fn registration(inputs: &Inputs) {
         "registration write, 2.00",
         payload.len(),
         1,
-        &mut || keep(c::registration_write(black_box(info), id, name, roaming, &mut out)),
+        &mut || keep(c::registration_write(*black_box(&info), id, name, roaming, &mut out)),
         &mut || keep(plain::registration_write(black_box(&record), &mut other)),
     );
 }
@@ -143,7 +143,7 @@ fn signal_state(inputs: &Inputs) {
         "signal write, 2.00, 16 entries",
         payload.len(),
         1,
-        &mut || keep(c::signal_state_write(black_box(info), &mut out)),
+        &mut || keep(c::signal_state_write(*black_box(&info), &mut out)),
         &mut || keep(plain::signal_write(black_box(&entries), &mut other)),
     );
 }
@@ -172,7 +172,7 @@ fn device_services(inputs: &Inputs) {
         "services write, 8 of 8 CIDs",
         payload.len(),
         1,
-        &mut || keep(c::device_services_write(black_box(list), &mut out)),
+        &mut || keep(c::device_services_write(*black_box(&list), &mut out)),
         &mut || keep(plain::services_write(black_box(&cids), &mut other)),
     );
 }
