@@ -35,7 +35,7 @@ fn version(mode: Mode, inputs: &Inputs) {
         mode,
         "VERSION write",
         payload,
-        &mut || keep(c::version_info_write(black_box(info), &mut out)),
+        &mut || keep(c::version_info_write(*black_box(&info), &mut out)),
         &mut || keep(plain::version_write(black_box(0x0100), black_box(0x0200), &mut other)),
     );
 }
@@ -56,7 +56,7 @@ fn packet_service(mode: Mode, inputs: &Inputs) {
         mode,
         "packet service write, 2.00",
         payload,
-        &mut || keep(c::packet_service_write(black_box(info), &mut out)),
+        &mut || keep(c::packet_service_write(*black_box(&info), &mut out)),
         &mut || keep(plain::packet_write(black_box(&record), &mut other)),
     );
 }
@@ -78,7 +78,7 @@ fn registration(mode: Mode, inputs: &Inputs) {
         mode,
         "registration write, 2.00",
         payload,
-        &mut || keep(c::registration_write(black_box(info), id, name, roaming, &mut out)),
+        &mut || keep(c::registration_write(*black_box(&info), id, name, roaming, &mut out)),
         &mut || keep(plain::registration_write(black_box(&record), &mut other)),
     );
 }
@@ -99,7 +99,7 @@ fn signal_state(mode: Mode, inputs: &Inputs) {
         mode,
         "signal write, 2.00, 16 entries",
         payload,
-        &mut || keep(c::signal_state_write(black_box(info), &mut out)),
+        &mut || keep(c::signal_state_write(*black_box(&info), &mut out)),
         &mut || keep(plain::signal_write(black_box(&entries), &mut other)),
     );
 }
@@ -128,7 +128,7 @@ fn device_services(mode: Mode, inputs: &Inputs) {
         mode,
         "services write, 8 of 8 CIDs",
         payload,
-        &mut || keep(c::device_services_write(black_box(list), &mut out)),
+        &mut || keep(c::device_services_write(*black_box(&list), &mut out)),
         &mut || keep(plain::services_write(black_box(8), &inputs::CIDS, &mut other)),
     );
 }
@@ -220,11 +220,11 @@ fn host(mode: Mode, inputs: &Inputs) {
         list,
         &mut || {
             keep(c::host_open(&mut host, 0x0100));
-            keep(c::host_receive(&mut host, black_box(reply), black_box(list)))
+            keep(c::host_receive(&mut host, black_box(reply), *black_box(&list)))
         },
         &mut || {
             keep(other.open(0x0100));
-            keep(plain::host_receive(&mut other, black_box(&header), black_box(list)))
+            keep(plain::host_receive(&mut other, black_box(&header), *black_box(&list)))
         },
     );
 }

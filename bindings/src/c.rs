@@ -307,30 +307,37 @@ extern "C" {
     ) -> ModemAnswer;
 }
 
+#[inline]
 pub fn service_id(bytes: &[u8]) -> ServiceId {
     unsafe { cvr_service_id(bytes.as_ptr(), bytes.len()) }
 }
 
+#[inline]
 pub fn version_info_read(payload: &[u8]) -> VersionInfoAnswer {
     unsafe { cvr_version_info_read(payload.as_ptr(), payload.len()) }
 }
 
+#[inline]
 pub fn version_info_write(info: VersionInfo, out: &mut [u8]) -> WrittenAnswer {
     unsafe { cvr_version_info_write(info, out.as_mut_ptr(), out.len()) }
 }
 
+#[inline]
 pub fn packet_service_read(version: u16, payload: &[u8]) -> PacketServiceAnswer {
     unsafe { cvr_packet_service_read(version, payload.as_ptr(), payload.len()) }
 }
 
+#[inline]
 pub fn packet_service_write(info: PacketService, out: &mut [u8]) -> WrittenAnswer {
     unsafe { cvr_packet_service_write(info, out.as_mut_ptr(), out.len()) }
 }
 
+#[inline]
 pub fn registration_read(version: u16, payload: &[u8]) -> RegistrationAnswer {
     unsafe { cvr_registration_read(version, payload.as_ptr(), payload.len()) }
 }
 
+#[inline]
 pub fn registration_write(
     info: Registration,
     provider_id: &[u8],
@@ -353,30 +360,37 @@ pub fn registration_write(
     }
 }
 
+#[inline]
 pub fn signal_state_read(version: u16, payload: &[u8]) -> SignalStateAnswer {
     unsafe { cvr_signal_state_read(version, payload.as_ptr(), payload.len()) }
 }
 
+#[inline]
 pub fn signal_state_write(info: SignalState, out: &mut [u8]) -> WrittenAnswer {
     unsafe { cvr_signal_state_write(info, out.as_mut_ptr(), out.len()) }
 }
 
+#[inline]
 pub fn rsrp(code: u32) -> ReadingAnswer {
     unsafe { cvr_rsrp(code) }
 }
 
+#[inline]
 pub fn snr(code: u32) -> ReadingAnswer {
     unsafe { cvr_snr(code) }
 }
 
+#[inline]
 pub fn bars(rssi: u32) -> BarsAnswer {
     unsafe { cvr_bars(rssi) }
 }
 
+#[inline]
 pub fn device_services_read(payload: &[u8]) -> DeviceServicesAnswer {
     unsafe { cvr_device_services_read(payload.as_ptr(), payload.len()) }
 }
 
+#[inline]
 pub fn device_services_element(payload: &[u8], number: u32, cids: &mut [u32]) -> ElementAnswer {
     unsafe {
         cvr_device_services_element(
@@ -389,6 +403,7 @@ pub fn device_services_element(payload: &[u8], number: u32, cids: &mut [u32]) ->
     }
 }
 
+#[inline]
 pub fn device_services_cids(payload: &[u8], service: ServiceId, cids: &mut [u32]) -> ElementAnswer {
     unsafe {
         cvr_device_services_cids(
@@ -401,18 +416,22 @@ pub fn device_services_cids(payload: &[u8], service: ServiceId, cids: &mut [u32]
     }
 }
 
+#[inline]
 pub fn device_services_listed(payload: &[u8], service: ServiceId, cid: u32) -> ListedAnswer {
     unsafe { cvr_device_services_listed(payload.as_ptr(), payload.len(), service, cid) }
 }
 
+#[inline]
 pub fn device_services_write(list: ServiceList, out: &mut [u8]) -> WrittenAnswer {
     unsafe { cvr_device_services_write(list, out.as_mut_ptr(), out.len()) }
 }
 
+#[inline]
 pub fn message_judge(message: &[u8]) -> WholeAnswer {
     unsafe { cvr_message_judge(message.as_ptr(), message.len()) }
 }
 
+#[inline]
 pub fn message_write(
     message_type: u32,
     transaction: u32,
@@ -422,6 +441,7 @@ pub fn message_write(
     unsafe { cvr_message_write(message_type, transaction, word, out.as_mut_ptr(), out.len()) }
 }
 
+#[inline]
 pub fn message_cut(
     message: MessageHeader,
     size: usize,
@@ -440,18 +460,22 @@ pub fn message_cut(
     }
 }
 
+#[inline]
 pub fn payload_kind(message: MessageHeader) -> KindAnswer {
     unsafe { cvr_payload_kind(message) }
 }
 
+#[inline]
 pub fn transaction_next(transaction: u32) -> u32 {
     unsafe { cvr_transaction_next(transaction) }
 }
 
+#[inline]
 pub fn assembly_empty(memory: &mut [u8]) -> Refusal {
     unsafe { cvr_assembly_empty(memory.as_mut_ptr(), memory.len()) }
 }
 
+#[inline]
 pub fn receive(memory: &mut [u8], piece: &[u8], out: &mut [u8]) -> ReceiveAnswer {
     unsafe {
         cvr_receive(
@@ -465,22 +489,27 @@ pub fn receive(memory: &mut [u8], piece: &[u8], out: &mut [u8]) -> ReceiveAnswer
     }
 }
 
+#[inline]
 pub fn host_make(memory: &mut [u8], native: u16) -> Refusal {
     unsafe { cvr_host_make(memory.as_mut_ptr(), memory.len(), native) }
 }
 
+#[inline]
 pub fn host_open(memory: &mut [u8], advertised: u16) -> HostAnswer {
     unsafe { cvr_host_open(memory.as_mut_ptr(), memory.len(), advertised) }
 }
 
+#[inline]
 pub fn host_close(memory: &mut [u8]) -> HostAnswer {
     unsafe { cvr_host_close(memory.as_mut_ptr(), memory.len()) }
 }
 
+#[inline]
 pub fn host_next_command(memory: &[u8], out: &mut [u8]) -> AskAnswer {
     unsafe { cvr_host_next_command(memory.as_ptr(), memory.len(), out.as_mut_ptr(), out.len()) }
 }
 
+#[inline]
 pub fn host_receive(memory: &mut [u8], message: MessageHeader, information: &[u8]) -> HostAnswer {
     unsafe {
         cvr_host_receive(
@@ -493,6 +522,7 @@ pub fn host_receive(memory: &mut [u8], message: MessageHeader, information: &[u8
     }
 }
 
+#[inline]
 pub fn modem_make(memory: &mut [u8], native: u16, advertised: u16, services: &[u8]) -> Refusal {
     unsafe {
         cvr_modem_make(
@@ -506,14 +536,17 @@ pub fn modem_make(memory: &mut [u8], native: u16, advertised: u16, services: &[u
     }
 }
 
+#[inline]
 pub fn modem_open(memory: &mut [u8]) -> Refusal {
     unsafe { cvr_modem_open(memory.as_mut_ptr(), memory.len()) }
 }
 
+#[inline]
 pub fn modem_close(memory: &mut [u8]) -> Refusal {
     unsafe { cvr_modem_close(memory.as_mut_ptr(), memory.len()) }
 }
 
+#[inline]
 pub fn modem_receive(
     memory: &mut [u8],
     message: MessageHeader,
