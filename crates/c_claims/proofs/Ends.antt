@@ -46,10 +46,6 @@ use Rattle.handshake.specs.declared.modem.ModemAnswer.the-variants as answer
 use Rattle.lent.specs.Stored.{Stored, stored}
 use Rattle.lent_ends.specs.LentHost as lentHost
 use Rattle.lent_ends.specs.LentModem as lentModem
-use Rattle.lent_ends.specs.declared.host.HostHeld.{HostHeld}
-use Rattle.lent_ends.specs.declared.host.HostHeld.the-variants as hostHeld
-use Rattle.lent_ends.specs.declared.modem.ModemHeld.{ModemHeld}
-use Rattle.lent_ends.specs.declared.modem.ModemHeld.the-variants as modemHeld
 use Rattle.c_structs.specs.Answers.{writtenAnswer}
 use Rattle.c_structs.specs.Versions.{answerOf}
 use Rattle.c_structs.specs.Services.{listedInfo}
@@ -60,10 +56,7 @@ use Rattle.c_claims.proofs.Payloads.{version-read-told, version-write-t
 
 -- what is stored in memory, where there is room
 stored-told : (size : ℕ) (bytes m : List ℕ) → VerdictTells (stored size bytes m .verdict)
-stored-told size bytes m = by-test (λ (x : Stored). VerdictTells (x .verdict)) (ltb (length m) size) (named size) refl
-  where
-    named : (n : ℕ) → eqb 11 0 ≡ false
-    named n = refl
+stored-told size bytes m = by-test (λ (x : Stored). VerdictTells (x .verdict)) (ltb (length m) size) refl refl
 
 -- ---- the host by value
 
@@ -92,7 +85,7 @@ ask-told h out = by-stage (h .stage)
 list-told : (g : HostStage) (h : Host) (listed : Bool) → HostTells (host.listAt g h listed .answer)
 unfolding host.listAt host.listRules hostInfo
 list-told hostStage.Closed h listed = refl
-list-told (hostStage.Open a) h listed = by-verdict (judge (host.listRules (h .native) a listed)) (told-rules _ (refl, (refl, tt)))
+list-told (hostStage.Open a) h listed = by-verdict (judge (host.listRules (h .native) a listed)) (told-rules _ refl)
   where
     by-verdict : (v : Verdict) → VerdictTells v → HostTells (host.judgedList v h a listed .answer)
     by-verdict Fits x = by-test (λ (y : HostStep). HostTells (y .answer)) (isLater (h .native) && listed) refl refl
@@ -143,7 +136,7 @@ received-told h m s = by-role (host.replyRole m)
 -- ---- the host in lent memory
 
 held-told : (m : List ℕ) → VerdictTells (judge (lentHost.hostRules m))
-held-told m = told-rules _ (refl, (refl, (refl, (refl, tt))))
+held-told m = told-rules _ refl
 
 called-told : (m : List ℕ) (f : Host → HostStep) → ((h : Host) → HostTells (f h .answer)) → HostTells (lentHost.called m f .answer)
 unfolding lentHost.hostIn hostInfo
@@ -158,7 +151,7 @@ unfolding lentHost.makeIn host.madeOf
 host-make-told m n = by-verdict (numberVerdict n) (told-number n)
   where
     by-verdict : (v : Verdict) → VerdictTells v → VerdictTells (lentHost.madeBy (host.madeBy v (versionOf n)) m .verdict)
-    by-verdict Fits x = stored-told lentHost.hostSize _ m
+    by-verdict Fits x = stored-told lentHost.hostSize (lentHost.hostBytes (host.end (versionOf n) hostStage.Closed)) m
     by-verdict (Fault r) x = x
 
 pub host-open-told : (m : List ℕ) (n : ℕ) → HostTells (lentHost.openIn m n .answer)
@@ -232,7 +225,7 @@ command-told role.Other m c type s out = other-told (m .stage) m c
 
 message-told : (m : Modem) (h : MessageHeader) (s out : List ℕ) → AnswerTells (modem.receiveOf m h s out .step .answer)
 unfolding modem.receiveOf modem.receiveBy modem.commandOf
-message-told m h s out = by-verdict (judge (modem.commandRules h)) (told-rules _ (refl, (refl, tt)))
+message-told m h s out = by-verdict (judge (modem.commandRules h)) (told-rules _ refl)
   where
     by-verdict : (v : Verdict) → VerdictTells v → AnswerTells (modem.receiveBy v m h s out .step .answer)
     by-verdict Fits x = command-told (roleOf (kindOf (h .service) (h .cid))) m (kindOf (h .service) (h .cid)) (h .word) s out
@@ -241,15 +234,18 @@ message-told m h s out = by-verdict (judge (modem.commandRules h)) (told-rules _
 -- ---- the modem in lent memory
 
 modem-held-told : (m : List ℕ) → VerdictTells (judge (lentModem.modemRules m))
-modem-held-told m = told-rules _ (refl, (refl, (refl, (refl, (refl, (refl, (refl, tt)))))))
+modem-held-told m = told-rules _ refl
 
 pub modem-make-told : (m : List ℕ) (native advertised : ℕ) (s : List ℕ) → VerdictTells (lentModem.makeIn m native advertised s .verdict)
 unfolding lentModem.makeIn modem.madeOf modem.madeRules listedInfo
-modem-make-told m native advertised s = by-verdict (judge (modem.madeRules native advertised)) (told-rules _ (refl, (refl, (refl, tt))))
+modem-make-told m native advertised s = by-verdict (judge (modem.madeRules native advertised)) (told-rules _ refl)
   where
+    bytes : Bool → List ℕ
+    bytes listed = lentModem.modemBytes (modem.end (versionOf native) (versionOf advertised) listed modemStage.Start)
+
     by-list : (a : ListedAnswer) → ListedTells a → VerdictTells (lentModem.madeBy (modem.listedBy a (versionOf native) (versionOf advertised)) m .verdict)
-    by-list list.Listed x = stored-told lentModem.modemSize _ m
-    by-list list.NotListed x = stored-told lentModem.modemSize _ m
+    by-list list.Listed x = stored-told lentModem.modemSize (bytes true) m
+    by-list list.NotListed x = stored-told lentModem.modemSize (bytes false) m
     by-list (list.Refused r) x = x
 
     by-verdict : (v : Verdict) → VerdictTells v → VerdictTells (lentModem.madeBy (modem.madeBy v native advertised s) m .verdict)

