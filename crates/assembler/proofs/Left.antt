@@ -7,15 +7,16 @@ use Prim.Native.Nat.{ℕ, _+_, _≤_, _<_}
 use native.Mathlib.Omega.{arith}
 use borrow.Author.Tests.{eqb-false, not-false}
 use lib.Dec.{eqb, ltb}
-use lib.ListN.{length, drop, length-replicate}
+use lib.ListN.{length, drop, length-drop, length-replicate}
 use lib.Seq.{length-sets}
+use Rattle.wire.specs.Numbers.{u32At}
 use Rattle.protocol.specs.Refusal.{refusal, outputTooSmall}
 use Rattle.protocol.specs.MessageType.{isFragmented}
 use Rattle.protocol.specs.Verdict.{judge}
 use Rattle.protocol.specs.declared.Verdict.{Verdict}
 use Rattle.protocol.specs.declared.Verdict.the-variants.{Fits, Fault}
 use Rattle.protocol.proofs.Verdicts.{fits-kept}
-use Rattle.message.specs.Message.{mostInformation, messageAt, fragmentOf}
+use Rattle.message.specs.Message.{mostInformation, mostTransfer, firstLength, messageAt, wrongWord, fragmentOf}
 use Rattle.message.specs.declared.MessageHeader.{MessageHeader}
 use Rattle.message.specs.declared.FragmentHeader.{FragmentHeader}
 use Rattle.message.specs.declared.FirstHeader.{FirstHeader}
@@ -37,22 +38,22 @@ pub record Waits (p : Progress) : Type 0 where
   pub declared : p .«information_length» ≤ mostInformation
   pub within : p .gathered ≤ p .«information_length»
 
--- where a message comes from that waits after the piece s was fed to the assembly a: it began with the piece, or was there before
-pub data From (a : Assembly) (s : List ℕ) (next : ℕ) (m : MessageHeader) : Type 0 where
-  begun : m ≡ messageAt s → next ≡ 1 → From a s next m
-  joined : m ≡ a .progress .message → 1 < next → From a s next m
+-- where a message comes from that waits after the piece s was fed to the assembly a: it began with the piece, which carries all that is gathered, or was there before
+pub data From (a : Assembly) (s : List ℕ) (next gathered : ℕ) (m : MessageHeader) : Type 0 where
+  begun : m ≡ messageAt s → wrongWord m ≡ false → next ≡ 1 → firstLength (m .«message_type») + gathered ≤ mostTransfer → From a s next gathered m
+  joined : m ≡ a .progress .message → 1 < next → From a s next gathered m
 
 pub data Left (a : Assembly) (s : List ℕ) (p : Progress) : Type 0 where
   nothing : p ≡ empty .progress → Left a s p
-  pending : Waits p → From a s (p .next) (p .message) → Left a s p
+  pending : Waits p → From a s (p .next) (p .gathered) (p .message) → Left a s p
 
--- the progress q may gather the piece s, and is of a message that may wait
-record Ready (a : Assembly) (s : List ℕ) (q : Progress) : Type 0 where
+-- the progress q may gather the bytes xs of the piece s, and is of a message that may wait
+record Ready (a : Assembly) (s xs : List ℕ) (q : Progress) : Type 0 where
   known : isFragmented (q .message .«message_type») ≡ true
   few : q .total ≤ 128
-  from : From a s (q .next + 1) (q .message)
+  from : From a s (q .next + 1) (q .gathered + length xs) (q .message)
 
-gathers-left : (a : Assembly) (s bytes xs : List ℕ) (d : Bool) (room : ℕ) (q : Progress) → Ready a s q → Gathers q xs → Left a s (gatherOf (assemblyOf q bytes) xs d room .assembly .progress)
+gathers-left : (a : Assembly) (s bytes xs : List ℕ) (d : Bool) (room : ℕ) (q : Progress) → Ready a s xs q → Gathers q xs → Left a s (gatherOf (assemblyOf q bytes) xs d room .assembly .progress)
 unfolding gatherOf refused waiting completed grown
 gathers-left a s bytes xs d room q R G = go (eqb (q .next + 1) (q .total)) refl (ltb room (q .«information_length»))
   where
@@ -71,37 +72,43 @@ gathers-left a s bytes xs d room q R G = go (eqb (q .next + 1) (q .total)) refl 
           within = G .0 .0;
         }) (R .from)
 
-begun-ready : (a : Assembly) (s : List ℕ) (h : FragmentHeader) (f : FirstHeader) → Accepted s h → Opened s f → Ready a s (begunProgress h f)
+begun-ready : (a : Assembly) (s : List ℕ) (h : FragmentHeader) (f : FirstHeader) → Accepted s h → Opened s f → Ready a s (drop (firstLength (h .«message_type»)) s) (begunProgress h f)
 unfolding messageAt
-begun-ready a s h f A O = record {
-  known = rw (ap (λ (m : MessageHeader). m .«message_type») (O .message)) (A .known);
-  few = A .few;
-  from = begun (O .message) refl;
-}
+begun-ready a s h f A O =
+    let t : f .message .«message_type» ≡ u32At s 0 = ap (λ (m : MessageHeader). m .«message_type») (O .message) in
+    let k : u32At s 0 ≡ h .«message_type» = ap (λ (x : FragmentHeader). x .«message_type») (A .is) in
+    record {
+      known = rw t (A .known);
+      few = A .few;
+      from = begun (O .message) (rw (O .message) (O .word)) refl (rw (t, ← k) (simp length-drop (omega (arith, A .short, O .long))));
+    }
 
-joined-ready : (a : Assembly) (s : List ℕ) (h : FragmentHeader) → Accepted s h → (h .number ≡ 0 → ⊥) → Continues (a .progress) h → Ready a s (a .progress)
-joined-ready a s h A later C = record {
+joined-ready : (a : Assembly) (s xs : List ℕ) (h : FragmentHeader) → Accepted s h → (h .number ≡ 0 → ⊥) → Continues (a .progress) h → Ready a s xs (a .progress)
+joined-ready a s xs h A later C = record {
   known = rw (C .type, ← A .is) (A .known);
   few = omega (arith, A .few, C .total);
   from = joined refl (omega (arith, later, C .number));
 }
 
-ready : (a : Assembly) (s : List ℕ) (q : Progress) (n : ℕ) (d : Bool) → judgedOf (a .progress) s ≡ judged.Gathers q n d → Ready a s q
+ready : (a : Assembly) (s : List ℕ) (q : Progress) (n : ℕ) (d : Bool) → judgedOf (a .progress) s ≡ judged.Gathers q n d → Ready a s (drop n s) q
 unfolding judgedOf judgedBy joinOf
 ready a s q n d = go (fragment-view s)
   where
     p : Progress
     p = a .progress
 
-    joins : (h : FragmentHeader) → Accepted s h → (h .number ≡ 0 → ⊥) → (v : Verdict) → judge (joinRules p h (length s)) ≡ v → joinOf v p ≡ judged.Gathers q n d → Ready a s q
+    joins : (h : FragmentHeader) → Accepted s h → (h .number ≡ 0 → ⊥) → (v : Verdict) → judge (joinRules p h (length s)) ≡ v → joinOf v p ≡ judged.Gathers q n d → Ready a s (drop n s) q
     joins h A later Fits ev k =
         let e : a .progress ≡ q = cc in
-        rw (← e) (joined-ready a s h A later (continues-says p h (not-false (continues p h) (fits-kept (joinRules p h (length s)) ev .0))))
+        rw (← e) (joined-ready a s (drop n s) h A later (continues-says p h (not-false (continues p h) (fits-kept (joinRules p h (length s)) ev .0))))
     joins h A later (Fault r) ev k = let z : _≡_ {A = ℕ} 0 1 = cc in absurd (omega arith)
 
-    go : {f : Fragment} → FragmentView s f → judgedBy p (length s) f ≡ judged.Gathers q n d → Ready a s q
+    go : {f : Fragment} → FragmentView s f → judgedBy p (length s) f ≡ judged.Gathers q n d → Ready a s (drop n s) q
     go (no-fragment r) k = let z : _≡_ {A = ℕ} 0 1 = cc in absurd (omega arith)
-    go (opens h f A z o) k = let e : begunProgress h f ≡ q = cc in rw (← e) (begun-ready a s h f A o)
+    go (opens h f A z o) k =
+        let e : begunProgress h f ≡ q = cc in
+        let l : firstLength (h .«message_type») ≡ n = cc in
+        rw (← e, ← l) (begun-ready a s h f A o)
     go (follows h A z) k = joins h A z (judge (joinRules p h (length s))) refl k
 
 pub left : (a : Assembly) (s : List ℕ) (room : ℕ) → Left a s (stepOf a s room .assembly .progress)

@@ -199,7 +199,7 @@ fn judge_piece(progress: Progress, piece: &[u8]) -> Judged
 }
 
 // The bytes before a first fragment's information.
-fn first_length(message_type: u32) -> usize
+pub fn first_length(message_type: u32) -> usize
     ensures { λ r. ⌜ r ≡ firstLength «message_type» ⌝ }
 {
     length_place(message_type) + 4

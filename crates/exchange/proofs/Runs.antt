@@ -29,7 +29,7 @@ use Rattle.exchange.specs.Messages.{OfWidth, headerSeen, pieces, receive
 use Rattle.exchange.proofs.Fragments.{headerOf, later-judged, drop-fragment, first-judged, drop-first}
 
 -- an assembly in the middle of m: `number` comes next, and the first `gathered` of `bytes` are there
-abbrev held : MessageHeader → ℕ → ℕ → ℕ → ℕ → List ℕ → Assembly
+abbrev pub held : MessageHeader → ℕ → ℕ → ℕ → ℕ → List ℕ → Assembly
 held m total declared number gathered bytes =
     assemblyOf (record { message = headerSeen m; total = total; next = number; «information_length» = declared; gathered = gathered }) bytes
 
@@ -37,7 +37,7 @@ held m total declared number gathered bytes =
 
 module _ (m : MessageHeader) (F : OfWidth m) (known : isFragmented (m .«message_type») ≡ true) (total : ℕ) (few : total ≤ 128) where
   -- a first fragment begins anew, whatever the assembly is
-  first-step : (a : Assembly) (room n : ℕ) (xs : List ℕ) → 0 < total → wrongWord m ≡ false → n ≤ mostInformation → firstLength (m .«message_type») + length xs ≤ mostTransfer
+  pub first-step : (a : Assembly) (room n : ℕ) (xs : List ℕ) → 0 < total → wrongWord m ≡ false → n ≤ mostInformation → firstLength (m .«message_type») + length xs ≤ mostTransfer
       → wrongAmount (eqb total 1) (length xs) n ≡ false
       → stepOf a (firstBytes m total n xs) room ≡ gatherOf (held m total n 0 0 (begunBytes (isPending (a .progress)) (a .bytes))) xs (isPending (a .progress)) room
   unfolding stepOf stepBy judgedOf judgedBy
@@ -52,7 +52,7 @@ module _ (m : MessageHeader) (F : OfWidth m) (known : isFragmented (m .«message
       rw (eq-eqb (m .«message_type») (m .«message_type») refl, eq-eqb (m .transaction) (m .transaction) refl, eq-eqb total total refl, eq-eqb number number refl, le-leb declared 4096 small)
 
   -- a later fragment joins the message that it belongs to
-  next-step : (declared number gathered : ℕ) (bytes body : List ℕ) (room : ℕ) → 0 < number → number < total → 20 + length body ≤ mostTransfer → declared ≤ mostInformation
+  pub next-step : (declared number gathered : ℕ) (bytes body : List ℕ) (room : ℕ) → 0 < number → number < total → 20 + length body ≤ mostTransfer → declared ≤ mostInformation
       → wrongAmount (eqb (number + 1) total) (gathered + length body) declared ≡ false
       → stepOf (held m total declared number gathered bytes) (fragmentBytes m total number body) room ≡ gatherOf (held m total declared number gathered bytes) body false room
   unfolding stepOf stepBy judgedOf judgedBy joinOf begunBytes
@@ -65,7 +65,7 @@ module _ (m : MessageHeader) (F : OfWidth m) (known : isFragmented (m .«message
       (rw (continues-own declared number gathered bytes small) refl, (ap (λ (k : ℕ). wrongAmount (eqb (number + 1) total) (gathered + k) declared) l ∙ amount, tt)) in
       rw (later-judged m F total number body (omega arith) (omega arith) (omega arith) known few less some short, fits, drop-fragment m total number body)
 
-gather-wait : (m : MessageHeader) (total declared number gathered : ℕ) (bytes xs : List ℕ) (d : Bool) (room : ℕ) → (number + 1 ≡ total → ⊥)
+pub gather-wait : (m : MessageHeader) (total declared number gathered : ℕ) (bytes xs : List ℕ) (d : Bool) (room : ℕ) → (number + 1 ≡ total → ⊥)
     → gatherOf (held m total declared number gathered bytes) xs d room ≡ waiting (held m total declared (number + 1) (gathered + length xs) (sets bytes gathered xs)) d
 unfolding gatherOf grown
 gather-wait m total declared number gathered bytes xs d room more = rw (ne-eqb (number + 1) total more)

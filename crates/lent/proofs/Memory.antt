@@ -124,7 +124,7 @@ changed-all m r p q room kept (inr e) = by-test (ltb (q .next) 2)
 pub left-kind : (a : Assembly) (s : List ℕ) (q : Progress) → Left a s q → (q .next < 2) ⊎ (q .message ≡ a .progress .message)
 unfolding empty
 left-kind a s q (nothing e) = inl (let z : q .next ≡ 0 = ap (λ (p : Progress). p .next) e in omega (arith, z))
-left-kind a s q (pending w (begun e n)) = inl (omega (arith, n))
+left-kind a s q (pending w (begun e v n c)) = inl (omega (arith, n))
 left-kind a s q (pending w (joined e n)) = inr e
 
 -- a feed in the buffer of an assembly in memory is one of the whole buffer

@@ -8,14 +8,14 @@ use lib.ListN.{length, take, drop, replicate}
 use lib.Seq.{sets}
 use Rattle.wire.specs.Numbers.{u32At, digits}
 use Rattle.wire.specs.Runs.{over}
-use Rattle.protocol.specs.Refusal.{refusal, outsideTable, contradiction, outputTooSmall}
+use Rattle.protocol.specs.Refusal.{refusal, contradiction, outputTooSmall}
 use Rattle.protocol.specs.Verdict.{Rule, rule, judge}
 use Rattle.protocol.specs.Service.{idAt, idBytes}
-use Rattle.protocol.specs.MessageType.{isFragmented}
+use Rattle.protocol.specs.MessageType.{INDICATE-STATUS, isFragmented}
 use Rattle.protocol.specs.declared.Refusal.{Refusal}
 use Rattle.protocol.specs.declared.Verdict.{Verdict}
 use Rattle.protocol.specs.declared.Verdict.the-variants.{Fits, Fault}
-use Rattle.message.specs.Message.{mostInformation, isWholePiece}
+use Rattle.message.specs.Message.{mostInformation, mostTransfer, mostFragments, firstLength, wrongWord, isWholePiece}
 use Rattle.message.specs.declared.MessageHeader.{MessageHeader}
 use Rattle.assembler.specs.Assembly.{assemblyOf, Step, stepOf}
 use Rattle.assembler.specs.declared.Progress.{Progress}
@@ -78,7 +78,8 @@ changedIn p m = cond (ltb (p .next) 2) (sets m 0 (progressBytes p)) (sets m 32 (
 unfoldable pub held : Assembly → List ℕ → List ℕ
 held a m = over (progressBytes (a .progress) ++ a .bytes) m
 
--- ---- what feeding from empty can have left: no message, every number 0, or a pending one
+-- ---- what feeding from empty can have left: no message, every number 0, or a pending one; else 10 at the field's place
+-- The bytes of the buffer are not looked at: those past the gathered ones are never shown.
 
 -- numbers are 0 exactly when their sum is
 unfoldable pub isNone : Progress → Bool
@@ -87,14 +88,24 @@ isNone p =
     eqb (h .service .word0 + h .service .word1 + h .service .word2 + h .service .word3) 0
     && (eqb (h .«message_type» + h .transaction + h .cid + h .word) 0 && eqb (p .next + p .«information_length» + p .gathered) 0)
 
+-- the word of a message that no first fragment has: an indication has none, and shows 0
+unfoldable pub strayWord : MessageHeader → Bool
+strayWord h = cond (eqb (h .«message_type») INDICATE-STATUS) (not (eqb (h .word) 0)) (wrongWord h)
+
+-- more than the one fragment that came can carry; two can carry any message's information
+unfoldable pub aboveCarried : Progress → Bool
+aboveCarried p = eqb (p .next) 1 && ltb mostTransfer (firstLength (p .message .«message_type») + p .gathered)
+
 abbrev pub pendingRules : Progress → List Rule
 pendingRules p =
-    rule (not (isFragmented (p .message .«message_type»))) outsideTable 0
-    ∷ rule (ltb 128 (p .total)) outsideTable 32
-    ∷ rule (eqb (p .next) 0) outsideTable 36
-    ∷ rule (leb (p .total) (p .next)) outsideTable 36
-    ∷ rule (ltb mostInformation (p .«information_length»)) outsideTable 40
-    ∷ rule (ltb (p .«information_length») (p .gathered)) outsideTable 44
+    rule (not (isFragmented (p .message .«message_type»))) contradiction 0
+    ∷ rule (strayWord (p .message)) contradiction 28
+    ∷ rule (ltb mostFragments (p .total)) contradiction 32
+    ∷ rule (eqb (p .next) 0) contradiction 36
+    ∷ rule (leb (p .total) (p .next)) contradiction 36
+    ∷ rule (ltb mostInformation (p .«information_length»)) contradiction 40
+    ∷ rule (ltb (p .«information_length») (p .gathered)) contradiction 44
+    ∷ rule (aboveCarried p) contradiction 44
     ∷ []
 
 unfoldable pub progressVerdict : Progress → Verdict

@@ -7,16 +7,19 @@ use assembler::door::Received;
 use assembler::door::show_fed;
 use assembler::door::show_whole;
 use assembler::feed_lent;
+use assembler::first_length;
 use message::MOST_FRAGMENTS;
+use message::MOST_TRANSFER;
 use message::MessageHeader;
 use message::is_whole_piece;
+use message::is_wrong_word;
 use protocol::CONTRADICTION;
 use protocol::MOST_INFORMATION;
 use protocol::OUTPUT_TOO_SMALL;
-use protocol::OUTSIDE_TABLE;
 use protocol::Refusal;
 use protocol::Verdict;
 use protocol::also;
+use protocol::message_type::INDICATE_STATUS;
 use protocol::message_type::is_fragmented;
 use protocol::service::ServiceId;
 use wire::put_u32;
@@ -30,7 +33,7 @@ ghost use Rattle.wire.specs.Numbers.{u32At, digits};
 ghost use Rattle.wire.specs.Runs.{over};
 ghost use Rattle.protocol.specs.Verdict.{judge};
 ghost use Rattle.protocol.specs.Service.{idAt, idBytes};
-ghost use Rattle.lent.specs.LentAssembly.{assemblySize, messageIn, progressIn, messageBytes, countBytes, progressBytes, changedIn, isNone, pendingRules, progressVerdict, emptied, keptOf, feedIn, receiveIn};
+ghost use Rattle.lent.specs.LentAssembly.{assemblySize, messageIn, progressIn, messageBytes, countBytes, progressBytes, changedIn, isNone, strayWord, aboveCarried, pendingRules, progressVerdict, emptied, keptOf, feedIn, receiveIn};
 
 // How many bytes an assembly takes.
 pub const ASSEMBLY_SIZE: usize = 4144;
@@ -241,27 +244,56 @@ fn judge_progress(progress: Progress) -> Verdict
 fn judge_pending(progress: Progress) -> Verdict
     ensures { λ r. ⌜ r ≡ judge (pendingRules progress) ⌝ }
 {
+    let message = progress.message;
     let typed = also(
         Verdict::Fits,
-        !is_fragmented(progress.message.message_type),
-        OUTSIDE_TABLE,
+        !is_fragmented(message.message_type),
+        CONTRADICTION,
         MESSAGE_TYPE,
     );
-    let counted = also(typed, MOST_FRAGMENTS < progress.total, OUTSIDE_TABLE, TOTAL);
-    let begun = also(counted, progress.next == 0, OUTSIDE_TABLE, NEXT);
-    let unfinished = also(begun, progress.total <= progress.next, OUTSIDE_TABLE, NEXT);
+    let worded = also(typed, is_stray_word(message), CONTRADICTION, WORD);
+    let counted = also(
+        worded,
+        MOST_FRAGMENTS < progress.total,
+        CONTRADICTION,
+        TOTAL,
+    );
+    let begun = also(counted, progress.next == 0, CONTRADICTION, NEXT);
+    let unfinished = also(begun, progress.total <= progress.next, CONTRADICTION, NEXT);
     let declared = also(
         unfinished,
         MOST_INFORMATION < progress.information_length as usize,
-        OUTSIDE_TABLE,
+        CONTRADICTION,
         INFORMATION_LENGTH,
     );
-    also(
+    let within = also(
         declared,
         progress.information_length < progress.gathered,
-        OUTSIDE_TABLE,
+        CONTRADICTION,
         GATHERED,
-    )
+    );
+    also(within, is_above_carried(progress), CONTRADICTION, GATHERED)
+}
+
+// Whether no first fragment has the message's word.
+fn is_stray_word(message: MessageHeader) -> bool
+    ensures { λ r. ⌜ r ≡ strayWord message ⌝ }
+{
+    if message.message_type == INDICATE_STATUS {
+        return message.word != 0;
+    }
+    is_wrong_word(message)
+}
+
+// Whether more is gathered than the one fragment that came can carry. Two can carry any message.
+fn is_above_carried(progress: Progress) -> bool
+    ensures { λ r. ⌜ r ≡ aboveCarried progress ⌝ }
+{
+    if progress.next != 1 {
+        return false;
+    }
+    let before = first_length(progress.message.message_type);
+    MOST_TRANSFER < before + progress.gathered as usize
 }
 
 // Whether every number but the total is 0, as then their sums are.

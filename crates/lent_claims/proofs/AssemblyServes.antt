@@ -1,11 +1,11 @@
 -- Memory that feeding left holds the assembly that it gave: a run in lent memory is the run by value.
 -- Assumes nothing.
 use mathlib.Core.Path.{_≡_, refl, sym, ap, _∙_}
-use mathlib.Core.Bool.{Bool, true, false, cond, not}
+use mathlib.Core.Bool.{Bool, true, false, cond}
 use mathlib.Core.List.{List, [], _∷_, _++_, append-assoc}
 use Prim.Native.Nat.{ℕ, zero, suc, _+_, _*_, _≤_, _<_, _^_}
 use native.Mathlib.Omega.{arith}
-use borrow.Author.Tests.{ne-eqb, le-ltb, lt-leb}
+use borrow.Author.Tests.{le-ltb}
 use lib.Dec.{eqb}
 use lib.ListN.{length, getD, take, drop, length-append, length-drop, length-replicate, replicate-append-replicate}
 use lib.Seq.{take-at, drop-at}
@@ -14,19 +14,17 @@ use Rattle.wire.specs.Runs.{over}
 use Rattle.wire.proofs.Laws.{num-digits, num-skip}
 use Rattle.protocol.specs.MessageType.{INDICATE-STATUS}
 use Rattle.protocol.specs.Service.{idAt, idBytes}
-use Rattle.protocol.specs.Verdict.{judgeFrom, faultIf, firstOf}
 use Rattle.protocol.specs.declared.Verdict.the-variants.{Fits}
-use Rattle.protocol.proofs.Verdicts.{kept-fits}
 use Rattle.message.specs.Message.{wordAt, messageAt, isWholePiece}
-use Rattle.message.specs.declared.MessageHeader.{MessageHeader}
-use Rattle.assembler.specs.Assembly.{zeros, assemblyOf, empty, stepOf}
+use Rattle.assembler.specs.Assembly.{assemblyOf, empty, stepOf}
 use Rattle.assembler.specs.Run.{Piece}
-use Rattle.assembler.specs.Door.{wholeShown, fedShown, Receiving as DoorReceiving, wholeReceived, fedReceived, receiveOf, receiveAll}
+use Rattle.assembler.specs.Door.{wholeShown, fedShown, wholeReceived, fedReceived, receiveOf, receiveAll}
 use Rattle.assembler.specs.declared.Progress.{Progress}
 use Rattle.assembler.specs.declared.Assembly.{Assembly}
 use Rattle.assembler.proofs.Left.{Waits, begun, joined, Left, nothing, pending, left, left-whole}
-use Rattle.lent.specs.LentAssembly.{assemblySize, messageIn, progressIn, bufferIn, messageBytes, countBytes, progressBytes, held, isNone, pendingRules, progressVerdict, cleared, emptied, Feeding, kept, keptOf, feedIn, untouched, fedIn, receiveIn}
+use Rattle.lent.specs.LentAssembly.{assemblySize, messageIn, progressIn, bufferIn, messageBytes, countBytes, progressBytes, held, progressVerdict, cleared, emptied, Feeding, kept, keptOf, feedIn, untouched, fedIn, receiveIn}
 use Rattle.lent_claims.specs.Given.{Each32, Bytes, messageWords}
+use Rattle.lent_claims.proofs.NumbersLeft.{none-fits, left-fits}
 use Rattle.lent_claims.specs.AssemblyMemory.{wordsOf, Holds, runIn, AllBytes, MemoryServes}
 use Rattle.lent.proofs.Memory.{length-progress, length-buffer}
 
@@ -92,25 +90,6 @@ held-holds a m room whole fits small =
       small = small;
     }
 
--- ---- what feeding leaves is taken by the next call
-
-none-fits : progressVerdict (empty .progress) ≡ Fits
-unfolding progressVerdict isNone empty judgeFrom faultIf firstOf
-none-fits = refl
-
-waits-fits : (p : Progress) → Waits p → progressVerdict p ≡ Fits
-unfolding progressVerdict
-waits-fits p w =
-    let some : p .total ≡ 0 → ⊥ = λ e. omega (arith, w .unfinished, e) in
-    let begun : p .next ≡ 0 → ⊥ = λ e. omega (arith, w .begun, e) in
-    rw (ne-eqb _ _ some)
-    (kept-fits (pendingRules p)
-    (ap not (w .known), (le-ltb _ _ (w .few), (ne-eqb _ _ begun, (lt-leb _ _ (w .unfinished), (le-ltb _ _ (w .declared), (le-ltb _ _ (w .within), tt)))))))
-
-left-fits : (a : Assembly) (s : List ℕ) (p : Progress) → Left a s p → progressVerdict p ≡ Fits
-left-fits a s p (nothing e) = rw e none-fits
-left-fits a s p (pending w from) = waits-fits p w
-
 -- ---- its numbers are of 32 bits
 
 pub word-small : (s : List ℕ) (at : ℕ) → Bytes s → num 4 s at < 2 ^ 32
@@ -169,7 +148,7 @@ none-small =
 
 left-small : (a : Assembly) (s : List ℕ) (p : Progress) → Bytes s → Each32 (wordsOf (a .progress)) → Left a s p → Each32 (wordsOf p)
 left-small a s p b e (nothing q) = rw q none-small
-left-small a s p b e (pending w (begun q n)) = waits-small p w (rw q (message-small s b))
+left-small a s p b e (pending w (begun q v n c)) = waits-small p w (rw q (message-small s b))
 left-small a s p b e (pending w (joined q n)) = waits-small p w (rw q (first-words (a .progress) e))
 
 -- ---- one feed, then a run
@@ -187,7 +166,7 @@ feed-holds m a s room b H =
     let whole : length (a .bytes) ≡ 4096 = sym (ap length (H .buffer)) ∙ length-buffer m (H .room) in (
       ap (λ (f : Feeding). f .answer) e,
       ap (λ (f : Feeding). f .information) e,
-      rw e (held-holds (stepOf a s room .assembly) m (H .room) (left-whole a s room whole) (left-fits a s _ l) (left-small a s _ b (H .small) l)),
+      rw e (held-holds (stepOf a s room .assembly) m (H .room) (left-whole a s room whole) (left-fits a s _ (H .fits) l) (left-small a s _ b (H .small) l)),
     )
 
 -- 4,144 zeros are the empty assembly

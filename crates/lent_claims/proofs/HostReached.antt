@@ -2,8 +2,8 @@
 -- Assumes nothing.
 use mathlib.Core.Path.{_≡_, refl, _∙_}
 use mathlib.Core.Bool.{Bool, true, false}
-use mathlib.Core.List.{List, [], _∷_}
-use Prim.Native.Nat.{ℕ, _<_, _^_}
+use mathlib.Core.List.{[], _∷_}
+use Prim.Native.Nat.{ℕ}
 use native.Mathlib.Omega.{arith}
 use Rattle.protocol.specs.MessageType.{COMMAND-DONE}
 use Rattle.protocol.specs.Verdict.{faultIf, firstOf, judgeFrom, judge}
@@ -11,13 +11,13 @@ use Rattle.protocol.specs.declared.Version.{Version}
 use Rattle.protocol.specs.declared.Version.the-variants.{V1, V2}
 use Rattle.handshake.specs.Versions.{numberOf, numberVerdict}
 use Rattle.handshake.specs.Host.{end, madeOf, openedOf, listRules, judgedList, listAt, listReply, servicesReplyOf, failedAt, versionReplyOf, replyRole, receiveBy, receiveOf}
-use Rattle.handshake.specs.Calls.{HostCall, host-opens, host-receives, HostSound}
+use Rattle.handshake.specs.Calls.{host-opens, host-receives, HostSound}
 use Rattle.handshake.specs.declared.host.Host.{Host}
 use Rattle.handshake.specs.declared.host.HostMade.the-variants as made
 use Rattle.handshake.specs.declared.host.HostStage.{HostStage}
 use Rattle.handshake.specs.declared.host.HostStage.the-variants.{Closed, Open, AwaitsVersion, Settled}
 use Rattle.lent_claims.specs.Given.{Bytes}
-use Rattle.lent_claims.specs.Turns.{Each, run}
+use Rattle.lent_claims.specs.Turns.{run}
 use Rattle.lent_claims.specs.HostMemory.{HostGiven, hostCall, HostMadeFrom, HostReached}
 use Rattle.lent_claims.proofs.Fields.{small}
 use Rattle.lent_claims.proofs.Messages.{listing, listing-says, listing-bytes, services, version, services-small, version-small, services-role, version-role}

@@ -3,7 +3,7 @@
 use mathlib.Core.Path.{_≡_, refl, sym, ap, _∙_}
 use mathlib.Core.Logic.{_⊎_, inl, inr}
 use mathlib.Core.Bool.{true, false, not, _&&_}
-use mathlib.Core.List.{List, [], _∷_, _++_}
+use mathlib.Core.List.{List, _++_}
 use Prim.Native.Nat.{ℕ, zero, suc, _≤_, _<_}
 use native.Mathlib.Omega.{arith}
 use borrow.Author.Tests.{le-ltb, ltb-false}
@@ -14,7 +14,7 @@ use Rattle.wire.specs.Numbers.{u16At, digits}
 use Rattle.protocol.specs.Verdict.{judge}
 use Rattle.protocol.specs.declared.Verdict.the-variants.{Fits}
 use Rattle.protocol.specs.declared.Version.{Version}
-use Rattle.protocol.specs.declared.Version.the-variants.{V1, V2}
+use Rattle.protocol.specs.declared.Version.the-variants.{V2}
 use Rattle.protocol.proofs.Tests.{not-kept, equal-kept}
 use Rattle.protocol.proofs.Verdicts.{fits-kept, kept-fits}
 use Rattle.version_info.specs.VersionInfo.{isExtension}
@@ -30,7 +30,7 @@ use Rattle.handshake.specs.declared.host.HostStage.{HostStage}
 use Rattle.handshake.specs.declared.host.HostStage.the-variants.{Closed, Open, AwaitsVersion, Settled}
 use Rattle.handshake.proofs.Bounded.{host-kept, sound-again, host-made-sound, extension-cases, advertised-below}
 use Rattle.lent_ends.specs.Stages.{strayVersion}
-use Rattle.lent_ends.specs.LentHost.{hostSize, hostBytes, hostRules, hostAt, hostIn, stageOf, stageNumber, stageVersion, madeBy, makeIn, called, openIn, closeIn, receiveIn, askIn}
+use Rattle.lent_ends.specs.LentHost.{hostSize, hostBytes, hostRules, hostAt, hostIn, stageOf, stageNumber, stageVersion, makeIn, called, openIn, closeIn, receiveIn, askIn}
 use Rattle.lent_claims.specs.Given.{Bytes}
 use Rattle.lent_claims.specs.HostMemory.{answers, hostCall, hostCallIn, HostTakes, HostReached, HostTakenExactly, HostMemoryServes}
 use Rattle.lent_claims.proofs.Serves.{run-holds, run-sound}

@@ -1,4 +1,6 @@
+pub mod NumbersLeft
 pub mod AssemblyServes
+pub mod NumbersTaken
 pub mod Serves
 pub mod Fields
 pub mod Messages

@@ -6,24 +6,20 @@ use mathlib.Core.List.{List, [], _∷_, _++_}
 use Prim.Native.Nat.{ℕ, _<_, _^_}
 use native.Mathlib.Omega.{arith}
 use Rattle.wire.specs.Numbers.{u32At}
-use Rattle.protocol.specs.MessageType.{COMMAND, COMMAND-DONE}
+use Rattle.protocol.specs.MessageType.{COMMAND}
 use Rattle.protocol.specs.Verdict.{faultIf, firstOf, judgeFrom, openLength}
 use Rattle.protocol.specs.Service.{idAt, basicConnect, extensions, sameId, among, kindOf}
-use Rattle.protocol.specs.declared.service.ServiceId.{ServiceId}
 use Rattle.folds.specs.Folds.{firstFault, anyOf}
 use Rattle.pairs.specs.Pair.{rangeAt, rules, verdictOf as pairVerdict}
 use Rattle.device_services.specs.DeviceServices.{elementAt, lengthVerdict, contentRules, elementVerdict, verdictOf}
 use Rattle.services_query.specs.ServicesQuery.{isOf, hasCid, holds, listedOf}
-use Rattle.services_query.specs.declared.ListedAnswer.{ListedAnswer}
-use Rattle.services_query.specs.declared.ListedAnswer.the-variants.{Listed, NotListed}
 use Rattle.message.specs.declared.MessageHeader.{MessageHeader}
 use Rattle.handshake.specs.Commands.{servicesCid, versionCid, roleOfKind, roleOf, versionListed}
-use Rattle.handshake.specs.Host.{replyRole}
 use Rattle.handshake.specs.Run.{headed, listedAs}
 use Rattle.handshake.specs.declared.Role.the-variants as role
 use Rattle.lent_claims.specs.Given.{Each32, Bytes, messageWords}
 use Rattle.lent_claims.proofs.AssemblyServes.{word-small}
-use Rattle.lent_claims.proofs.Fields.{allBytes, bytes-of}
+use Rattle.lent_claims.proofs.Fields.{bytes-of}
 
 -- ---- lists of services
 

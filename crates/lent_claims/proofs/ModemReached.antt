@@ -1,22 +1,20 @@
 -- Calls that reach each sound modem: DEVICE_SERVICES, and then another first command or VERSION.
 -- Assumes nothing.
-use mathlib.Core.Path.{_≡_, refl, _∙_}
+use mathlib.Core.Path.{_≡_, refl}
 use mathlib.Core.Bool.{Bool, true, false}
 use mathlib.Core.List.{List, [], _∷_}
-use Prim.Native.Nat.{ℕ, _<_, _^_}
+use Prim.Native.Nat.{ℕ}
 use native.Mathlib.Omega.{arith}
-use lib.Seq.{sets}
-use Rattle.wire.specs.Numbers.{u16At, digits}
+use Rattle.wire.specs.Numbers.{u16At}
 use Rattle.wire.specs.Runs.{over}
 use Rattle.protocol.specs.MessageType.{COMMAND}
-use Rattle.protocol.specs.Verdict.{faultIf, firstOf, judgeFrom, judge, exactLength, given, withRoom, writing}
-use Rattle.protocol.specs.Service.{kindOf, idAt, basicConnect}
+use Rattle.protocol.specs.Verdict.{faultIf, firstOf, judgeFrom, exactLength, given, withRoom, writing}
 use Rattle.protocol.specs.declared.Version.{Version}
 use Rattle.protocol.specs.declared.Version.the-variants.{V1, V2}
 use Rattle.version_info.specs.VersionInfo.{recordAt, rules, verdictOf, readOf, bytesOf, writeOf}
 use Rattle.handshake.specs.Versions.{numberOf, infoOf, above}
 use Rattle.handshake.proofs.Bounded.{none-above}
-use Rattle.handshake.specs.Modem.{end, madeRules, madeOf, servicesOf, answerOf, gave, giveOf, answerBy, canAnswer, versionOfCommand, otherAt, commandBy, commandOf, commandRules, receiveBy, receiveOf}
+use Rattle.handshake.specs.Modem.{end, madeRules, madeOf, servicesOf, gave, giveOf, answerBy, canAnswer, versionOfCommand, otherAt, commandBy, commandOf, receiveBy, receiveOf}
 use Rattle.handshake.specs.Calls.{ModemCall, modem-receives, ModemSound, ModemSoundAt}
 use Rattle.handshake.specs.declared.modem.Modem.{Modem}
 use Rattle.handshake.specs.declared.modem.ModemMade.the-variants as made
@@ -25,7 +23,7 @@ use Rattle.handshake.specs.declared.modem.ModemStage.the-variants.{Start, Liste
 use Rattle.lent_claims.specs.Given.{Bytes}
 use Rattle.lent_claims.specs.Turns.{run}
 use Rattle.lent_claims.specs.ModemMemory.{ModemGiven, modemCall, ModemMadeFrom, ModemReached}
-use Rattle.lent_claims.proofs.Fields.{small, allBytes, bytes-of}
+use Rattle.lent_claims.proofs.Fields.{small, bytes-of}
 use Rattle.lent_claims.proofs.Messages.{listing, listing-says, listing-bytes, services, version, other, services-small, version-small, other-small, services-role, version-role, other-role}
 
 -- ---- one call

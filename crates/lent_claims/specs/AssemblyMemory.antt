@@ -1,12 +1,12 @@
 -- When lent memory holds an assembly (document 01: "each feed gets the assembly .. as the one before left it, changed by nothing else").
--- In this order: the memory that holds an assembly; a run in memory, and what is claimed of it.
+-- In this order: the numbers of an assembly, and which are taken; the memory that holds an assembly; a run in memory, and what is claimed of it.
 use Prim.Native.Nat.{ℕ, _≤_}
 use mathlib.Core.Path.{_≡_}
 use mathlib.Core.List.{List, [], _∷_}
 use lib.ListN.{length}
 use Rattle.protocol.specs.declared.Verdict.the-variants.{Fits}
 use Rattle.assembler.specs.Assembly.{empty}
-use Rattle.assembler.specs.Run.{Piece}
+use Rattle.assembler.specs.Run.{Piece, runOf}
 use Rattle.assembler.specs.Door.{Seen, receiveAll}
 use Rattle.assembler.specs.declared.Progress.{Progress}
 use Rattle.assembler.specs.declared.Assembly.{Assembly}
@@ -19,6 +19,20 @@ wordsOf p =
     p .message .«message_type» ∷ p .message .transaction
     ∷ p .message .service .word0 ∷ p .message .service .word1 ∷ p .message .service .word2 ∷ p .message .service .word3
     ∷ p .message .cid ∷ p .message .word ∷ p .total ∷ p .next ∷ p .«information_length» ∷ p .gathered ∷ []
+
+abbrev pub AllBytes : List Piece → Type 0
+AllBytes [] = Unit
+AllBytes (p ∷ ps) = Bytes (p .bytes) × AllBytes ps
+
+-- numbers that feeding pieces of bytes from the empty assembly reaches
+pub record NumbersReached (p : Progress) : Type 0 where
+  pub pieces : List Piece
+  pub given : AllBytes pieces
+  pub end : runOf empty pieces .end .progress ≡ p
+
+-- they are the numbers that are taken; the bytes of the buffer are not looked at
+abbrev pub NumbersTakenExactly : Type 0
+NumbersTakenExactly = (p : Progress) → Each32 (wordsOf p) → (progressVerdict p ≡ Fits → NumbersReached p) × (NumbersReached p → progressVerdict p ≡ Fits)
 
 -- ---- the memory m holds the assembly a, one that the next call takes
 
@@ -44,10 +58,6 @@ andThenIn f r = record { seen = seenIn f ∷ r .seen; memory = r .memory }
 unfoldable pub runIn : List ℕ → List Piece → MemoryRun
 runIn m [] = record { seen = []; memory = m }
 runIn m (p ∷ ps) = andThenIn (receiveIn m (p .bytes) (p .room)) (runIn (receiveIn m (p .bytes) (p .room) .memory) ps)
-
-abbrev pub AllBytes : List Piece → Type 0
-AllBytes [] = Unit
-AllBytes (p ∷ ps) = Bytes (p .bytes) × AllBytes ps
 
 -- whatever pieces emptied memory receives, each is answered as by value from the empty assembly, and the memory holds what that run leaves
 pub record AsByValue (m : List ℕ) (ps : List Piece) : Type 0 where

@@ -125,6 +125,7 @@ pub record Opened (s : List ℕ) (f : FirstHeader) : Type 0 where
   pub message : f .message ≡ messageAt s
   pub declared : f .«information_length» ≡ declaredAt s
   pub long : firstLength (u32At s 0) ≤ length s
+  pub word : wrongWord (messageAt s) ≡ false
   pub small : f .«information_length» ≤ mostInformation
   pub amount : wrongAmount (eqb (u32At s 12) 1) (carriedBy s) (f .«information_length») ≡ false
 
@@ -140,6 +141,7 @@ first-accepted s f e = go (judge (firstRules s)) refl e
           message = refl;
           declared = refl;
           long = ltb-false _ _ (k .0);
+          word = k .1 .0;
           small = ltb-false _ _ (k .1 .1 .0);
           amount = k .1 .1 .1 .0;
         })
