@@ -6,8 +6,6 @@ use protocol::Refusal;
 use protocol::TOO_SHORT;
 use protocol::Verdict;
 use protocol::WRONG_COUNT;
-use protocol::also;
-use protocol::first;
 use protocol::judge_open_length;
 use protocol::service::ServiceId;
 use protocol::service::id_at;
@@ -111,16 +109,20 @@ pub fn judge_length(payload: &[u8]) -> Verdict
     ensures { λ r. ⌜ r ≡ lengthVerdict (length (now (payload .entry))) (countOf (now (payload .entry))) ⌝ }
 {
     let n = payload.len();
+    if n < PAIRS as usize {
+        return Verdict::Fault(Refusal {
+            number: TOO_SHORT,
+            place: n,
+        });
+    }
     let count = u32_at(payload, DEVICE_SERVICES_COUNT);
-    let begun = also(Verdict::Fits, n < PAIRS as usize, TOO_SHORT, n);
-    let counted = also(
-        begun,
-        MOST_SERVICES < count,
-        WRONG_COUNT,
-        DEVICE_SERVICES_COUNT,
-    );
-    let whole = judge_open_length(pair_place(count), n);
-    first(counted, whole)
+    if MOST_SERVICES < count {
+        return Verdict::Fault(Refusal {
+            number: WRONG_COUNT,
+            place: DEVICE_SERVICES_COUNT,
+        });
+    }
+    judge_open_length(pair_place(count), n)
 }
 
 // The length and the count, then one pair and its element, whatever the others are.

@@ -2,7 +2,7 @@
 -- where a signal pair of size 0 is absent (size under 4 or 28, 8; count 15 when over its limit or, for signal, 0; size against count, 8)".
 -- What a list is like is a parameter. In this order: its count; the rules, in the order in which they are judged.
 use Prim.Native.Nat.{ℕ, _+_, _*_}
-use mathlib.Core.Bool.{Bool, not, cond, _&&_, _||_}
+use mathlib.Core.Bool.{Bool, false, not, cond, _&&_, _||_}
 use mathlib.Core.List.{List, [], _∷_}
 use lib.Dec.{ltb, eqb}
 use lib.ListN.{length}
@@ -21,6 +21,10 @@ use Rattle.pairs.specs.declared.lists.ListForm.{ListForm}
 -- a list that may be absent, and is
 abbrev pub absentIn : ListForm → Range → Bool
 absentIn f p = f .optional && eqb (p .length) 0
+
+-- the same lists where none may be absent
+abbrev pub there : ListForm → ListForm
+there f = record { limit = f .limit; least = f .least; «count_place» = f .«count_place»; fewest = f .fewest; most = f .most; each = f .each; optional = false }
 
 abbrev pub countPlace : ListForm → Range → ℕ
 countPlace f p = p .start + f .«count_place»

@@ -114,22 +114,24 @@ fn judge(
 fn range_at(payload: &[u8], place: usize) -> Range
     ensures { λ r. ⌜ r ≡ rangeAt (now (payload .entry)) place ⌝ }
 {
+    if PAIR_SIZE <= payload.len() {
+        if place <= payload.len() - PAIR_SIZE {
+            let pair = &payload[place..place + PAIR_SIZE];
+            return Range {
+                start: u32_at(pair, 0),
+                length: u32_at(pair, 4),
+            };
+        }
+    }
     if payload.len() <= place {
         return Range {
             start: 0,
             length: 0,
         };
     }
-    if payload.len() - place < PAIR_SIZE {
-        return Range {
-            start: u32_at(payload, place),
-            length: u32_at(payload, place + 4),
-        };
-    }
-    let pair = &payload[place..place + PAIR_SIZE];
     Range {
-        start: u32_at(pair, 0),
-        length: u32_at(pair, 4),
+        start: u32_at(payload, place),
+        length: u32_at(payload, place + 4),
     }
 }
 

@@ -12,10 +12,9 @@ use protocol::WRONG_SIZE;
 use protocol::also;
 use wire::u32_at;
 ghost use mathlib.Core.Path.{_≡_};
-ghost use mathlib.Core.Bool.{false};
 ghost use Rattle.protocol.specs.Verdict.{judge as judged};
 ghost use Rattle.pairs.specs.Pair.{rangeAt};
-ghost use Rattle.pairs.specs.Lists.{absentIn, countIn, outside, listRules, listVerdict, listsVerdict};
+ghost use Rattle.pairs.specs.Lists.{absentIn, there, countIn, outside, listRules, listVerdict, listsVerdict};
 
 // What lists of one kind are like.
 pub struct ListForm {
@@ -38,17 +37,28 @@ pub struct ListForm {
 pub fn judge_list(payload: &[u8], fixed: u32, place: u32, form: ListForm) -> Verdict
     ensures { λ r. ⌜ r ≡ listVerdict form fixed place (now (payload .entry)) ⌝ }
 {
-    judge_lists(payload, fixed, place, 1, form)
+    let at = place as usize;
+    let limit = form.limit;
+    let pair = range_at(payload, at);
+    let verdict = judge(PairKind::List, fixed, limit, at, payload.len(), pair);
+    if let Verdict::Fault(refusal) = verdict {
+        return Verdict::Fault(refusal);
+    }
+    if is_absent(form, pair) {
+        return Verdict::Fits;
+    }
+    judge_count(payload, at, form, pair)
 }
 
-// The same of `count` pairs that stand one behind another from `place` on, up to the first fault.
+// The verdict on `count` pairs that stand one behind another from `place` on, and on their lists, up
+// to the first fault. None of them may be absent, whatever their form says.
 pub fn judge_lists(payload: &[u8], fixed: u32, place: u32, count: u32, form: ListForm) -> Verdict
-    ensures { λ r. ⌜ r ≡ listsVerdict form fixed place (now (payload .entry)) count ⌝ }
+    ensures { λ r. ⌜ r ≡ listsVerdict (there form) fixed place (now (payload .entry)) count ⌝ }
 {
     let mut i: u32 = 0;
     while i < count {
         let at = place as usize + PAIR_SIZE * i as usize;
-        let verdict = judge_one(payload, fixed, at, form);
+        let verdict = judge_there(payload, fixed, at, form);
         if let Verdict::Fault(refusal) = verdict {
             return Verdict::Fault(refusal);
         }
@@ -68,31 +78,22 @@ pub fn judged_list_count(payload: &[u8], place: u32, form: ListForm) -> u32
     u32_at(payload, pair.start as usize + form.count_place as usize)
 }
 
-fn judge_one(payload: &[u8], fixed: u32, place: usize, form: ListForm) -> Verdict
-    ensures { λ r. ⌜ r ≡ listVerdict form fixed place (now (payload .entry)) ⌝ }
+// A pair whose list may not be absent.
+fn judge_there(payload: &[u8], fixed: u32, place: usize, form: ListForm) -> Verdict
+    ensures { λ r. ⌜ r ≡ listVerdict (there form) fixed place (now (payload .entry)) ⌝ }
 {
-    let pair = range_at(payload, place);
     let limit = form.limit;
-    if let Verdict::Fault(refusal) = judge(
-        PairKind::List,
-        fixed,
-        limit,
-        place,
-        payload.len(),
-        pair,
-    ) {
+    let pair = range_at(payload, place);
+    let verdict = judge(PairKind::List, fixed, limit, place, payload.len(), pair);
+    if let Verdict::Fault(refusal) = verdict {
         return Verdict::Fault(refusal);
-    }
-    if is_absent(form, pair) {
-        return Verdict::Fits;
     }
     judge_count(payload, place, form, pair)
 }
 
 // A list that is there: its least size, its count, and its size against its count.
 fn judge_count(payload: &[u8], place: usize, form: ListForm, pair: Range) -> Verdict
-    requires { ⌜ absentIn form pair ≡ false ⌝ }
-    ensures { λ r. ⌜ r ≡ judged (listRules form place pair (countIn form (now (payload .entry)) pair)) ⌝ }
+    ensures { λ r. ⌜ r ≡ judged (listRules (there form) place pair (countIn (there form) (now (payload .entry)) pair)) ⌝ }
 {
     let size = pair.length;
     if size < form.least {

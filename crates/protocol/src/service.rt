@@ -32,6 +32,9 @@ pub enum Carried {
 }
 
 // CIDs of Basic Connect.
+// The bytes of an id.
+const ID_SIZE: usize = 16;
+
 pub const REGISTER_STATE: u32 = 9;
 
 pub const PACKET_SERVICE: u32 = 10;
@@ -64,6 +67,7 @@ pub fn extensions_id() -> ServiceId
     }
 }
 
+// The id at a place: where all of it is there, one test serves.
 pub fn id_at(s: &[u8], at: usize) -> ServiceId
     ensures { λ r. ⌜ r ≡ idAt (now (s .entry)) at ⌝ }
 {
@@ -75,11 +79,20 @@ pub fn id_at(s: &[u8], at: usize) -> ServiceId
             word3: 0,
         };
     }
+    if s.len() - at < ID_SIZE {
+        return ServiceId {
+            word0: u32_at(s, at),
+            word1: u32_at(s, at + 4),
+            word2: u32_at(s, at + 8),
+            word3: u32_at(s, at + 12),
+        };
+    }
+    let id = &s[at..at + ID_SIZE];
     ServiceId {
-        word0: u32_at(s, at),
-        word1: u32_at(s, at + 4),
-        word2: u32_at(s, at + 8),
-        word3: u32_at(s, at + 12),
+        word0: u32_at(id, 0),
+        word1: u32_at(id, 4),
+        word2: u32_at(id, 8),
+        word3: u32_at(id, 12),
     }
 }
 

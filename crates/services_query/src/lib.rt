@@ -11,6 +11,7 @@ use protocol::OUTPUT_TOO_SMALL;
 use protocol::Refusal;
 use protocol::Verdict;
 use protocol::service::ServiceId;
+use protocol::service::id_at;
 use protocol::service::is_same_id;
 ghost use mathlib.Core.Path.{_≡_};
 ghost use mathlib.Core.Bool.{_&&_};
@@ -131,8 +132,7 @@ fn index_of(payload: &[u8], service: ServiceId, count: u32) -> u32
 fn is_of(payload: &[u8], service: ServiceId, number: u32) -> bool
     ensures { λ r. ⌜ r ≡ isOf (now (payload .entry)) service number ⌝ }
 {
-    let fields = judged_element(payload, judged_offset(payload, number));
-    let own = fields.device_service_id;
+    let own = id_at(payload, judged_offset(payload, number) as usize);
     is_same_id(own, service)
 }
 

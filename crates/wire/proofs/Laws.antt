@@ -210,6 +210,14 @@ fitted-pad (suc k) t =
     let e : replicate {A = ℕ} k 0 ++ replicate 1 0 ≡ replicate (suc k) 0 = replicate-append-replicate k 1 0 ∙ ap (λ (j : ℕ). replicate j 0) (add-one k) in
     ap (λ (j : ℕ). fitted j t) (add-suc (length t) k) ∙ rw (z, fitted-pad k t, append-assoc t (replicate k 0) (replicate 1 0), e)
 
+-- the whole of a text, and zeros behind it
+pub fitted-rest : (n : ℕ) (t : List ℕ) → length t ≤ n → fitted (length t) t ++ fitted (n - length t) [] ≡ fitted n t
+fitted-rest n t h =
+    let k = n - length t in
+    let e : length t + k ≡ n = omega arith in
+    let z : fitted k [] ≡ replicate k 0 = ap (λ (j : ℕ). fitted j []) (sym (zero-add k)) ∙ fitted-pad k [] in
+    rw (fitted-all t, z) (sym (fitted-pad k t) ∙ ap (λ (j : ℕ). fitted j t) e)
+
 -- a text is read back from where it was put, past what stands before it
 pub text-at : (p x rest : List ℕ) (n base : ℕ) → length p ≡ base → length x ≤ n → take (length x) (drop base (p ++ (fitted n x ++ rest))) ≡ x
 text-at p x rest n base e h =

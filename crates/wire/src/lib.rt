@@ -1,6 +1,7 @@
 // Little-endian numbers and runs of bytes at a place of a byte slice. Every function is total: a
 // byte past the end reads as zero, and a store past the end is dropped. Nothing is judged here.
 ghost use mathlib.Core.Path.{_≡_};
+ghost use mathlib.Core.List.{[]};
 ghost use Prim.Native.Nat.{_+_, _≤_, _<_};
 ghost use lib.ListN.{length, getD, set};
 ghost use lib.Seq.{sets};
@@ -127,13 +128,26 @@ fn put_front(out: &mut [u8], at: usize, t: &[u8], n: usize)
     }
 }
 
+// The first n bytes of t with zeros past its end, where they have room.
 fn put_fitting(out: &mut [u8], at: usize, t: &[u8], n: usize)
     requires { ⌜ at + n ≤ length (now out) ⌝ }
     ensures { λ _. ⌜ now (out .exit) ≡ sets (now (out .entry)) at (fitted n (now (t .entry))) ⌝ }
 {
+    if n <= t.len() {
+        put_front(out, at, t, n);
+        return;
+    }
+    put_front(out, at, t, t.len());
+    put_zeros(out, at + t.len(), n - t.len());
+}
+
+fn put_zeros(out: &mut [u8], at: usize, n: usize)
+    requires { ⌜ at + n ≤ length (now out) ⌝ }
+    ensures { λ _. ⌜ now (out .exit) ≡ sets (now (out .entry)) at (fitted n []) ⌝ }
+{
     let mut i: usize = 0;
     while i < n {
-        out[at + i] = byte_at(t, i);
+        out[at + i] = 0;
         i += 1;
     }
 }

@@ -1,37 +1,18 @@
--- The loop's invariant: the first i bytes of the run stand in the output.
+-- The text fills the run, or zeros stand behind it.
 use borrow.Author.Needs.{needs}
-use mathlib.Core.Path.{_≡_, refl, ap, _∙_}
-use Prim.Native.Nat.{ℕ, _≤_, _-_}
-use native.Mathlib.Nat.{le-antisymm}
+use mathlib.Core.Path.{ap, _∙_}
+use mathlib.Core.List.{[]}
+use Prim.Native.Nat.{_-_}
 use native.Mathlib.Omega.{arith}
 use lib.ListN.{length}
-use lib.Seq.{sets, length-sets}
+use lib.Seq.{sets}
 use Rattle.wire.specs.Runs.{fitted}
-use Rattle.wire.proofs.Laws.{run-more}
+use Rattle.wire.proofs.Laws.{sets-then, fitted-rest, length-fitted}
 use Rattle.wire.proofs.put_fitting.Statement.{statement}
 use Rattle.wire.proofs.put_fitting.Tie as tie
 
-abbrev Inv-loop : tie.InvT-loop
-Inv-loop out₀ at t n i₀ out i = (i ≤ n) × (out ≡ sets out₀ at (fitted i t))
-
-abbrev μ-loop : tie.MeasureT-loop
-μ-loop out₀ at t n i₀ out i = n - i
-
-loop-holds : tie.Need-loop-holds Inv-loop μ-loop
-unfolding fitted
-loop-holds c = (search needs, refl)
-
-slice-write-out : tie.Need-slice-write-out Inv-loop μ-loop
-slice-write-out c = rw (c .before .before .loop .inv .1) (rw (length-sets (c .before .before .before .before .before .args .out .now) (c .before .before .before .before .before .args .at) (fitted (c .before .before .loop .i) (c .before .before .before .before .before .args .t .now))) (omega arith))
-
-loop-again : tie.Need-loop-again Inv-loop μ-loop
-loop-again c = (search needs, run-more (c .before .before .loop .i) (c .before .before .before .before .before .args .at) (c .before .before .before .before .before .args .out .now) (c .before .before .before .before .before .args .t .now) (c .before .before .loop .inv .1) (c .byte-at .ensures) refl)
-
-same-length : tie.Need-same-length Inv-loop μ-loop
-same-length c = ap length (c .before .loop .inv .1) ∙ length-sets (c .before .before .before .before .args .out .now) (c .before .before .before .before .args .at) (fitted (c .before .loop .i) (c .before .before .before .before .args .t .now))
-
-returns : tie.Need-returns Inv-loop μ-loop
-returns c = c .before .loop .inv .1 ∙ ap (λ (k : ℕ). sets (c .before .before .before .before .args .out .now) (c .before .before .before .before .args .at) (fitted k (c .before .before .before .before .args .t .now))) (le-antisymm (c .before .loop .inv .0) (c .loop-test .left))
+returns-2 : tie.Need-returns-2
+returns-2 c = sets-then (fitted (length (c .before .before .before .before .before .before .before .before .before .before .before .args .t .now)) (c .before .before .before .before .before .before .before .before .before .before .before .args .t .now)) (fitted (c .before .before .before .before .before .before .before .before .before .before .before .args .n - length (c .before .before .before .before .before .before .before .before .before .before .before .args .t .now)) []) (c .before .before .before .before .before .before .before .before .before .before .before .args .at) (length (c .before .before .before .before .before .before .before .before .before .before .before .args .t .now)) (c .before .before .before .before .before .before .before .before .before .before .before .args .out .now) (length-fitted (length (c .before .before .before .before .before .before .before .before .before .before .before .args .t .now)) (c .before .before .before .before .before .before .before .before .before .before .before .args .t .now)) (c .before .before .before .before .before .before .put-front2 .ensures) (c .before .before .put-zeros .ensures) ∙ ap (sets (c .before .before .before .before .before .before .before .before .before .before .before .args .out .now) (c .before .before .before .before .before .before .before .before .before .before .before .args .at)) (fitted-rest (c .before .before .before .before .before .before .before .before .before .before .before .args .n) (c .before .before .before .before .before .before .before .before .before .before .before .args .t .now) (omega arith))
 
 pub put-fitting-spec : {M : Type 1} → statement M
-put-fitting-spec = tie.close (tie.spec Inv-loop μ-loop loop-holds (λ c. search needs) (λ c. search needs) slice-write-out (λ c. search needs) (λ c. search needs) loop-again same-length returns)
+put-fitting-spec = tie.close (tie.spec (λ c. search needs) (λ c. search needs) (λ c. search needs) (λ c. search needs) (λ c. search needs) (λ c. search needs) (λ c. search needs) (λ c. search needs) returns-2)

@@ -1,0 +1,38 @@
+-- The loop's invariant: i zeros stand in the output.
+use borrow.Author.Needs.{needs}
+use mathlib.Core.Path.{_≡_, refl, ap, _∙_}
+use mathlib.Core.List.{[]}
+use Prim.Native.Nat.{ℕ, _≤_, _-_}
+use native.Mathlib.Nat.{le-antisymm}
+use native.Mathlib.Omega.{arith}
+use lib.ListN.{length}
+use lib.Seq.{sets, length-sets}
+use Rattle.wire.specs.Runs.{fitted}
+use Rattle.wire.proofs.Laws.{run-more}
+use Rattle.wire.proofs.put_zeros.Statement.{statement}
+use Rattle.wire.proofs.put_zeros.Tie as tie
+
+abbrev Inv-loop : tie.InvT-loop
+Inv-loop out₀ at n i₀ out i = (i ≤ n) × (out ≡ sets out₀ at (fitted i []))
+
+abbrev μ-loop : tie.MeasureT-loop
+μ-loop out₀ at n i₀ out i = n - i
+
+loop-holds : tie.Need-loop-holds Inv-loop μ-loop
+unfolding fitted
+loop-holds c = (search needs, refl)
+
+slice-write-out : tie.Need-slice-write-out Inv-loop μ-loop
+slice-write-out c = rw (c .before .loop .inv .1) (rw (length-sets (c .before .before .args .out .now) (c .before .before .args .at) (fitted (c .before .loop .i) [])) (omega arith))
+
+loop-again : tie.Need-loop-again Inv-loop μ-loop
+loop-again c = (search needs, run-more (c .before .loop .i) (c .before .before .args .at) (c .before .before .args .out .now) [] (c .before .loop .inv .1) refl refl)
+
+same-length : tie.Need-same-length Inv-loop μ-loop
+same-length c = ap length (c .before .loop .inv .1) ∙ length-sets (c .before .before .args .out .now) (c .before .before .args .at) (fitted (c .before .loop .i) [])
+
+returns : tie.Need-returns Inv-loop μ-loop
+returns c = c .before .loop .inv .1 ∙ ap (λ (k : ℕ). sets (c .before .before .args .out .now) (c .before .before .args .at) (fitted k [])) (le-antisymm (c .before .loop .inv .0) (c .loop-test .left))
+
+pub put-zeros-spec : {M : Type 1} → statement M
+put-zeros-spec = tie.close (tie.spec Inv-loop μ-loop loop-holds (λ c. search needs) slice-write-out (λ c. search needs) (λ c. search needs) loop-again same-length returns)
