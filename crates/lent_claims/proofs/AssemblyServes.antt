@@ -23,7 +23,7 @@ use Rattle.assembler.specs.declared.Progress.{Progress}
 use Rattle.assembler.specs.declared.Assembly.{Assembly}
 use Rattle.assembler.proofs.Left.{Waits, begun, joined, Left, nothing, pending, left, left-whole}
 use Rattle.lent.specs.LentAssembly.{assemblySize, messageIn, progressIn, bufferIn, messageBytes, countBytes, progressBytes, held, progressVerdict, cleared, emptied, Feeding, kept, keptOf, feedIn, untouched, fedIn, receiveIn}
-use Rattle.lent_claims.specs.Given.{Each32, Bytes, messageWords}
+use Rattle.lent_claims.specs.Given.{WordsOfWidth, Bytes, messageWords}
 use Rattle.lent_claims.proofs.NumbersLeft.{none-fits, left-fits}
 use Rattle.lent_claims.specs.AssemblyMemory.{wordsOf, Holds, runIn, AllBytes, MemoryServes}
 use Rattle.lent.proofs.Memory.{length-progress, length-buffer}
@@ -35,7 +35,7 @@ wordsBytes [] = []
 wordsBytes (x ∷ xs) = digits 4 x ++ wordsBytes xs
 
 -- each word is read back from its place
-read-word : (ws t : List ℕ) (i : ℕ) → Each32 ws → i < length ws → num 4 (wordsBytes ws ++ t) (4 * i) ≡ getD ws i 0
+read-word : (ws t : List ℕ) (i : ℕ) → WordsOfWidth ws → i < length ws → num 4 (wordsBytes ws ++ t) (4 * i) ≡ getD ws i 0
 read-word [] t i e l = absurd (omega arith)
 read-word (x ∷ xs) t zero e l = num-digits 4 x (wordsBytes xs ++ t) (omega (arith, e .0))
 read-word (x ∷ xs) t (suc i) e l =
@@ -47,7 +47,7 @@ unfolding progressBytes messageBytes countBytes idBytes
 as-words p t = refl
 
 -- the numbers of an assembly are read back from the front of the memory
-numbers-back : (p : Progress) (t : List ℕ) → Each32 (wordsOf p) → progressIn (progressBytes p ++ t) ≡ p
+numbers-back : (p : Progress) (t : List ℕ) → WordsOfWidth (wordsOf p) → progressIn (progressBytes p ++ t) ≡ p
 unfolding progressIn messageIn idAt u32At
 numbers-back p t e =
     let f : (i : ℕ) → i < 12 → num 4 (progressBytes p ++ t) (4 * i) ≡ getD (wordsOf p) i 0 =
@@ -76,7 +76,7 @@ unfolding held over
 held-parts a m whole =
     ap (λ (k : ℕ). (progressBytes (a .progress) ++ a .bytes) ++ drop k m) (length-held a m whole) ∙ append-assoc (progressBytes (a .progress)) (a .bytes) (drop assemblySize m)
 
-held-holds : (a : Assembly) (m : List ℕ) → assemblySize ≤ length m → length (a .bytes) ≡ 4096 → progressVerdict (a .progress) ≡ Fits → Each32 (wordsOf (a .progress)) → Holds (held a m) a
+held-holds : (a : Assembly) (m : List ℕ) → assemblySize ≤ length m → length (a .bytes) ≡ 4096 → progressVerdict (a .progress) ≡ Fits → WordsOfWidth (wordsOf (a .progress)) → Holds (held a m) a
 held-holds a m room whole fits small =
     let e = held-parts a m whole in
     let b = progressBytes (a .progress) in
@@ -103,13 +103,13 @@ own-word-small t s b = go (eqb t INDICATE-STATUS)
     go true = omega arith
     go false = word-small s 40 b
 
-message-small : (s : List ℕ) → Bytes s → Each32 (messageWords (messageAt s))
+message-small : (s : List ℕ) → Bytes s → WordsOfWidth (messageWords (messageAt s))
 unfolding messageAt idAt u32At
 message-small s b =
     (word-small s 0 b, (word-small s 8 b, (word-small s 20 b, (word-small s 24 b, (word-small s 28 b, (word-small s 32 b, (word-small s 36 b, (own-word-small (u32At s 0) s b, tt))))))))
 
 -- the words of a message, and the counts of one that waits
-waits-small : (p : Progress) → Waits p → Each32 (messageWords (p .message)) → Each32 (wordsOf p)
+waits-small : (p : Progress) → Waits p → WordsOfWidth (messageWords (p .message)) → WordsOfWidth (wordsOf p)
 waits-small p w x = (
   x .0,
   (
@@ -136,17 +136,17 @@ waits-small p w x = (
   ),
 )
 
-first-words : (p : Progress) → Each32 (wordsOf p) → Each32 (messageWords (p .message))
+first-words : (p : Progress) → WordsOfWidth (wordsOf p) → WordsOfWidth (messageWords (p .message))
 first-words p x =
     (x .0, (x .1 .0, (x .1 .1 .0, (x .1 .1 .1 .0, (x .1 .1 .1 .1 .0, (x .1 .1 .1 .1 .1 .0, (x .1 .1 .1 .1 .1 .1 .0, (x .1 .1 .1 .1 .1 .1 .1 .0, tt))))))))
 
-none-small : Each32 (wordsOf (empty .progress))
+none-small : WordsOfWidth (wordsOf (empty .progress))
 unfolding empty
 none-small =
     let z : 0 < 2 ^ 32 = omega arith in
     (z, (z, (z, (z, (z, (z, (z, (z, (z, (z, (z, (z, tt))))))))))))
 
-left-small : (a : Assembly) (s : List ℕ) (p : Progress) → Bytes s → Each32 (wordsOf (a .progress)) → Left a s p → Each32 (wordsOf p)
+left-small : (a : Assembly) (s : List ℕ) (p : Progress) → Bytes s → WordsOfWidth (wordsOf (a .progress)) → Left a s p → WordsOfWidth (wordsOf p)
 left-small a s p b e (nothing q) = rw q none-small
 left-small a s p b e (pending w (begun q v n c)) = waits-small p w (rw q (message-small s b))
 left-small a s p b e (pending w (joined q n)) = waits-small p w (rw q (first-words (a .progress) e))

@@ -17,7 +17,7 @@ use Rattle.message.specs.declared.MessageHeader.{MessageHeader}
 use Rattle.handshake.specs.Commands.{servicesCid, versionCid, roleOfKind, roleOf, versionListed}
 use Rattle.handshake.specs.Run.{headed, listedAs}
 use Rattle.handshake.specs.declared.Role.the-variants as role
-use Rattle.lent_claims.specs.Given.{Each32, Bytes, messageWords}
+use Rattle.lent_claims.specs.Given.{WordsOfWidth, Bytes, messageWords}
 use Rattle.lent_claims.proofs.AssemblyServes.{word-small}
 use Rattle.lent_claims.proofs.Fields.{bytes-of}
 
@@ -58,7 +58,7 @@ unfolding extensions
 bytes-extensions = bytes-of extensions refl
 
 -- a header with the id that the bytes s are, and numbers below 2 ^ 32
-header-small : (s : List ℕ) (t cid word : ℕ) → Bytes s → t < 2 ^ 32 → cid < 2 ^ 32 → word < 2 ^ 32 → Each32 (messageWords (headed t 1 (idAt s 0) cid word))
+header-small : (s : List ℕ) (t cid word : ℕ) → Bytes s → t < 2 ^ 32 → cid < 2 ^ 32 → word < 2 ^ 32 → WordsOfWidth (messageWords (headed t 1 (idAt s 0) cid word))
 unfolding idAt u32At
 header-small s t cid word b lt lc lw =
     (lt, (omega arith, (word-small s 0 b, (word-small s 4 b, (word-small s 8 b, (word-small s 12 b, (lc, (lw, tt))))))))
@@ -73,13 +73,13 @@ version type word = headed type 1 (idAt extensions 0) versionCid word
 abbrev pub other : MessageHeader
 other = headed COMMAND 1 (idAt basicConnect 0) 0 0
 
-pub services-small : (t : ℕ) → t < 2 ^ 32 → Each32 (messageWords (services t))
+pub services-small : (t : ℕ) → t < 2 ^ 32 → WordsOfWidth (messageWords (services t))
 services-small t l = header-small basicConnect t servicesCid 0 bytes-basic l (omega arith) (omega arith)
 
-pub version-small : (t w : ℕ) → t < 2 ^ 32 → w < 2 ^ 32 → Each32 (messageWords (version t w))
+pub version-small : (t w : ℕ) → t < 2 ^ 32 → w < 2 ^ 32 → WordsOfWidth (messageWords (version t w))
 version-small t w l k = header-small extensions t versionCid w bytes-extensions l (omega arith) k
 
-pub other-small : Each32 (messageWords other)
+pub other-small : WordsOfWidth (messageWords other)
 other-small = header-small basicConnect COMMAND 0 0 bytes-basic (omega arith) (omega arith) (omega arith)
 
 -- ---- what they are to the handshake

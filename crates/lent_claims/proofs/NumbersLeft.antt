@@ -108,13 +108,13 @@ kept-word p e known = go (taken p e)
 
 waits-fits : (p : Progress) → Waits p → strayWord (p .message) ≡ false → aboveCarried p ≡ false → progressVerdict p ≡ Fits
 unfolding progressVerdict
-waits-fits p w word carried =
+waits-fits p w word headerSeen =
     let some : p .total ≡ 0 → ⊥ = λ e. omega (arith, w .unfinished, e) in
     let begun : p .next ≡ 0 → ⊥ = λ e. omega (arith, w .begun, e) in
     rw (ne-eqb _ _ some)
     (kept-fits (pendingRules p) (
       ap not (w .known),
-      (word, (le-ltb _ _ (w .few), (ne-eqb _ _ begun, (lt-leb _ _ (w .unfinished), (le-ltb _ _ (w .declared), (le-ltb _ _ (w .within), (carried, tt))))))),
+      (word, (le-ltb _ _ (w .few), (ne-eqb _ _ begun, (lt-leb _ _ (w .unfinished), (le-ltb _ _ (w .declared), (le-ltb _ _ (w .within), (headerSeen, tt))))))),
     ))
 
 pub left-fits : (a : Assembly) (s : List ℕ) (p : Progress) → progressVerdict (a .progress) ≡ Fits → Left a s p → progressVerdict p ≡ Fits

@@ -25,10 +25,10 @@ use Rattle.assembler.specs.Run.{Piece, runOf}
 use Rattle.assembler.specs.declared.Progress.{Progress}
 use Rattle.assembler.specs.declared.Assembly.{Assembly}
 use Rattle.cutter.specs.Cut.{headerBytes, fragmentBytes, wordBytes, openingBytes, firstBytes}
-use Rattle.exchange.specs.Messages.{Fits32, carried}
+use Rattle.exchange.specs.Messages.{OfWidth, headerSeen}
 use Rattle.exchange.proofs.Runs.{held, first-step, next-step, gather-wait}
 use Rattle.lent.specs.LentAssembly.{strayWord, aboveCarried, pendingRules, progressVerdict}
-use Rattle.lent_claims.specs.Given.{Each32, Bytes}
+use Rattle.lent_claims.specs.Given.{WordsOfWidth, Bytes}
 use Rattle.lent_claims.specs.AssemblyMemory.{wordsOf, AllBytes, NumbersReached, NumbersTakenExactly}
 use Rattle.lent_claims.proofs.NumbersLeft.{Taken, none, waiting as pending, taken, reached-fits}
 
@@ -97,9 +97,9 @@ piece s = record { bytes = s; room = 0 }
 
 -- the progress once `number` fragments came
 abbrev at : MessageHeader → ℕ → ℕ → ℕ → ℕ → Progress
-at m total declared number gathered = record { message = carried m; total = total; next = number; «information_length» = declared; gathered = gathered }
+at m total declared number gathered = record { message = headerSeen m; total = total; next = number; «information_length» = declared; gathered = gathered }
 
-module _ (m : MessageHeader) (F : Fits32 m) (known : isFragmented (m .«message_type») ≡ true) (word : wrongWord m ≡ false) (total declared : ℕ) (few : total ≤ 128) (small : declared ≤ mostInformation) where
+module _ (m : MessageHeader) (F : OfWidth m) (known : isFragmented (m .«message_type») ≡ true) (word : wrongWord m ≡ false) (total declared : ℕ) (few : total ≤ 128) (small : declared ≤ mostInformation) where
   begins : (xs : List ℕ) → 1 < total → length xs ≤ declared → firstLength (m .«message_type») + length xs ≤ mostTransfer → (a : Assembly)
       → (b : List ℕ) × (stepOf a (firstBytes m total declared xs) 0 .assembly ≡ held m total declared 1 (0 + length xs) b)
   unfolding waiting
@@ -177,7 +177,7 @@ module _ (m : MessageHeader) (F : Fits32 m) (known : isFragmented (m .«message_
 
 -- ---- any numbers that are taken
 
-words-fit : (p : Progress) → Each32 (wordsOf p) → Fits32 (p .message)
+words-fit : (p : Progress) → WordsOfWidth (wordsOf p) → OfWidth (p .message)
 words-fit p x = record {
   type32 = x .0;
   transaction32 = x .1 .0;
@@ -189,12 +189,12 @@ words-fit p x = record {
   word32 = x .1 .1 .1 .1 .1 .1 .1 .0;
 }
 
--- a word that a first fragment has is carried as it is, and is none that the judge refuses
-own-word : (m : MessageHeader) → strayWord m ≡ false → (carried m ≡ m) × (wrongWord m ≡ false)
-unfolding strayWord carried wrongWord
+-- a word that a first fragment has is headerSeen as it is, and is none that the judge refuses
+own-word : (m : MessageHeader) → strayWord m ≡ false → (headerSeen m ≡ m) × (wrongWord m ≡ false)
+unfolding strayWord headerSeen wrongWord
 own-word m k = go (eqb (m .«message_type») INDICATE-STATUS) refl
   where
-    go : (b : Bool) → eqb (m .«message_type») INDICATE-STATUS ≡ b → (carried m ≡ m) × (wrongWord m ≡ false)
+    go : (b : Bool) → eqb (m .«message_type») INDICATE-STATUS ≡ b → (headerSeen m ≡ m) × (wrongWord m ≡ false)
     go true e =
         let w : m .word ≡ 0 = equal-kept (m .word) 0 (rw e at k) in (
           rw e (λ i. record { «message_type» = m .«message_type»; transaction = m .transaction; service = m .service; cid = m .cid; word = sym w i }),
@@ -210,7 +210,7 @@ carried-fits p n k = go (and-cases (eqb (p .next) 1) _ k)
     go (inl e) = absurd (eqb-false (p .next) 1 e n)
     go (inr e) = ltb-false _ _ e
 
-pub numbers-reached : (p : Progress) → Each32 (wordsOf p) → progressVerdict p ≡ Fits → NumbersReached p
+pub numbers-reached : (p : Progress) → WordsOfWidth (wordsOf p) → progressVerdict p ≡ Fits → NumbersReached p
 unfolding runOf
 numbers-reached p x e = go (taken p e)
   where

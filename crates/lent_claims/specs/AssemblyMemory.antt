@@ -11,7 +11,7 @@ use Rattle.assembler.specs.Door.{Seen, receiveAll}
 use Rattle.assembler.specs.declared.Progress.{Progress}
 use Rattle.assembler.specs.declared.Assembly.{Assembly}
 use Rattle.lent.specs.LentAssembly.{assemblySize, progressIn, bufferIn, progressVerdict, emptied, Receiving, receiveIn}
-use Rattle.lent_claims.specs.Given.{Each32, Bytes}
+use Rattle.lent_claims.specs.Given.{WordsOfWidth, Bytes}
 
 -- the numbers of an assembly
 abbrev pub wordsOf : Progress → List ℕ
@@ -32,7 +32,7 @@ pub record NumbersReached (p : Progress) : Type 0 where
 
 -- they are the numbers that are taken; the bytes of the buffer are not looked at
 abbrev pub NumbersTakenExactly : Type 0
-NumbersTakenExactly = (p : Progress) → Each32 (wordsOf p) → (progressVerdict p ≡ Fits → NumbersReached p) × (NumbersReached p → progressVerdict p ≡ Fits)
+NumbersTakenExactly = (p : Progress) → WordsOfWidth (wordsOf p) → (progressVerdict p ≡ Fits → NumbersReached p) × (NumbersReached p → progressVerdict p ≡ Fits)
 
 -- ---- the memory m holds the assembly a, one that the next call takes
 
@@ -41,7 +41,7 @@ pub record Holds (m : List ℕ) (a : Assembly) : Type 0 where
   pub numbers : progressIn m ≡ a .progress
   pub buffer : bufferIn m ≡ a .bytes
   pub fits : progressVerdict (a .progress) ≡ Fits
-  pub small : Each32 (wordsOf (a .progress))
+  pub small : WordsOfWidth (wordsOf (a .progress))
 
 -- ---- a run in memory
 

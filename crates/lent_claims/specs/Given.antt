@@ -4,9 +4,9 @@ use mathlib.Core.List.{List, [], _∷_}
 use lib.ListN.{getD}
 use Rattle.message.specs.declared.MessageHeader.{MessageHeader}
 
-abbrev pub Each32 : List ℕ → Type 0
-Each32 [] = Unit
-Each32 (x ∷ xs) = (x < 2 ^ 32) × Each32 xs
+abbrev pub WordsOfWidth : List ℕ → Type 0
+WordsOfWidth [] = Unit
+WordsOfWidth (x ∷ xs) = (x < 2 ^ 32) × WordsOfWidth xs
 
 -- the numbers of a message's header
 abbrev pub messageWords : MessageHeader → List ℕ

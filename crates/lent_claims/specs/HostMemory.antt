@@ -12,7 +12,7 @@ use Rattle.handshake.specs.declared.host.HostMade.the-variants as made
 use Rattle.handshake.specs.declared.host.HostAnswer.{HostAnswer}
 use Rattle.handshake.specs.declared.host.HostAnswer.the-variants.{Unchanged}
 use Rattle.lent_ends.specs.LentHost.{hostSize, hostBytes, hostRules, hostAt, makeIn, openIn, closeIn, receiveIn, askIn}
-use Rattle.lent_claims.specs.Given.{Each32, Bytes, messageWords}
+use Rattle.lent_claims.specs.Given.{WordsOfWidth, Bytes, messageWords}
 use Rattle.lent_claims.specs.Turns.{Turn, turn, Reached, TakenExactly, Serves}
 
 -- ---- calls
@@ -20,7 +20,7 @@ use Rattle.lent_claims.specs.Turns.{Turn, turn, Reached, TakenExactly, S
 abbrev pub HostGiven : HostCall → Type 0
 HostGiven (host-opens advertised) = advertised < 2 ^ 16
 HostGiven host-closes = Unit
-HostGiven (host-receives h s) = Each32 (messageWords h) × Bytes s
+HostGiven (host-receives h s) = WordsOfWidth (messageWords h) × Bytes s
 HostGiven (host-asks out) = Bytes out
 
 -- what a call is answered; closing by 'unchanged'

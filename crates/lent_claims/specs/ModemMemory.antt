@@ -13,7 +13,7 @@ use Rattle.handshake.specs.declared.modem.ModemMade.the-variants as made
 use Rattle.lent.specs.Stored.{Stored}
 use Rattle.lent_ends.specs.LentModem.{modemSize, modemBytes, modemRules, modemAt, makeIn, restartIn, ModemCalled, receiveIn}
 use Rattle.lent_ends.specs.declared.modem.ModemReply.{ModemReply}
-use Rattle.lent_claims.specs.Given.{Each32, Bytes, messageWords}
+use Rattle.lent_claims.specs.Given.{WordsOfWidth, Bytes, messageWords}
 use Rattle.lent_claims.specs.Turns.{Turn, turn, Reached, TakenExactly, Serves}
 
 -- ---- calls: OPEN, CLOSE, and a message with its information and the lent output
@@ -21,7 +21,7 @@ use Rattle.lent_claims.specs.Turns.{Turn, turn, Reached, TakenExactly, S
 abbrev pub ModemGiven : ModemCall → Type 0
 ModemGiven modem-opens = Unit
 ModemGiven modem-closes = Unit
-ModemGiven (modem-receives h s out) = Each32 (messageWords h) × Bytes s × Bytes out
+ModemGiven (modem-receives h s out) = WordsOfWidth (messageWords h) × Bytes s × Bytes out
 
 -- what a call is answered: OPEN and CLOSE by a verdict, a message by a reply and the output
 pub data ModemSaid : Type 0 where
