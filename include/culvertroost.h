@@ -108,7 +108,7 @@ enum cvr_refusal_number {
     CVR_WRONG_SIZE = 8,
     /* A number or a bit outside its table. */
     CVR_OUTSIDE_TABLE = 9,
-    /* Fields contradict each other. */
+    /* Fields contradict each other, or lent memory holds numbers that no calls can have left. */
     CVR_CONTRADICTION = 10,
     /* Lent output or memory is too small. Place: the bytes needed. */
     CVR_OUTPUT_TOO_SMALL = 11,
@@ -657,6 +657,7 @@ uint32_t cvr_transaction_next(uint32_t transaction);
  * of its 32-bit numbers are judged: */
 
 #define CVR_AT_ASSEMBLY_MESSAGE_TYPE 0
+#define CVR_AT_ASSEMBLY_WORD 28
 #define CVR_AT_ASSEMBLY_TOTAL 32
 #define CVR_AT_ASSEMBLY_NEXT 36               /* the fragment expected */
 #define CVR_AT_ASSEMBLY_INFORMATION_LENGTH 40 /* as the first fragment declared it */
@@ -687,18 +688,19 @@ cvr_refusal cvr_assembly_empty(uint8_t *memory, size_t size);
  *   memory too small    OUTPUT_TOO_SMALL; the memory stays as it was.
  *   a whole type at 0   Judged as by cvr_message_judge; the memory stays as it was, refused or not.
  *   anything else       A fragment; refused, it leaves an empty assembly, and so does a complete message.
- *     Refuses: for the memory, where no call can have left it: CONTRADICTION at 32 (no total, but other
- *     numbers); OUTSIDE_TABLE at 0, 32, 36, 40, 44. For the piece: TOO_SHORT (under 20); WRONG_LENGTH at
- *     4; WRONG_TRANSFER_SIZE at 4; UNKNOWN at 0; WRONG_FRAGMENT at 12, 16. A first fragment: TOO_SHORT;
- *     OUTSIDE_TABLE at 40 (a command's type); TOO_LONG, then WRONG_LENGTH, at 44, in an indication at
- *     40. A later one: WRONG_FRAGMENT at 16 (not the one expected); WRONG_LENGTH at 4 (more or fewer
- *     bytes than declared). The last: OUTPUT_TOO_SMALL. */
+ *     Refuses: for the memory, where no calls can have left its numbers, CONTRADICTION, which no piece
+ *     meets: at 32 (no total, but other numbers), 0, 28, 32, 36, 40, 44. The bytes that came are not
+ *     looked at. For the piece: TOO_SHORT (under 20); WRONG_LENGTH at 4; WRONG_TRANSFER_SIZE at 4;
+ *     UNKNOWN at 0; WRONG_FRAGMENT at 12, 16. A first fragment: TOO_SHORT; OUTSIDE_TABLE at 40 (a
+ *     command's type); TOO_LONG, then WRONG_LENGTH, at 44, in an indication at 40. A later one:
+ *     WRONG_FRAGMENT at 16 (not the one expected); WRONG_LENGTH at 4 (more or fewer bytes than
+ *     declared). The last: OUTPUT_TOO_SMALL. */
 cvr_receive_answer cvr_receive(uint8_t *memory, size_t size, const uint8_t *piece, size_t length,
                                uint8_t *out, size_t room);
 
 /* ---- the host's end of the handshake -----------------------------------------------------------
  * Its memory is CVR_HOST_SIZE bytes, three 16-bit numbers. Every function but make judges it first.
- * Refuses: OUTPUT_TOO_SMALL; OUTSIDE_TABLE at 0, 2, 4, where no call can have left it. */
+ * Refuses: OUTPUT_TOO_SMALL; CONTRADICTION at 0, 2, 4, where no calls can have left its numbers. */
 
 #define CVR_AT_HOST_NATIVE 0
 #define CVR_AT_HOST_STAGE 2   /* enum cvr_host_stage */
@@ -781,8 +783,7 @@ cvr_host_answer cvr_host_receive(uint8_t *memory, size_t size, cvr_message_heade
 
 /* ---- the modem's end of the handshake ----------------------------------------------------------
  * Its memory is CVR_MODEM_SIZE bytes, five 16-bit numbers. Every function but make judges it first.
- * Refuses: OUTPUT_TOO_SMALL; OUTSIDE_TABLE at 0, 2, 4, 6, 8, where no call can have left it;
- * CONTRADICTION at 2 (advertised above native). */
+ * Refuses: OUTPUT_TOO_SMALL; CONTRADICTION at 0, 2, 4, 6, 8, where no calls can have left its numbers. */
 
 #define CVR_AT_MODEM_NATIVE 0
 #define CVR_AT_MODEM_ADVERTISED 2

@@ -200,6 +200,15 @@ static cvr_modem_answer command(uint8_t *modem, uint32_t cid, uint32_t type, con
                              information->bytes, information->length, out, sizeof out);
 }
 
+static void modem_at(uint8_t *modem, int stage, uint16_t advertised, const payload *services)
+{
+    cvr_modem_make(modem, CVR_MODEM_SIZE, V2, advertised, services->bytes, services->length);
+    if (stage >= CVR_MODEM_LISTED)
+        command(modem, CVR_CID_DEVICE_SERVICES, CVR_QUERY, &broken);
+    if (stage == CVR_MODEM_SETTLED)
+        command(modem, CVR_CID_VERSION, CVR_QUERY, &version_2);
+}
+
 static void modem_table(void)
 {
     int i;
@@ -207,12 +216,7 @@ static void modem_table(void)
         const modem_row *row = &modem_rows[i];
         uint8_t modem[CVR_MODEM_SIZE];
         cvr_modem_answer answer;
-        cvr_modem_make(modem, sizeof modem, V2, row->advertised, row->services->bytes,
-                       row->services->length);
-        if (row->stage >= CVR_MODEM_LISTED)
-            command(modem, CVR_CID_DEVICE_SERVICES, CVR_QUERY, &broken);
-        if (row->stage == CVR_MODEM_SETTLED)
-            command(modem, CVR_CID_VERSION, CVR_QUERY, &version_2);
+        modem_at(modem, row->stage, row->advertised, row->services);
         check("modem", i, "the stage before", modem[CVR_AT_MODEM_STAGE], (uint64_t)row->stage);
         answer = command(modem, row->cid, row->type, row->information);
         check("modem", i, "the refusal", answer.refusal.number, CVR_NO_REFUSAL);
@@ -230,27 +234,30 @@ typedef struct fault {
     char memory; /* assembly, host or modem */
     int at;
     uint8_t byte;
-    uint32_t refusal;
-    uint64_t place;
+    uint64_t place; /* of the refusal, CVR_CONTRADICTION */
 } fault;
 
 static const fault faults[] = {
-    {'a', CVR_AT_ASSEMBLY_MESSAGE_TYPE, 1, CVR_OUTSIDE_TABLE, 0},
-    {'a', CVR_AT_ASSEMBLY_TOTAL, 129, CVR_OUTSIDE_TABLE, 32},
-    {'a', CVR_AT_ASSEMBLY_TOTAL, 0, CVR_CONTRADICTION, 32},
-    {'a', CVR_AT_ASSEMBLY_NEXT, 0, CVR_OUTSIDE_TABLE, 36},
-    {'a', CVR_AT_ASSEMBLY_NEXT, 2, CVR_OUTSIDE_TABLE, 36},
-    {'a', CVR_AT_ASSEMBLY_INFORMATION_LENGTH + 1, 17, CVR_OUTSIDE_TABLE, 40},
-    {'a', CVR_AT_ASSEMBLY_GATHERED, 51, CVR_OUTSIDE_TABLE, 44},
-    {'h', CVR_AT_HOST_NATIVE, 1, CVR_OUTSIDE_TABLE, 0},
-    {'h', CVR_AT_HOST_STAGE, 4, CVR_OUTSIDE_TABLE, 2},
-    {'h', CVR_AT_HOST_VERSION, 1, CVR_OUTSIDE_TABLE, 4},
-    {'m', CVR_AT_MODEM_NATIVE, 1, CVR_OUTSIDE_TABLE, 0},
-    {'m', CVR_AT_MODEM_ADVERTISED, 1, CVR_OUTSIDE_TABLE, 2},
-    {'m', CVR_AT_MODEM_LISTS_VERSION, 2, CVR_OUTSIDE_TABLE, 4},
-    {'m', CVR_AT_MODEM_STAGE, 3, CVR_OUTSIDE_TABLE, 6},
-    {'m', CVR_AT_MODEM_VERSION, 1, CVR_OUTSIDE_TABLE, 8},
-    {'m', CVR_AT_MODEM_NATIVE + 1, 1, CVR_CONTRADICTION, 2},
+    {'a', CVR_AT_ASSEMBLY_MESSAGE_TYPE, 1, 0},
+    {'a', CVR_AT_ASSEMBLY_WORD, 7, 28},
+    {'a', CVR_AT_ASSEMBLY_TOTAL, 129, 32},
+    {'a', CVR_AT_ASSEMBLY_TOTAL, 0, 32},
+    {'a', CVR_AT_ASSEMBLY_NEXT, 0, 36},
+    {'a', CVR_AT_ASSEMBLY_NEXT, 2, 36},
+    {'a', CVR_AT_ASSEMBLY_INFORMATION_LENGTH + 1, 17, 40},
+    {'a', CVR_AT_ASSEMBLY_GATHERED, 51, 44},
+    {'h', CVR_AT_HOST_NATIVE, 1, 0},
+    {'h', CVR_AT_HOST_STAGE, 4, 2},
+    {'h', CVR_AT_HOST_VERSION, 1, 4},
+    {'h', CVR_AT_HOST_NATIVE + 1, 1, 4}, /* of 1.00, settled at 2.00 */
+    {'m', CVR_AT_MODEM_NATIVE, 1, 0},
+    {'m', CVR_AT_MODEM_ADVERTISED, 1, 2},
+    {'m', CVR_AT_MODEM_LISTS_VERSION, 2, 4},
+    {'m', CVR_AT_MODEM_STAGE, 3, 6},
+    {'m', CVR_AT_MODEM_VERSION, 1, 8},
+    {'m', CVR_AT_MODEM_NATIVE + 1, 1, 2}, /* advertised above native */
+    {'m', CVR_AT_MODEM_LISTS_VERSION, 0, 8}, /* settled at 2.00, VERSION not listed */
+    {'m', CVR_AT_MODEM_VERSION + 1, 1, 8}, /* settled below the advertised version */
 };
 
 /* An assembly with the first of two fragments, whose second is left in `piece`. */
@@ -278,13 +285,13 @@ static void memory_table(void)
         if (f->memory == 'h')
             host_at(memory, CVR_HOST_SETTLED, V2, V1);
         if (f->memory == 'm')
-            cvr_modem_make(memory, CVR_MODEM_SIZE, V2, V2, listed.bytes, listed.length);
+            modem_at(memory, CVR_MODEM_SETTLED, V2, &listed);
         memory[f->at] = f->byte;
         memcpy(before, memory, sizeof before);
         refusal = f->memory == 'a' ? cvr_receive(memory, sizeof memory, piece, length, NULL, 0).refusal
                   : f->memory == 'h' ? cvr_host_close(memory, CVR_HOST_SIZE).refusal
                                      : cvr_modem_close(memory, CVR_MODEM_SIZE);
-        check("memory", i, "the refusal", refusal.number, f->refusal);
+        check("memory", i, "the refusal", refusal.number, CVR_CONTRADICTION);
         check("memory", i, "the place", refusal.place, f->place);
         if (f->memory == 'a')
             memset(before, 0, sizeof before);

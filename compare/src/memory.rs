@@ -1,12 +1,13 @@
 //! Hostile memory, lent for an assembly, a host or a modem: too small, random, or damaged. It must
-//! give the refusal that the header names, or a good answer that leaves good memory; everything
-//! outside stays as it was.
+//! give the refusal that the second program has for it, or a good answer that leaves good memory;
+//! everything outside stays as it was.
 
 use crate::lent::Lent;
-use crate::library::{accepted, is_whole, u16_at, u32_at, Refusable, Stop, WHOLE};
+use crate::library::{accepted, is_whole, u32_at, Refusable, Stop, WHOLE};
 use crate::payloads::put;
 use crate::random::Random;
 use culvertroost::c::{self, *};
+use second::memory::{judge_assembly, judge_host, judge_modem};
 use second::message::{COMMAND, COMMAND_DONE, INDICATE_STATUS};
 
 /// How many wrong cases are printed.
@@ -45,6 +46,11 @@ fn refusal(number: u32, place: usize) -> Option<Refusal> {
     Some(Refusal { number, place: place as u64 })
 }
 
+/// The refusal that the second program has for memory.
+fn expected(judged: Result<(), second::refusal::Refusal>) -> Option<Refusal> {
+    judged.err().and_then(|judged| refusal(judged.number, judged.place))
+}
+
 /// The refusal in an answer, if there is one and nothing beside it.
 fn refusal_in<T: Refusable>(answer: T) -> Outcome {
     match accepted(answer) {
@@ -54,13 +60,12 @@ fn refusal_in<T: Refusable>(answer: T) -> Outcome {
     }
 }
 
-/// Bad memory gives its refusal; good memory gives none by 9 or 10, which nothing else here brings.
+/// Bad memory gives its refusal; good memory gives none by 10, which nothing else here brings.
 fn need_refusal(refused: Option<Refusal>, expected: Option<Refusal>) -> Result<(), &'static str> {
     if expected.is_some() {
         return need(refused == expected, "another refusal");
     }
-    let of_memory = |refusal: Refusal| matches!(refusal.number, 9 | 10);
-    need(!refused.is_some_and(of_memory), "good memory refused")
+    need(refused.is_none_or(|refusal| refusal.number != 10), "good memory refused")
 }
 
 fn need(holds: bool, what: &'static str) -> Result<(), &'static str> {
@@ -79,27 +84,8 @@ fn size(random: &mut Random, needed: usize) -> usize {
 
 // ---- the assembly
 
-/// What the header says of memory for an assembly, if it is to be refused.
 fn assembly_refusal(memory: &[u8]) -> Option<Refusal> {
-    if memory.len() < ASSEMBLY_SIZE {
-        return refusal(11, ASSEMBLY_SIZE);
-    }
-    let [total, next, declared, gathered] = [32, 36, 40, 44].map(|at| u32_at(memory, at));
-    if total == 0 {
-        let empty = memory[..48].iter().all(|byte| *byte == 0);
-        return if empty { None } else { refusal(10, 32) };
-    }
-    match u32_at(memory, 0) {
-        COMMAND | COMMAND_DONE | INDICATE_STATUS => {}
-        _ => return refusal(9, 0),
-    }
-    match () {
-        _ if total > 128 => refusal(9, 32),
-        _ if next == 0 || next >= total => refusal(9, 36),
-        _ if declared > 4096 => refusal(9, 40),
-        _ if gathered > declared => refusal(9, 44),
-        _ => None,
-    }
+    expected(judge_assembly(memory))
 }
 
 fn assembly_memory(random: &mut Random) -> Vec<u8> {
@@ -115,10 +101,11 @@ fn assembly_memory(random: &mut Random) -> Vec<u8> {
     let fields = [
         (0, random.mostly(&types) as u32),
         (4, 7),
+        (28, random.mostly(&[0, 0, 0, 1]) as u32),
         (32, random.mostly(&[0, 1, 2, 3, 128]) as u32),
         (36, random.mostly(&[1, 1, 1, 2, 127]) as u32),
         (40, declared),
-        (44, random.mostly(&[0, declared / 2, declared]) as u32),
+        (44, random.mostly(&[0, declared / 2, declared, 4048, 4049, 4052]) as u32),
     ];
     fields.iter().for_each(|(at, word)| put(&mut memory, *at, *word));
     memory
@@ -231,40 +218,12 @@ type End = (usize, fn(&[u8]) -> Option<Refusal>);
 const HOST: End = (HOST_SIZE, host_refusal);
 const MODEM: End = (MODEM_SIZE, modem_refusal);
 
-fn is_version(number: u16) -> bool {
-    matches!(number, 0x0100 | 0x0200)
-}
-
-/// What the header says of memory for a host, if it is to be refused.
 fn host_refusal(memory: &[u8]) -> Option<Refusal> {
-    if memory.len() < HOST_SIZE {
-        return refusal(11, HOST_SIZE);
-    }
-    let [native, stage, version] = [0, 2, 4].map(|at| u16_at(memory, at));
-    let fits = if stage == 0 { version == 0 } else { is_version(version) };
-    match () {
-        _ if !is_version(native) => refusal(9, 0),
-        _ if stage > 3 => refusal(9, 2),
-        _ if !fits => refusal(9, 4),
-        _ => None,
-    }
+    expected(judge_host(memory))
 }
 
 fn modem_refusal(memory: &[u8]) -> Option<Refusal> {
-    if memory.len() < MODEM_SIZE {
-        return refusal(11, MODEM_SIZE);
-    }
-    let [native, advertised, flag, stage, version] = [0, 2, 4, 6, 8].map(|at| u16_at(memory, at));
-    let fits = if stage == 2 { is_version(version) } else { version == 0 };
-    match () {
-        _ if !is_version(native) => refusal(9, 0),
-        _ if !is_version(advertised) => refusal(9, 2),
-        _ if flag > 1 => refusal(9, 4),
-        _ if stage > 2 => refusal(9, 6),
-        _ if !fits => refusal(9, 8),
-        _ if advertised > native => refusal(10, 2),
-        _ => None,
-    }
+    expected(judge_modem(memory))
 }
 
 /// Memory of numbers that an end may hold, now and then others.
@@ -327,7 +286,7 @@ fn modem(random: &mut Random) -> Outcome {
     let mut out = Lent::filled(random.below(8));
     let mut message = message(random, COMMAND);
     if modem_refusal(&before).is_some() && random.once_in(2) {
-        message.transaction = 0; // refused by 9 too, but only after the memory
+        message.transaction = 0; // refused too, but only after the memory
     }
     let refused = match random.below(6) {
         0 => refusal_in(c::modem_open(memory.memory())),

@@ -61,8 +61,8 @@ const FILL: u8 = 0xAA;
 const FILL_WORD: u32 = 0xAAAA_AAAA;
 
 /// How many bytes of memory an assembly and a modem take.
-pub const ASSEMBLY_SIZE: u64 = 4144;
-pub const MODEM_SIZE: u64 = 10;
+pub const ASSEMBLY_SIZE: u64 = crate::memory::ASSEMBLY_SIZE as u64;
+pub const MODEM_SIZE: u64 = crate::memory::MODEM_SIZE as u64;
 
 /// The assembly, the host and the modem that stand between questions.
 #[derive(Default)]
@@ -95,7 +95,7 @@ impl Second {
                 self.assembler = Assembler::new();
                 plain(&[])
             }
-            question::SHOW_ASSEMBLY => show_assembly(&self.assembler),
+            question::SHOW_ASSEMBLY => with_output(&[], assembly_memory(&self.assembler)),
             question::MAKE_HOST => make_host(&mut self.host, &asked),
             question::MAKE_MODEM => make_modem(&mut self.modem, &asked),
             question::HOST_OPEN..=question::HOST_RECEIVE | question::SHOW_HOST => {
@@ -521,7 +521,7 @@ fn judge_memory(size: u64, needed: u64) -> Result<(), Refusal> {
 }
 
 /// The memory of an assembly: 48 bytes of numbers, all 0 where it is empty, and the bytes gathered.
-fn show_assembly(assembler: &Assembler) -> Flat {
+pub(crate) fn assembly_memory(assembler: &Assembler) -> Vec<u8> {
     let mut memory = vec![0; 48];
     if let Some(progress) = assembler.progress() {
         let header = progress.header;
@@ -534,7 +534,7 @@ fn show_assembly(assembler: &Assembler) -> Flat {
         memory.extend((progress.gathered as u32).to_le_bytes());
     }
     memory.extend(assembler.bytes());
-    with_output(&[], memory)
+    memory
 }
 
 fn cut(asked: &Asked) -> Flat {
@@ -611,7 +611,7 @@ fn ask_host(host: &mut Host, question: u32, asked: &Asked) -> Flat {
             let (header, information) = asked.message(0);
             reply(host.receive(&header, information))
         }
-        question::SHOW_HOST => show_host(host),
+        question::SHOW_HOST => memory(&host_numbers(host)),
         _ => none(),
     }
 }
@@ -640,14 +640,14 @@ fn reply(answer: ReplyAnswer) -> Flat {
     }
 }
 
-fn show_host(host: &Host) -> Flat {
+pub(crate) fn host_numbers(host: &Host) -> [u16; 3] {
     let (stage, version) = match host.state() {
         host::State::Closed => (0, 0),
         host::State::Opened { advertised } => (1, advertised.bcd()),
         host::State::Awaiting { advertised } => (2, advertised.bcd()),
         host::State::Settled { version } => (3, version.bcd()),
     };
-    memory(&[host.native().bcd(), stage, version])
+    [host.native().bcd(), stage, version]
 }
 
 /// The memory of an end, which is numbers of 16 bits.
@@ -666,7 +666,7 @@ fn ask_modem(modem: &mut Modem, question: u32, asked: &Asked) -> Flat {
             plain(&[])
         }
         question::MODEM_RECEIVE => modem_receive(modem, asked),
-        question::SHOW_MODEM => show_modem(modem),
+        question::SHOW_MODEM => memory(&modem_numbers(modem)),
         _ => none(),
     }
 }
@@ -690,14 +690,14 @@ fn modem_receive(modem: &mut Modem, asked: &Asked) -> Flat {
     with_output(&[action, status.into(), kind, version.into(), place, length], output)
 }
 
-fn show_modem(modem: &Modem) -> Flat {
+pub(crate) fn modem_numbers(modem: &Modem) -> [u16; 5] {
     let (stage, version) = match modem.state() {
         modem::State::Start => (0, 0),
         modem::State::Listed => (1, 0),
         modem::State::Settled { version } => (2, version.bcd()),
     };
     let (native, advertised) = (modem.native().bcd(), modem.advertised().bcd());
-    memory(&[native, advertised, modem.lists_version().into(), stage, version])
+    [native, advertised, modem.lists_version().into(), stage, version]
 }
 
 #[cfg(test)]

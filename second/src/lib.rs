@@ -12,6 +12,7 @@ pub mod device_services;
 pub mod door;
 pub mod flat;
 pub mod handshake;
+pub mod memory;
 pub mod message;
 pub mod packet_service;
 pub mod payload;
