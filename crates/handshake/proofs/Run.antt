@@ -53,9 +53,9 @@ kind-version = refl
 
 -- ---- the bytes of VERSION
 
-pub number-back : (v : Version) → versionOf (numberOf v) ≡ v
-number-back V1 = refl
-number-back V2 = refl
+pub version-back : (v : Version) → versionOf (numberOf v) ≡ v
+version-back V1 = refl
+version-back V2 = refl
 
 fits : (v : Version) → verdictOf (infoOf v) ≡ Fits
 unfolding verdictOf rules judgeFrom firstOf faultIf infoOf
@@ -70,7 +70,7 @@ written v out h = both-written (verdictOf (infoOf v)) (bytesOf (infoOf v)) out (
 -- the version that a payload carries
 number-in : (v : Version) → versionOf (infoOf v .«bcd_mbim_extended_version») ≡ v
 unfolding infoOf
-number-in v = number-back v
+number-in v = version-back v
 
 bytes-back : (v : Version) → readOf (bytesOf (infoOf v)) ≡ Info (infoOf v)
 bytes-back v = bytes-read (infoOf v) (fits v)

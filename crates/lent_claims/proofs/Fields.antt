@@ -90,10 +90,6 @@ pub known : (v : Version) → isExtension (numberOf v) ≡ true
 known V1 = refl
 known V2 = refl
 
-pub same : (v : Version) → versionOf (numberOf v) ≡ v
-same V1 = refl
-same V2 = refl
-
 -- the number of a version, and the version's number again
 pub number-back : (n : ℕ) → isExtension n ≡ true → numberOf (versionOf n) ≡ n
 number-back n e = go (extension-cases n e)

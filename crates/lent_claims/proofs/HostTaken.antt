@@ -34,7 +34,8 @@ use Rattle.lent_ends.specs.LentHost.{hostSize, hostBytes, hostRules, hostAt, ho
 use Rattle.lent_claims.specs.Given.{Bytes}
 use Rattle.lent_claims.specs.HostMemory.{answers, hostCall, hostCallIn, HostTakes, HostReached, HostTakenExactly, HostMemoryServes}
 use Rattle.lent_claims.proofs.Serves.{run-holds, run-sound}
-use Rattle.lent_claims.proofs.Fields.{first, behind, stored, front-of, small, known, same, number-back, ordered}
+use Rattle.handshake.proofs.Run.{version-back}
+use Rattle.lent_claims.proofs.Fields.{first, behind, stored, front-of, small, known, number-back, ordered}
 use Rattle.lent_claims.proofs.HostReached.{host-reached}
 
 abbrev Sound : Host → Type 0
@@ -75,9 +76,9 @@ stage-kept n (Settled v) k = (refl, refl, ap not (known v), ordered n v k)
 
 stage-back : (s : HostStage) → stageOf (stageNumber s) (versionOf (stageVersion s)) ≡ s
 stage-back Closed = refl
-stage-back (Open v) = ap (λ x. Open x) (same v)
-stage-back (AwaitsVersion v) = ap (λ x. AwaitsVersion x) (same v)
-stage-back (Settled v) = ap (λ x. Settled x) (same v)
+stage-back (Open v) = ap (λ x. Open x) (version-back v)
+stage-back (AwaitsVersion v) = ap (λ x. AwaitsVersion x) (version-back v)
+stage-back (Settled v) = ap (λ x. Settled x) (version-back v)
 
 front-taken : (h : Host) (t : List ℕ) → Sound h → HostTakes (hostBytes h ++ t) h
 unfolding hostAt
@@ -89,7 +90,7 @@ front-taken h t k =
         le-ltb _ _ room,
         (rw (f .0) (ap not (known (h .native))), (rw (f .1) (g .0), (rw (f .0, f .1) (g .1), (rw (f .1, f .2) (g .2), (rw (f .0, f .1, f .2) (g .3), tt))))),
       ),
-      rw (f .0, f .1, f .2) (λ i. record { native = same (h .native) i; stage = stage-back (h .stage) i }),
+      rw (f .0, f .1, f .2) (λ i. record { native = version-back (h .native) i; stage = stage-back (h .stage) i }),
     )
 
 pub host-held : (h : Host) (m : List ℕ) → Sound h → hostSize ≤ length m → HostTakes (sets m 0 (hostBytes h)) h

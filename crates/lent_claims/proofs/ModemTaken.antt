@@ -30,7 +30,8 @@ use Rattle.lent_ends.specs.LentModem.{modemSize, modemBytes, stageRules, modemR
 use Rattle.lent_claims.specs.Given.{Bytes}
 use Rattle.lent_claims.specs.ModemMemory.{modemCall, modemCallIn, ModemTakes, ModemReached, ModemTakenExactly, ModemMemoryServes}
 use Rattle.lent_claims.proofs.Serves.{run-holds, run-sound}
-use Rattle.lent_claims.proofs.Fields.{first, behind, stored, front-of, small, known, same, number-back, ordered}
+use Rattle.handshake.proofs.Run.{version-back}
+use Rattle.lent_claims.proofs.Fields.{first, behind, stored, front-of, small, known, number-back, ordered}
 use Rattle.lent_claims.proofs.ModemReached.{modem-reached}
 
 -- ---- the memory of an end that is sound is taken
@@ -91,7 +92,7 @@ stage-kept n a b (Settled v) k = (refl, (ap not (known v), (ordered n v (k .0), 
 stage-back : (s : ModemStage) → stageOf (stageNumber s) (versionOf (settledNumber s)) ≡ s
 stage-back Start = refl
 stage-back Listed = refl
-stage-back (Settled v) = ap (λ y. Settled y) (same v)
+stage-back (Settled v) = ap (λ y. Settled y) (version-back v)
 
 front-taken : (x : Modem) (t : List ℕ) → ModemSound x → ModemTakes (modemBytes x ++ t) x
 unfolding modemAt
@@ -107,7 +108,7 @@ front-taken x t k =
         ),
       ),
       rw (f .0, f .1, f .2, f .3, f .4)
-          (λ i. record { native = same (x .native) i; advertised = same (x .advertised) i; «lists_version» = l .1 i; stage = stage-back (x .stage) i }),
+          (λ i. record { native = version-back (x .native) i; advertised = version-back (x .advertised) i; «lists_version» = l .1 i; stage = stage-back (x .stage) i }),
     )
 
 pub modem-held : (x : Modem) (m : List ℕ) → ModemSound x → modemSize ≤ length m → ModemTakes (sets m 0 (modemBytes x)) x
