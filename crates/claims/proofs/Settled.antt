@@ -19,8 +19,8 @@ use Rattle.services_trip.proofs.RoundTrip.{round-trip}
 use Rattle.handshake.specs.Versions.{infoOf, larger, lower}
 use Rattle.handshake.specs.Modem.{noDeviceSupport}
 use Rattle.handshake.specs.Commands.{versionCid}
-use Rattle.handshake.specs.Run.{Message, asksServices, asksVersion, replyTo, Passes, listedAs}
-use Rattle.handshake.proofs.Run.{ends-settle}
+use Rattle.handshake_claims.specs.Run.{Message, asksServices, asksVersion, replyTo, Passes, listedAs}
+use Rattle.handshake_claims.proofs.Run.{ends-settle}
 use Rattle.services_writer.specs.declared.ServiceList.{ServiceList}
 use Rattle.claims.specs.Transfer.{deviceServices, OfWidth, writeOf as written}
 use Rattle.claims.specs.Wire.{Way, Open, wire, Sendable}

@@ -20,7 +20,7 @@ use Rattle.cutter.proofs.Whole.{most-cut}
 use Rattle.exchange.specs.Messages.{headerSeen, parts, pieces, received}
 use Rattle.exchange.proofs.Delivered.{fragments-received}
 use Rattle.exchange.proofs.Sent.{sent, sent-parts}
-use Rattle.handshake.specs.Run.{Message, Sent, sends}
+use Rattle.handshake_claims.specs.Run.{Message, Sent, sends}
 use Rattle.claims.specs.Wire.{Way, Open, partsBy, lastArrived, arrives, Sendable, ArrivesWhole}
 use Rattle.claims.proofs.Accepts.{HeaderKept, kept-accepted}
 

@@ -1,5 +1,5 @@
 -- Demand 3: host and modem settle on the one version of the rule, or the host refuses in exactly two cases.
--- The run is `run` and the rule `expected` in handshake/specs/Run. Here every command and reply goes over the wire, and the services list is any
+-- The run is `run` and the rule `expected` in handshake_claims/specs/Run. Here every command and reply goes over the wire, and the services list is any
 -- that the writer accepts. Proved in proofs/Settled.
 use Prim.Native.Nat.{ℕ, _≤_, _<_, _^_}
 use mathlib.Core.Path.{_≡_}
@@ -17,7 +17,7 @@ use Rattle.handshake.specs.Versions.{numberOf, above}
 use Rattle.handshake.specs.Commands.{versionCid}
 use Rattle.handshake.specs.Host.{end, openedOf}
 use Rattle.handshake.specs.Modem.{startOf, end as modemEnd}
-use Rattle.handshake.specs.Run.{Message, OtherCommand, Rooms, run, expected, Outcome}
+use Rattle.handshake_claims.specs.Run.{Message, OtherCommand, Rooms, run, expected, Outcome}
 use Rattle.claims.specs.Wire.{Way, Open, wire, Sendable}
 use Rattle.handshake.specs.declared.host.HostStage.{HostStage}
 use Rattle.handshake.specs.declared.modem.ModemStage.{ModemStage}

@@ -16,7 +16,7 @@ use Rattle.cutter.specs.Cut.{cutOf}
 use Rattle.cutter.specs.declared.Cutting.{Cutting}
 use Rattle.cutter.specs.declared.Cutting.the-variants as cutting
 use Rattle.exchange.specs.Messages.{OfWidth, parts, pieces}
-use Rattle.handshake.specs.Run.{Message, Sent, nothing, sends, Line}
+use Rattle.handshake_claims.specs.Run.{Message, Sent, nothing, sends, Line}
 
 -- ---- the way of a message: transfer size, the cutter's output, what the receiver's assembly was fed before, and the room in its output for each piece
 

@@ -18,7 +18,7 @@ use Rattle.protocol.specs.declared.Version.the-variants.{V1, V2}
 use Rattle.protocol.proofs.Tests.{and-both}
 use Rattle.version_info.specs.VersionInfo.{isExtension}
 use Rattle.handshake.specs.Versions.{numberOf, versionOf, above}
-use Rattle.handshake.proofs.Bounded.{extension-cases}
+use Rattle.handshake_claims.proofs.Bounded.{extension-cases}
 use Rattle.lent.proofs.Memory.{lowest}
 use Rattle.lent_claims.specs.Given.{Bytes}
 

@@ -11,7 +11,7 @@ use Rattle.protocol.specs.declared.Version.{Version}
 use Rattle.protocol.specs.declared.Version.the-variants.{V1, V2}
 use Rattle.handshake.specs.Versions.{numberOf, numberVerdict}
 use Rattle.handshake.specs.Host.{end, madeOf, openedOf, listRules, judgedList, listAt, listReply, servicesReplyOf, failedAt, versionReplyOf, replyRole, receiveBy, receiveOf}
-use Rattle.handshake.specs.Calls.{host-opens, host-receives, HostSound}
+use Rattle.handshake_claims.specs.Calls.{host-opens, host-receives, HostSound}
 use Rattle.handshake.specs.declared.host.Host.{Host}
 use Rattle.handshake.specs.declared.host.HostMade.the-variants as made
 use Rattle.handshake.specs.declared.host.HostStage.{HostStage}

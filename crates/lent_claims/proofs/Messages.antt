@@ -15,7 +15,7 @@ use Rattle.device_services.specs.DeviceServices.{elementAt, lengthVerdict, cont
 use Rattle.services_query.specs.ServicesQuery.{isOf, hasCid, holds, listedOf}
 use Rattle.message.specs.declared.MessageHeader.{MessageHeader}
 use Rattle.handshake.specs.Commands.{servicesCid, versionCid, roleOfKind, roleOf, versionListed}
-use Rattle.handshake.specs.Run.{headed, listedAs}
+use Rattle.handshake_claims.specs.Run.{headed, listedAs}
 use Rattle.handshake.specs.declared.Role.the-variants as role
 use Rattle.lent_claims.specs.Given.{WordsOfWidth, Bytes, messageWords}
 use Rattle.lent_claims.proofs.AssemblyServes.{word-small}

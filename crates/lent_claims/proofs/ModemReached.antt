@@ -13,9 +13,9 @@ use Rattle.protocol.specs.declared.Version.{Version}
 use Rattle.protocol.specs.declared.Version.the-variants.{V1, V2}
 use Rattle.version_info.specs.VersionInfo.{recordAt, rules, verdictOf, readOf, bytesOf, writeOf}
 use Rattle.handshake.specs.Versions.{numberOf, infoOf, above}
-use Rattle.handshake.proofs.Bounded.{none-above}
+use Rattle.handshake_claims.proofs.Bounded.{none-above}
 use Rattle.handshake.specs.Modem.{end, madeRules, madeOf, servicesOf, gave, giveOf, answerBy, canAnswer, versionOfCommand, otherAt, commandBy, commandOf, receiveBy, receiveOf}
-use Rattle.handshake.specs.Calls.{ModemCall, modem-receives, ModemSound, ModemSoundAt}
+use Rattle.handshake_claims.specs.Calls.{ModemCall, modem-receives, ModemSound, ModemSoundAt}
 use Rattle.handshake.specs.declared.modem.Modem.{Modem}
 use Rattle.handshake.specs.declared.modem.ModemMade.the-variants as made
 use Rattle.handshake.specs.declared.modem.ModemStage.{ModemStage}

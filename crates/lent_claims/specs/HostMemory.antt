@@ -5,7 +5,7 @@ use mathlib.Core.List.{List}
 use lib.ListN.{length}
 use Rattle.protocol.specs.Verdict.{judge}
 use Rattle.protocol.specs.declared.Verdict.the-variants.{Fits}
-use Rattle.handshake.specs.Calls.{HostCall, host-opens, host-closes, host-receives, host-asks}
+use Rattle.handshake_claims.specs.Calls.{HostCall, host-opens, host-closes, host-receives, host-asks}
 use Rattle.handshake.specs.Host.{Asking, madeOf, openedOf, closedOf, askOf, receiveOf}
 use Rattle.handshake.specs.declared.host.Host.{Host}
 use Rattle.handshake.specs.declared.host.HostMade.the-variants as made

@@ -6,7 +6,7 @@ use lib.ListN.{length}
 use Rattle.protocol.specs.Verdict.{judge}
 use Rattle.protocol.specs.declared.Verdict.{Verdict}
 use Rattle.protocol.specs.declared.Verdict.the-variants.{Fits}
-use Rattle.handshake.specs.Calls.{ModemCall, modem-opens, modem-closes, modem-receives}
+use Rattle.handshake_claims.specs.Calls.{ModemCall, modem-opens, modem-closes, modem-receives}
 use Rattle.handshake.specs.Modem.{madeOf, startOf, Commanding, receiveOf}
 use Rattle.handshake.specs.declared.modem.Modem.{Modem}
 use Rattle.handshake.specs.declared.modem.ModemMade.the-variants as made

@@ -5,20 +5,20 @@ use mathlib.Core.Path.{_≡_}
 use mathlib.Core.Bool.{Bool, false}
 use mathlib.Core.List.{List}
 use Rattle.protocol.specs.declared.Version.{Version}
 use Rattle.handshake.specs.Versions.{above, versionOf, numberOf}
 use Rattle.handshake.specs.Commands.{versionListed}
 use Rattle.handshake.specs.Host.{end, madeOf, openedOf, servicesReplyOf, refusedWith}
 use Rattle.handshake.specs.Modem.{madeOf as modemMadeOf, end as modemEnd, startOf}
-use Rattle.handshake.specs.Calls.{HostCall, HostQuiet, hostAfterAll, ModemCall, ModemQuiet, modemAfterAll}
-use Rattle.handshake.specs.Run.{Message, Line, Rooms, Expected, refuses, settles, expected, Outcome, Ready, run, listedAs}
+use Rattle.handshake_claims.specs.Calls.{HostCall, HostQuiet, hostAfterAll, ModemCall, ModemQuiet, modemAfterAll}
+use Rattle.handshake_claims.specs.Run.{Message, Line, Rooms, Expected, refuses, settles, expected, Outcome, Ready, run, listedAs}
 use Rattle.handshake.specs.declared.host.Host.{Host}
 use Rattle.handshake.specs.declared.host.HostStage.{HostStage}
 use Rattle.handshake.specs.declared.host.HostStage.the-variants as host
 use Rattle.handshake.specs.declared.host.HostMade.the-variants as hostMade
 use Rattle.handshake.specs.declared.modem.Modem.{Modem}
 use Rattle.handshake.specs.declared.modem.ModemStage.{ModemStage}
 use Rattle.handshake.specs.declared.modem.ModemStage.the-variants as modem
 use Rattle.handshake.specs.declared.modem.ModemMade.the-variants as modemMade
 
 -- a modem lists VERSION exactly where its list does
 abbrev pub MadeByList : Type 0

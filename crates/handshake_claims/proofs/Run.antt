@@ -23,23 +23,23 @@ use Rattle.protocol.proofs.Verdicts.{both-written, written-front, kept-fits}
 use Rattle.version_info.specs.VersionInfo.{rules, verdictOf, readOf, bytesOf, writeOf}
 use Rattle.version_info.specs.declared.VersionInfoRead.the-variants.{Info}
 use Rattle.version_info.proofs.RoundTrip.{bytes-read}
 use Rattle.handshake.specs.Versions.{numberOf, numberVerdict, versionOf, infoOf, larger, lower, above}
 use Rattle.message.specs.declared.MessageHeader.{MessageHeader}
 use Rattle.handshake.specs.Commands.{servicesCid, versionCid, roleOfKind, roleOf, versionListed}
 use Rattle.handshake.specs.Host.{end, unchanged, settledAt, madeOf, openedOf, askOf, listRules, listAt, answeredAt, answeredBy, servicesReplyOf, versionReplyOf, replyRole, receiveBy, receiveOf}
 use Rattle.handshake.specs.Modem.{noDeviceSupport, end as modemEnd, madeRules, madeOf as modemMadeOf, startOf, servedAs, servicesOf, gave, giveOf, answerBy, canAnswer, versionOfCommand, otherAt, commandBy, commandOf, commandRules, receiveBy as commandedBy, receiveOf as modemReceives}
-use Rattle.handshake.specs.Run.{Message, headed, asksServices, asksVersion, sends, replyTo, replyBy, Line, reaches, Passes, both, afterReply, answered, taken, commandOver, Rooms, turn, run, expected, Outcome, listedAs, OtherCommand, Ready}
+use Rattle.handshake_claims.specs.Run.{Message, headed, asksServices, asksVersion, sends, replyTo, replyBy, Line, reaches, Passes, both, afterReply, answered, taken, commandOver, Rooms, turn, run, expected, Outcome, listedAs, OtherCommand, Ready}
 use Rattle.handshake.specs.declared.host.HostStage.{HostStage}
 use Rattle.handshake.specs.declared.host.HostStage.the-variants as host
 use Rattle.handshake.specs.declared.host.Host.{Host}
 use Rattle.handshake.specs.declared.host.HostMade.the-variants as hostMade
 use Rattle.handshake.specs.declared.modem.ModemMade.the-variants as modemMade
 use Rattle.handshake.specs.declared.host.HostAnswer.the-variants as answer
 use Rattle.handshake.specs.declared.modem.ModemStage.{ModemStage}
 use Rattle.handshake.specs.declared.modem.ModemStage.the-variants as modem
 use Rattle.handshake.specs.declared.Role.the-variants as role
-use Rattle.handshake.proofs.Refusing.{list-judged}
-use Rattle.handshake.specs.Claims.{MadeByList, EndsSettle}
+use Rattle.handshake_claims.proofs.Refusing.{list-judged}
+use Rattle.handshake_claims.specs.Claims.{MadeByList, EndsSettle}
 
 -- ---- the two commands of the handshake
 
