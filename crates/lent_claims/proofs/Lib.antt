@@ -1,6 +1,7 @@
 pub mod NumbersLeft
 pub mod AssemblyServes
 pub mod NumbersTaken
+pub mod ToldApart
 pub mod Serves
 pub mod Fields
 pub mod Messages

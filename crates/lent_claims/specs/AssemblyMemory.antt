@@ -4,12 +4,15 @@ use Prim.Native.Nat.{ℕ, _≤_}
 use mathlib.Core.Path.{_≡_}
 use mathlib.Core.List.{List, [], _∷_}
 use lib.ListN.{length}
-use Rattle.protocol.specs.declared.Verdict.the-variants.{Fits}
-use Rattle.assembler.specs.Assembly.{empty}
+use Rattle.protocol.specs.Refusal.{contradiction}
+use Rattle.protocol.specs.declared.Refusal.{Refusal}
+use Rattle.protocol.specs.declared.Verdict.the-variants.{Fits, Fault}
+use Rattle.assembler.specs.Assembly.{empty, stepOf}
 use Rattle.assembler.specs.Run.{Piece, runOf}
 use Rattle.assembler.specs.Door.{Seen, receiveAll}
 use Rattle.assembler.specs.declared.Progress.{Progress}
 use Rattle.assembler.specs.declared.Assembly.{Assembly}
+use Rattle.assembler.specs.declared.Answer.the-variants.{Refused}
 use Rattle.lent.specs.LentAssembly.{assemblySize, progressIn, bufferIn, progressVerdict, emptied, Receiving, receiveIn}
 use Rattle.lent_claims.specs.Given.{WordsOfWidth, Bytes}
 
@@ -33,6 +36,11 @@ pub record NumbersReached (p : Progress) : Type 0 where
 -- they are the numbers that are taken; the bytes of the buffer are not looked at
 abbrev pub NumbersTakenExactly : Type 0
 NumbersTakenExactly = (p : Progress) → WordsOfWidth (wordsOf p) → (progressVerdict p ≡ Fits → NumbersReached p) × (NumbersReached p → progressVerdict p ≡ Fits)
+
+-- a fault of the memory is told from one of the piece by its number: 10 is the memory's, and no piece meets it
+pub record ToldApart : Type 0 where
+  pub memory : (p : Progress) (r : Refusal) → progressVerdict p ≡ Fault r → r .number ≡ contradiction
+  pub piece : (a : Assembly) (s : List ℕ) (room : ℕ) (r : Refusal) → stepOf a s room .answer ≡ Refused r → r .number ≡ contradiction → ⊥
 
 -- ---- the memory m holds the assembly a, one that the next call takes
 

@@ -5,15 +5,13 @@ use Prim.Native.Nat.{ℕ}
 use mathlib.Core.Bool.{not, cond, _&&_}
 use mathlib.Core.List.{List, [], _∷_, _++_}
 use lib.Dec.{ltb, eqb}
-use lib.ListN.{length}
 use lib.Seq.{sets}
 use Rattle.wire.specs.Numbers.{u16At, digits}
-use Rattle.protocol.specs.Refusal.{contradiction, outputTooSmall}
+use Rattle.protocol.specs.Refusal.{contradiction}
 use Rattle.protocol.specs.Verdict.{Rule, rule, judge}
 use Rattle.protocol.specs.declared.Verdict.{Verdict}
 use Rattle.protocol.specs.declared.Verdict.the-variants.{Fits, Fault}
 use Rattle.protocol.specs.declared.Version.{Version}
-use Rattle.version_info.specs.VersionInfo.{isExtension}
 use Rattle.handshake.specs.Versions.{extensions2, numberOf, versionOf}
 use Rattle.message.specs.declared.MessageHeader.{MessageHeader}
 use Rattle.handshake.specs.Host.{step, madeOf, openedOf, closedOf, receiveOf, Asking, plain, askOf}
@@ -27,7 +25,7 @@ use Rattle.handshake.specs.declared.host.Ask.the-variants as ask
 use Rattle.handshake.specs.declared.host.HostStage.{HostStage}
 use Rattle.handshake.specs.declared.host.HostStage.the-variants.{Closed, Open, AwaitsVersion, Settled}
 use Rattle.lent.specs.Stored.{Stored, unstored, stored}
-use Rattle.lent_ends.specs.Stages.{strayVersion}
+use Rattle.lent_ends.specs.Stages.{nativeRules, strayVersion}
 use Rattle.lent_ends.specs.declared.host.HostHeld.{HostHeld}
 use Rattle.lent_ends.specs.declared.host.HostHeld.the-variants as held
 
@@ -54,16 +52,15 @@ stageVersion (Settled v) = numberOf v
 abbrev pub hostSize : ℕ
 hostSize = 6
 
--- of any end its numbers; only a host of 2.00 asks VERSION; a closed one has no version, and none settles above its native one
+-- only a host of 2.00 asks VERSION; a closed one has no version, and none settles above its native one
 abbrev pub hostRules : List ℕ → List Rule
 hostRules m =
-    rule (ltb (length m) hostSize) outputTooSmall hostSize
-    ∷ rule (not (isExtension (u16At m 0))) contradiction 0
-    ∷ rule (ltb 3 (u16At m 2)) contradiction 2
+    nativeRules hostSize m
+    ++ (rule (ltb 3 (u16At m 2)) contradiction 2
     ∷ rule (eqb (u16At m 2) 2 && ltb (u16At m 0) extensions2) contradiction 2
     ∷ rule (strayVersion (not (eqb (u16At m 2) 0)) (u16At m 4)) contradiction 4
     ∷ rule (eqb (u16At m 2) 3 && ltb (u16At m 0) (u16At m 4)) contradiction 4
-    ∷ []
+    ∷ [])
 
 unfoldable pub hostAt : List ℕ → Host
 hostAt m = record { native = versionOf (u16At m 0); stage = stageOf (u16At m 2) (versionOf (u16At m 4)) }

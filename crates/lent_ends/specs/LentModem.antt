@@ -5,10 +5,9 @@ use Prim.Native.Nat.{ℕ}
 use mathlib.Core.Bool.{Bool, not, cond, _&&_}
 use mathlib.Core.List.{List, [], _∷_, _++_}
 use lib.Dec.{ltb, eqb}
-use lib.ListN.{length}
 use lib.Seq.{sets}
 use Rattle.wire.specs.Numbers.{u16At, digits}
-use Rattle.protocol.specs.Refusal.{contradiction, outputTooSmall}
+use Rattle.protocol.specs.Refusal.{contradiction}
 use Rattle.protocol.specs.Verdict.{Rule, rule, judge}
 use Rattle.protocol.specs.declared.Verdict.{Verdict}
 use Rattle.protocol.specs.declared.Verdict.the-variants.{Fits, Fault}
@@ -24,7 +23,7 @@ use Rattle.handshake.specs.declared.modem.ModemAnswer.the-variants as answer
 use Rattle.handshake.specs.declared.modem.ModemStage.{ModemStage}
 use Rattle.handshake.specs.declared.modem.ModemStage.the-variants.{Start, Listed, Settled}
 use Rattle.lent.specs.Stored.{Stored, unstored, stored}
-use Rattle.lent_ends.specs.Stages.{strayVersion}
+use Rattle.lent_ends.specs.Stages.{nativeRules, strayVersion}
 use Rattle.lent_ends.specs.declared.modem.ModemReply.{ModemReply}
 use Rattle.lent_ends.specs.declared.modem.ModemHeld.{ModemHeld}
 use Rattle.lent_ends.specs.declared.modem.ModemHeld.the-variants as held
@@ -60,12 +59,11 @@ stageRules native advertised listed stage version =
 -- advertised is not above native
 abbrev pub modemRules : List ℕ → List Rule
 modemRules m =
-    rule (ltb (length m) modemSize) outputTooSmall modemSize
-    ∷ rule (not (isExtension (u16At m 0))) contradiction 0
-    ∷ rule (not (isExtension (u16At m 2))) contradiction 2
+    nativeRules modemSize m
+    ++ (rule (not (isExtension (u16At m 2))) contradiction 2
     ∷ rule (ltb (u16At m 0) (u16At m 2)) contradiction 2
     ∷ rule (ltb 1 (u16At m 4)) contradiction 4
-    ∷ stageRules (u16At m 0) (u16At m 2) (u16At m 4) (u16At m 6) (u16At m 8)
+    ∷ stageRules (u16At m 0) (u16At m 2) (u16At m 4) (u16At m 6) (u16At m 8))
 
 unfoldable pub modemAt : List ℕ → Modem
 modemAt m = record {

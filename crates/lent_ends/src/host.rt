@@ -1,6 +1,8 @@
 // The host's end in 6 bytes: its native version, its stage and the stage's version, 16 bits each.
+use crate::NATIVE;
 use crate::both;
 use crate::is_stray_version;
+use crate::judge_native;
 use handshake::host::Ask;
 use handshake::host::Host;
 use handshake::host::HostAnswer;
@@ -17,7 +19,6 @@ use protocol::Verdict;
 use protocol::Version;
 use protocol::also;
 use version_info::EXTENSIONS_2_0;
-use version_info::is_extension;
 use wire::put_u16;
 use wire::u16_at;
 ghost use mathlib.Core.Path.{_≡_};
@@ -29,20 +30,9 @@ ghost use Rattle.lent.specs.Stored.{stored};
 // How many bytes a host's end takes.
 pub const HOST_SIZE: usize = 6;
 
-const NATIVE: usize = 0;
-
 const STAGE: usize = 2;
 
 const VERSION: usize = 4;
-
-// The numbers of the stages.
-const CLOSED: u16 = 0;
-
-const OPEN: u16 = 1;
-
-const AWAITS_VERSION: u16 = 2;
-
-const SETTLED: u16 = 3;
 
 // What the memory holds.
 enum HostHeld {
@@ -128,13 +118,7 @@ fn judge_host(memory: &[u8]) -> Verdict
     let native = u16_at(memory, NATIVE);
     let stage = u16_at(memory, STAGE);
     let version = u16_at(memory, VERSION);
-    let room = also(
-        Verdict::Fits,
-        memory.len() < HOST_SIZE,
-        OUTPUT_TOO_SMALL,
-        HOST_SIZE,
-    );
-    let known = also(room, !is_extension(native), CONTRADICTION, NATIVE);
+    let known = judge_native(memory, HOST_SIZE);
     let staged = also(known, SETTLED < stage, CONTRADICTION, STAGE);
     let asks = also(
         staged,
@@ -201,6 +185,15 @@ fn put_host(memory: &mut [u8], host: Host)
     put_u16(memory, STAGE, stage_number(stage));
     put_u16(memory, VERSION, stage_version(stage));
 }
+
+// The numbers of the stages.
+const CLOSED: u16 = 0;
+
+const OPEN: u16 = 1;
+
+const AWAITS_VERSION: u16 = 2;
+
+const SETTLED: u16 = 3;
 
 fn stage_of(stage: u16, version: Version) -> HostStage
     ensures { λ r. ⌜ r ≡ stageOf stage version ⌝ }

@@ -3,10 +3,32 @@
 pub mod host;
 pub mod modem;
 
+use protocol::CONTRADICTION;
+use protocol::OUTPUT_TOO_SMALL;
+use protocol::Verdict;
+use protocol::also;
 use version_info::is_extension;
+use wire::u16_at;
 ghost use mathlib.Core.Path.{_≡_};
 ghost use mathlib.Core.Bool.{_&&_};
-ghost use Rattle.lent_ends.specs.Stages.{strayVersion};
+ghost use Rattle.protocol.specs.Verdict.{judge};
+ghost use Rattle.lent_ends.specs.Stages.{nativeRules, strayVersion};
+
+// Where each end has its native version.
+const NATIVE: usize = 0;
+
+// The verdict on the room for an end, and on its native version.
+fn judge_native(memory: &[u8], size: usize) -> Verdict
+    ensures { λ r. ⌜ r ≡ judge (nativeRules size (now (memory .entry))) ⌝ }
+{
+    let room = also(Verdict::Fits, memory.len() < size, OUTPUT_TOO_SMALL, size);
+    also(
+        room,
+        !is_extension(u16_at(memory, NATIVE)),
+        CONTRADICTION,
+        NATIVE,
+    )
+}
 
 // Whether a stage can't have the number for its version: one with no version has 0.
 fn is_stray_version(versioned: bool, number: u16) -> bool

@@ -1,7 +1,9 @@
 // The modem's end in 10 bytes: its native and its advertised version, whether it lists VERSION, its
 // stage and the version that it settled on, 16 bits each.
+use crate::NATIVE;
 use crate::both;
 use crate::is_stray_version;
+use crate::judge_native;
 use handshake::modem::Modem;
 use handshake::modem::ModemAnswer;
 use handshake::modem::ModemMade;
@@ -32,8 +34,6 @@ ghost use Rattle.lent.specs.Stored.{stored};
 
 // How many bytes a modem's end takes.
 pub const MODEM_SIZE: usize = 10;
-
-const NATIVE: usize = 0;
 
 const ADVERTISED: usize = 2;
 
@@ -180,13 +180,7 @@ fn judge_modem(memory: &[u8]) -> Verdict
     let native = u16_at(memory, NATIVE);
     let advertised = u16_at(memory, ADVERTISED);
     let listed = u16_at(memory, LISTS_VERSION);
-    let room = also(
-        Verdict::Fits,
-        memory.len() < MODEM_SIZE,
-        OUTPUT_TOO_SMALL,
-        MODEM_SIZE,
-    );
-    let known = also(room, !is_extension(native), CONTRADICTION, NATIVE);
+    let known = judge_native(memory, MODEM_SIZE);
     let offered = also(known, !is_extension(advertised), CONTRADICTION, ADVERTISED);
     let below = also(offered, native < advertised, CONTRADICTION, ADVERTISED);
     let flagged = also(below, 1 < listed, CONTRADICTION, LISTS_VERSION);

@@ -6,7 +6,7 @@ use Rattle.lent_ends.proofs.host.judge_host.Tie as tie
 
 returns : tie.Need-returns
 unfolding judgeFrom
-returns c = rw (← c .before .before .before .before .before .before .before .before .before .before .before .before .u16-at .ensures, ← c .before .before .before .before .before .before .before .before .before .before .before .u16-at2 .ensures, ← c .before .before .before .before .before .before .before .before .before .before .u16-at3 .ensures, ← c .before .before .before .before .before .before .before .before .before .also .ensures, ← c .before .before .before .before .before .before .before .before .is-extension .ensures, ← c .before .before .before .before .before .before .before .also2 .ensures, ← c .before .before .before .before .before .before .also3 .ensures, ← c .before .before .before .before .before .both .ensures, ← c .before .before .before .before .also4 .ensures, ← c .before .before .before .is-stray-version .ensures, ← c .before .before .also5 .ensures, ← c .before .both2 .ensures, ← c .also6 .ensures)
+returns c = rw (← c .before .before .before .before .before .before .before .judge-native .ensures, ← c .before .before .before .before .before .before .before .before .before .before .u16-at .ensures, ← c .before .before .before .before .before .before .before .before .before .u16-at2 .ensures, ← c .before .before .before .before .before .before .before .before .u16-at3 .ensures, ← c .before .before .before .before .before .before .also .ensures, ← c .before .before .before .before .before .both .ensures, ← c .before .before .before .before .also2 .ensures, ← c .before .before .before .is-stray-version .ensures, ← c .before .before .also3 .ensures, ← c .before .both2 .ensures, ← c .also4 .ensures)
 
 pub judge-host-spec : {M : Type 1} → statement M
-judge-host-spec = tie.close (tie.spec (λ c. search needs) (λ c. search needs) (λ c. search needs) (λ c. search needs) (λ c. search needs) (λ c. search needs) (λ c. search needs) (λ c. search needs) (λ c. search needs) (λ c. search needs) (λ c. search needs) (λ c. search needs) (λ c. search needs) returns)
+judge-host-spec = tie.close (tie.spec (λ c. search needs) (λ c. search needs) (λ c. search needs) (λ c. search needs) (λ c. search needs) (λ c. search needs) (λ c. search needs) (λ c. search needs) (λ c. search needs) (λ c. search needs) (λ c. search needs) returns)
