@@ -102,10 +102,14 @@ open-short fixed n h = rw (lt-ltb n fixed h)
 
 -- ---- writers
 
--- an accepted writing has room for its bytes
+-- what is not refused for its room has it
+pub room-there : (v : Verdict) (s : List ℕ) (n : ℕ) → firstOf v (faultIf (ltb (length s) n) outputTooSmall n) ≡ Fits → n ≤ length s
+room-there v s n e = ltb-false (length s) n (not-broken _ outputTooSmall n (right-fits v _ e))
+
+-- so an accepted writing has room for its bytes
 pub has-room : (v : Verdict) (b s : List ℕ) → withRoom v b s ≡ Fits → length b ≤ length s
 unfolding withRoom
-has-room v b s e = ltb-false (length s) (length b) (not-broken _ outputTooSmall (length b) (right-fits v _ e))
+has-room v b s e = room-there v s (length b) e
 
 -- what is written was judged to fit
 pub was-fit : (v : Verdict) (b s : List ℕ) → withRoom v b s ≡ Fits → v ≡ Fits

@@ -2,7 +2,7 @@
 -- Assumes nothing.
 use mathlib.Core.Path.{_≡_, refl, sym, ap, _∙_}
 use mathlib.Core.Logic.{_⊎_, inl, inr, ⊎-map, ⊎-elim}
-use mathlib.Core.Bool.{cond}
+use mathlib.Core.Bool.{Bool, cond, _||_}
 use mathlib.Core.List.{List, [], _∷_, _++_, append-assoc, append-nil}
 use Prim.Native.Nat.{ℕ, zero, suc, _+_, _*_, _-_, _≤_, _<_}
 use native.Mathlib.Numerals.{add-one}
@@ -21,7 +21,7 @@ use Rattle.protocol.specs.declared.Version.the-variants.{V2}
 use Rattle.protocol.specs.declared.Written.{Written}
 use Rattle.protocol.proofs.Verdicts.{left-fits, right-fits, not-broken, open-length}
 use Rattle.folds.specs.Folds.{listOf}
-use Rattle.folds.proofs.Laws.{fault-same, any-same, length-list, list-at, length-joined}
+use Rattle.folds.proofs.Laws.{fits-next, fault-at, any-next, fault-same, any-same, length-list, length-joined}
 use Rattle.pairs.specs.Pair.{rangeAt, placed, rangeBytes}
 use Rattle.pairs.specs.Lists.{listVerdict}
 use Rattle.pairs.specs.Claims.{Absent, Inside, Whole}
@@ -45,6 +45,27 @@ one-more f i {es} {e} h p q =
     let a : set (listOf f i ++ (zeroEntry ∷ z)) i e ≡ listOf f i ++ (e ∷ z) = set-at (listOf f i) zeroEntry z e i (length-list f i) in
     rw (p, k) (a ∙ rw (q, add-one) (sym (append-assoc (listOf f i) (f i ∷ []) (noEntries (16 - suc i)))))
 
+-- entry by entry: one more that fits, the first that does not, one more that is known or not
+pub entries-next : (offset : ℕ) (f : ℕ → RsrpSnr) (i : ℕ) → entriesVerdict offset f i ≡ Fits → judge (entryRules (entryPlace offset i) (f i)) ≡ Fits
+    → entriesVerdict offset f (i + 1) ≡ Fits
+unfolding entriesVerdict
+entries-next offset f i e h = fits-next (λ j. judge (entryRules (entryPlace offset j) (f j))) i e h
+
+pub known-next : (f : ℕ → RsrpSnr) (i : ℕ) {b c : Bool} → b ≡ anyKnown f i → c ≡ (b || isKnown (f i)) → c ≡ anyKnown f (i + 1)
+unfolding anyKnown
+known-next f i p q = any-next (λ j. isKnown (f j)) i p q
+
+pub body-fault : (rssi offset : ℕ) (f : ℕ → RsrpSnr) (n i : ℕ) (r : Refusal) → entriesVerdict offset f i ≡ Fits → i < n
+    → judge (entryRules (entryPlace offset i) (f i)) ≡ Fault r → bodyVerdict rssi offset f n ≡ Fault r
+unfolding bodyVerdict entriesVerdict firstOf
+body-fault rssi offset f n i r e l h = rw (fault-at (λ j. judge (entryRules (entryPlace offset j) (f j))) n i r e l h)
+
+-- and behind the last what contradicts
+pub body-last : (rssi offset : ℕ) (f : ℕ → RsrpSnr) (n i : ℕ) {b : Bool} → i ≡ n → entriesVerdict offset f i ≡ Fits → b ≡ anyKnown f i
+    → bodyVerdict rssi offset f n ≡ faultIf (contradicts rssi b) contradiction 0
+unfolding bodyVerdict firstOf
+body-last rssi offset f n i l e k = rw (k, ← l, e)
+
 -- the first n entries decide
 pub body-same : (rssi offset : ℕ) (f g : ℕ → RsrpSnr) (n : ℕ) → ((i : ℕ) → i < n → f i ≡ g i) → bodyVerdict rssi offset f n ≡ bodyVerdict rssi offset g n
 unfolding bodyVerdict entriesVerdict anyKnown
@@ -54,15 +75,13 @@ body-same rssi offset f g n h =
     let b = any-same (λ i. isKnown (f i)) (λ i. isKnown (g i)) n (λ i l. ap isKnown (h i l)) in
     λ i. firstOf (a i) (faultIf (contradicts rssi (b i)) contradiction 0)
 
--- so it is with the entries of an array that begins with them
-pub entries-same : (rssi offset : ℕ) (f : ℕ → RsrpSnr) (n : ℕ) {es : List RsrpSnr} → es ≡ sixteen f n
-    → bodyVerdict rssi offset (entryIn es) n ≡ bodyVerdict rssi offset f n
-entries-same rssi offset f n e = rw e (body-same rssi offset (entryIn (sixteen f n)) f n (λ i l. list-at f zeroEntry (noEntries (16 - n)) n i l))
-
 -- ---- counts that fit
 
 pub size-is : (n : ℕ) → sizeOf (suc n) ≡ 4 + 20 * suc n
 size-is n = rw (ne-eqb (suc n) 0 (omega arith))
+
+pub size-some : (n : ℕ) → (n ≡ 0 → ⊥) → sizeOf n ≡ 4 + 20 * n
+size-some n h = rw (ne-eqb n 0 h)
 
 pub size-small : (n : ℕ) → sizeOf n ≤ 324 → n ≤ 16
 size-small zero h = omega arith
@@ -103,6 +122,10 @@ list-within s e =
 pub length-numbers : (p : SignalState) → length (numberBytes p) ≡ 20
 unfolding numberBytes
 length-numbers p = refl
+
+pub length-entry : (e : RsrpSnr) → length (entryBytes e) ≡ 20
+unfolding entryBytes
+length-entry e = refl
 
 pub length-entries : (n : ℕ) (f : ℕ → RsrpSnr) → length (entriesBytes n f) ≡ 20 * n
 unfolding entriesBytes entryBytes

@@ -23,6 +23,7 @@ use protocol::judge_open_length;
 use wire::put_u32;
 use wire::u32_at;
 ghost use mathlib.Core.Path.{_≡_};
+ghost use mathlib.Core.Bool.{_||_};
 ghost use Prim.Native.Nat.{_+_, _*_, _≤_};
 ghost use lib.ListN.{length};
 ghost use lib.Seq.{sets};
@@ -190,13 +191,14 @@ fn read_entries(s: &[u8], offset: u32, count: u32) -> SignalStateShown
     requires { ⌜ (count ≤ 16) × (offset + 4 + 20 * count ≤ length (now s)) ⌝ }
     ensures { λ r. ⌜ r ≡ readEntries (now (s .entry)) offset count ⌝ }
 {
-    let entries = entries_at(s, offset, count);
-    let body = judge_body(u32_at(s, RSSI), offset, entries, count);
-    match body {
-        Verdict::Fits => SignalStateShown {
-            answer: SignalStateRead::Info(state_at(s, SignalForm::V2 { count })),
-            entries,
-        },
+    match judge_body_at(s, u32_at(s, RSSI), offset, count) {
+        Verdict::Fits => {
+            let entries = entries_at(s, offset, count);
+            SignalStateShown {
+                answer: SignalStateRead::Info(state_at(s, SignalForm::V2 { count })),
+                entries,
+            }
+        }
         Verdict::Fault(refusal) => refuse(refusal),
     }
 }
@@ -304,22 +306,7 @@ fn judge_body(rssi: u32, offset: u32, entries: [RsrpSnr; 16], n: u32) -> Verdict
     requires { ⌜ n ≤ 16 ⌝ }
     ensures { λ r. ⌜ r ≡ bodyVerdict rssi offset (entryIn entries) n ⌝ }
 {
-    if let Verdict::Fault(refusal) = judge_entries(offset, entries, n) {
-        return Verdict::Fault(refusal);
-    }
-    let known = is_any_known(entries, n);
-    also(
-        Verdict::Fits,
-        is_contradiction(rssi, known),
-        CONTRADICTION,
-        RSSI,
-    )
-}
-
-fn judge_entries(offset: u32, entries: [RsrpSnr; 16], n: u32) -> Verdict
-    requires { ⌜ n ≤ 16 ⌝ }
-    ensures { λ r. ⌜ r ≡ entriesVerdict offset (entryIn entries) n ⌝ }
-{
+    let mut known = false;
     let mut i: u32 = 0;
     while i < n {
         let at = i as usize;
@@ -328,9 +315,39 @@ fn judge_entries(offset: u32, entries: [RsrpSnr; 16], n: u32) -> Verdict
         if let Verdict::Fault(refusal) = verdict {
             return Verdict::Fault(refusal);
         }
+        known = or(known, is_known(entry));
         i += 1;
     }
-    Verdict::Fits
+    also(
+        Verdict::Fits,
+        is_contradiction(rssi, known),
+        CONTRADICTION,
+        RSSI,
+    )
+}
+
+// The same of the entries as they stand in a payload.
+fn judge_body_at(s: &[u8], rssi: u32, offset: u32, n: u32) -> Verdict
+    requires { ⌜ offset + 4 + 20 * n ≤ length (now s) ⌝ }
+    ensures { λ r. ⌜ r ≡ bodyVerdict rssi offset (entryAt (now (s .entry)) offset) n ⌝ }
+{
+    let mut known = false;
+    let mut i: u32 = 0;
+    while i < n {
+        let entry = entry_at(s, offset, i);
+        let verdict = judge_entry(offset, i, entry);
+        if let Verdict::Fault(refusal) = verdict {
+            return Verdict::Fault(refusal);
+        }
+        known = or(known, is_known(entry));
+        i += 1;
+    }
+    also(
+        Verdict::Fits,
+        is_contradiction(rssi, known),
+        CONTRADICTION,
+        RSSI,
+    )
 }
 
 fn judge_entry(offset: u32, i: u32, entry: RsrpSnr) -> Verdict
@@ -347,22 +364,6 @@ fn judge_entry(offset: u32, i: u32, entry: RsrpSnr) -> Verdict
     )
 }
 
-fn is_any_known(entries: [RsrpSnr; 16], n: u32) -> bool
-    requires { ⌜ n ≤ 16 ⌝ }
-    ensures { λ r. ⌜ r ≡ anyKnown (entryIn entries) n ⌝ }
-{
-    let mut i: u32 = 0;
-    while i < n {
-        let at = i as usize;
-        let entry = entries[at];
-        if is_known(entry) {
-            return true;
-        }
-        i += 1;
-    }
-    false
-}
-
 // Whether an RSRP or an SNR is there.
 fn is_known(entry: RsrpSnr) -> bool
     ensures { λ r. ⌜ r ≡ isKnown entry ⌝ }
@@ -371,6 +372,15 @@ fn is_known(entry: RsrpSnr) -> bool
         return true;
     }
     entry.snr != SNR_UNKNOWN
+}
+
+fn or(a: bool, b: bool) -> bool
+    ensures { λ r. ⌜ r ≡ (a || b) ⌝ }
+{
+    if a {
+        return true;
+    }
+    b
 }
 
 // Whether there is an RSSI beside an RSRP or an SNR.
@@ -391,7 +401,7 @@ fn write_numbers(info: SignalState, out: &mut [u8]) -> Written
     let numbers = judge_numbers(info.rssi, info.error_rate);
     match also(numbers, out.len() < LENGTH_V1, OUTPUT_TOO_SMALL, LENGTH_V1) {
         Verdict::Fits => {
-            put_numbers(info, out);
+            put_numbers(info, &mut out[..LENGTH_V1]);
             Written::Length(LENGTH_V1)
         }
         Verdict::Fault(refusal) => Written::Refused(refusal),
@@ -426,7 +436,7 @@ fn write_entries(info: SignalState, count: u32, entries: [RsrpSnr; 16], out: &mu
     let body = judge_body(info.rssi, FIXED_PART_V2, entries, count);
     match also(body, out.len() < n, OUTPUT_TOO_SMALL, n) {
         Verdict::Fits => {
-            put_numbers(info, out);
+            put_numbers(info, &mut out[..LENGTH_V1]);
             put_list(entries, count, out);
             Written::Length(n)
         }
@@ -456,7 +466,7 @@ fn put_numbers(info: SignalState, out: &mut [u8])
 
 // The pair, and the list straight after it.
 fn put_list(entries: [RsrpSnr; 16], count: u32, out: &mut [u8])
-    requires { ⌜ count ≤ 16 ⌝ }
+    requires { ⌜ (count ≤ 16) × (28 + sizeOf count ≤ length (now out)) ⌝ }
     ensures { λ _. ⌜ now (out .exit) ≡ sets (now (out .entry)) 20 (listBytes count (entryIn entries)) ⌝ }
 {
     let pair = place_at(FIXED_PART_V2, size_of(count) as u32);
@@ -469,7 +479,7 @@ fn put_list(entries: [RsrpSnr; 16], count: u32, out: &mut [u8])
 }
 
 fn put_entries(entries: [RsrpSnr; 16], n: u32, out: &mut [u8])
-    requires { ⌜ n ≤ 16 ⌝ }
+    requires { ⌜ (n ≤ 16) × (32 + 20 * n ≤ length (now out)) ⌝ }
     ensures { λ _. ⌜ now (out .exit) ≡ sets (now (out .entry)) 32 (entriesBytes n (entryIn entries)) ⌝ }
 {
     let mut i: u32 = 0;
@@ -481,13 +491,21 @@ fn put_entries(entries: [RsrpSnr; 16], n: u32, out: &mut [u8])
     }
 }
 
+// Entry i into its part of the output, so that its stores need no test of their own.
 fn put_entry(entry: RsrpSnr, i: u32, out: &mut [u8])
+    requires { ⌜ entryPlace 28 i + 20 ≤ length (now out) ⌝ }
     ensures { λ _. ⌜ now (out .exit) ≡ sets (now (out .entry)) (entryPlace 28 i) (entryBytes entry) ⌝ }
 {
     let at = entry_place(FIXED_PART_V2, i);
-    put_u32(out, at, entry.rsrp);
-    put_u32(out, at + 4, entry.snr);
-    put_u32(out, at + 8, entry.rsrp_threshold);
-    put_u32(out, at + 12, entry.snr_threshold);
-    put_u32(out, at + 16, entry.system_type);
+    put_fields(entry, &mut out[at..at + ENTRY_SIZE]);
+}
+
+fn put_fields(entry: RsrpSnr, part: &mut [u8])
+    ensures { λ _. ⌜ now (part .exit) ≡ sets (now (part .entry)) 0 (entryBytes entry) ⌝ }
+{
+    put_u32(part, 0, entry.rsrp);
+    put_u32(part, 4, entry.snr);
+    put_u32(part, 8, entry.rsrp_threshold);
+    put_u32(part, 12, entry.snr_threshold);
+    put_u32(part, 16, entry.system_type);
 }

@@ -7,8 +7,8 @@ use Prim.Native.Nat.{ℕ, zero, suc, _+_, _*_, _/_, _%_, _^_, _-_, _≤_, _<_}
 use native.Mathlib.Nat.{zero-add, add-zero, add-suc, suc-add}
 use native.Mathlib.Numerals.{add-one}
 use native.Mathlib.Omega.{arith}
-use lib.ListN.{length, getD, set, take, drop, List·getD-eq-default, length-append, length-drop, replicate, replicate-append-replicate}
-use lib.Seq.{sets, length-sets, sets-eq, set-out, getD-set-other, getD-take, getD-drop, length-take-le, take-suc, take-all, take-length, take-at, drop-at}
+use lib.ListN.{length, getD, set, take, drop, List·getD-eq-default, drop-of-length-le, length-append, length-drop, replicate, replicate-append-replicate}
+use lib.Seq.{sets, length-sets, sets-eq, set-out, getD-set-other, getD-take, getD-drop, length-take-le, take-suc, take-all, take-length, take-at, drop-at, drop-drop}
 use Rattle.wire.specs.Numbers.{num, u32At, digits}
 use Rattle.wire.specs.Runs.{fitted, over}
 
@@ -139,6 +139,22 @@ sets-then xs ys at k s e p q = q ∙ (λ i. sets (p i) (at + sym e i) ys) ∙ sy
 pub sets-over : (b s : List ℕ) → length b ≤ length s → sets s 0 b ≡ over b s
 unfolding over
 sets-over b s h = sets-eq b s 0 (omega arith) ∙ ap (λ (k : ℕ). b ++ drop k s) (zero-add (length b))
+
+-- bytes that fill all of a part
+pub sets-all : (b s : List ℕ) → length b ≡ length s → sets s 0 b ≡ b
+unfolding over
+sets-all b s e = sets-over b s (omega arith) ∙ rw (drop-of-length-le s {i = length b} (omega arith)) (append-nil b)
+
+-- a part of the output that is filled, put back where it was lent from: at a place, and at the front
+pub part-filled : (b s : List ℕ) (at n : ℕ) {t : List ℕ} → length b ≡ n → at + n ≤ length s → t ≡ sets (take n (drop at s)) 0 b
+    → take at s ++ (t ++ drop n (drop at s)) ≡ sets s at b
+part-filled b s at n {t} e h p =
+    let part : length (take n (drop at s)) ≡ n = length-take-le n (drop at s) (omega (arith, length-drop at s)) in
+    let full : t ≡ b = p ∙ sets-all b (take n (drop at s)) (e ∙ sym part) in
+    rw (full, drop-drop n at s, ← e) (sym (sets-eq b s at (omega arith) ∙ append-assoc (take at s) b (drop (at + length b) s)))
+
+pub front-filled : (b s : List ℕ) (n : ℕ) {t : List ℕ} → length b ≡ n → n ≤ length s → t ≡ sets (take n s) 0 b → t ++ drop n s ≡ sets s 0 b
+front-filled b s n e h p = part-filled b s 0 n e (omega arith) p
 
 -- what stands before the end of a run of stores, and after it
 pub take-sets : (b xs : List ℕ) (at : ℕ) → at + length xs ≤ length b → take (at + length xs) (sets b at xs) ≡ take at b ++ xs
