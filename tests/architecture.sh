@@ -1,6 +1,6 @@
 #!/usr/bin/env bash
 # The picture in docs/architecture.md against crates.txt: every crate stands in it once, and uses only
-# crates of its own line and of the lines below.
+# crates of its own line and of the lines below. The edits in docs/CONTRACTS.md are those that are there.
 set -euo pipefail
 cd "$(dirname "$0")/.."
 awk '
@@ -35,4 +35,7 @@ awk '
         exit bad
     }
 ' docs/architecture.md crates.txt
+listed=$(sed -n '/^## Edits$/,$ s/^| `\([a-z0-9_]*\/[a-z0-9_]*\)` .*/\1/p' docs/CONTRACTS.md | sort)
+there=$(find crates -path '*/must-fail/*.edit' | sed 's#^crates/##; s#/must-fail/#/#; s#\.edit$##' | sort)
+diff <(echo "$listed") <(echo "$there") || { echo 'architecture: the edits in docs/CONTRACTS.md (<) are not those in must-fail (>)'; exit 1; }
 echo 'architecture: ok'
