@@ -1,7 +1,8 @@
 -- The assembly in lent memory (document 01: "the assembly holds 4,096 bytes, all zero when empty"): 48 bytes of numbers, then the 4,096.
 -- In this order: places; which numbers feeding from empty can have left; emptying; feeding; any received piece.
-use Prim.Native.Nat.{ℕ, _+_}
-use mathlib.Core.Bool.{Bool, not, cond, _&&_}
+use Prim.Native.Nat.{ℕ, _+_, _-_, _≤_}
+use mathlib.Core.Path.{_≡_}
+use mathlib.Core.Bool.{Bool, true, false, not, cond, _&&_}
 use mathlib.Core.List.{List, [], _∷_, _++_}
 use lib.Dec.{ltb, leb, eqb}
 use lib.ListN.{length, take, drop, replicate}
@@ -144,6 +145,32 @@ judgedIn (Fault r) p m s room = record { memory = cleared m; answer = Refused r;
 
 unfoldable pub feedIn : List ℕ → List ℕ → ℕ → Feeding
 feedIn m s room = judgedIn (progressVerdict (progressIn m)) (progressIn m) m s room
+
+-- ---- a later fragment s with which the message goes on that p tells of: neither is then judged rule by rule
+
+-- it is a fragment with the header that the message waits for
+pub record NextPiece (p : Progress) (s : List ℕ) : Type 0 where
+  pub long : 20 ≤ length s
+  pub short : length s ≤ mostTransfer
+  pub all : u32At s 4 ≡ length s
+  pub type : u32At s 0 ≡ p .message .«message_type»
+  pub transaction : u32At s 8 ≡ p .message .transaction
+  pub total : u32At s 12 ≡ p .total
+  pub number : u32At s 16 ≡ p .next
+
+-- two fragments or more came, and two or more are still to come
+pub record Amid (p : Progress) : Type 0 where
+  pub known : isFragmented (p .message .«message_type») ≡ true
+  pub word : strayWord (p .message) ≡ false
+  pub few : p .total ≤ mostFragments
+  pub later : 2 ≤ p .next
+  pub more : p .next + 2 ≤ p .total
+  pub declared : p .«information_length» ≤ mostInformation
+
+pub record GoesOn (p : Progress) (s : List ℕ) : Type 0 where
+  pub piece : NextPiece p s
+  pub message : Amid p
+  pub within : p .gathered + (length s - 20) ≤ p .«information_length»
 
 -- ---- any received piece: the room is judged, then a whole message, which leaves the memory as it was; any other piece is fed
 

@@ -22,18 +22,20 @@ use protocol::also;
 use protocol::message_type::INDICATE_STATUS;
 use protocol::message_type::is_fragmented;
 use protocol::service::ServiceId;
+use wire::put_bytes;
 use wire::put_u32;
 use wire::u32_at;
 ghost use mathlib.Core.Path.{_≡_};
-ghost use mathlib.Core.Bool.{not};
+ghost use mathlib.Core.Bool.{true, not};
 ghost use Prim.Native.Nat.{_+_, _≤_, _<_};
-ghost use lib.ListN.{length};
+ghost use lib.ListN.{length, drop};
 ghost use lib.Seq.{sets};
 ghost use Rattle.wire.specs.Numbers.{u32At, digits};
 ghost use Rattle.wire.specs.Runs.{over};
 ghost use Rattle.protocol.specs.Verdict.{judge};
 ghost use Rattle.protocol.specs.Service.{idAt, idBytes};
-ghost use Rattle.lent.specs.LentAssembly.{assemblySize, messageIn, progressIn, messageBytes, countBytes, progressBytes, changedIn, isNone, strayWord, aboveCarried, pendingRules, progressVerdict, emptied, keptOf, feedIn, receiveIn};
+ghost use Rattle.assembler.specs.Assembly.{assemblyOf, grown};
+ghost use Rattle.lent.specs.LentAssembly.{assemblySize, bufferIn, NextPiece, Amid, GoesOn, held, messageIn, progressIn, messageBytes, countBytes, progressBytes, changedIn, isNone, strayWord, aboveCarried, pendingRules, progressVerdict, emptied, keptOf, feedIn, receiveIn};
 
 // How many bytes an assembly takes.
 pub const ASSEMBLY_SIZE: usize = 4144;
@@ -99,6 +101,10 @@ fn feed(memory: &mut [u8], piece: &[u8], out: &mut [u8]) -> Answer
     ensures { λ _. ⌜ now (out .exit) ≡ over (feedIn (now (memory .entry)) (now (piece .entry)) (length (now (out .entry))) .information) (now (out .entry)) ⌝ }
 {
     let progress = progress_at(memory);
+    if goes_on(progress, piece) {
+        go_on(progress, memory, piece);
+        return Answer::Pending { dropped: false };
+    }
     match judge_progress(progress) {
         Verdict::Fits => feed_whole(progress, memory, piece, out),
         Verdict::Fault(refusal) => {
@@ -106,6 +112,90 @@ fn feed(memory: &mut [u8], piece: &[u8], out: &mut [u8]) -> Answer
             Answer::Refused(refusal)
         }
     }
+}
+
+// Whether the piece is a later fragment with which the message goes on: most pieces are, and for them
+// this tells at once what the judges of memory and piece would.
+fn goes_on(progress: Progress, piece: &[u8]) -> bool
+    ensures { λ r. ⌜ (r ≡ true → GoesOn progress (now (piece .entry))) ⌝ }
+{
+    if !is_next(progress, piece) {
+        return false;
+    }
+    if !is_amid(progress) {
+        return false;
+    }
+    progress.gathered as usize + (piece.len() - 20) <= progress.information_length as usize
+}
+
+// Whether the piece is a fragment with the header that the message waits for.
+fn is_next(progress: Progress, piece: &[u8]) -> bool
+    ensures { λ r. ⌜ (r ≡ true → NextPiece progress (now (piece .entry))) ⌝ }
+{
+    let n = piece.len();
+    if n < 20 {
+        return false;
+    }
+    if MOST_TRANSFER < n {
+        return false;
+    }
+    if u32_at(piece, 4) as usize != n {
+        return false;
+    }
+    if u32_at(piece, 0) != progress.message.message_type {
+        return false;
+    }
+    if u32_at(piece, 8) != progress.message.transaction {
+        return false;
+    }
+    if u32_at(piece, 12) != progress.total {
+        return false;
+    }
+    u32_at(piece, 16) == progress.next
+}
+
+// Whether two fragments or more of a message came, and two or more are still to come.
+fn is_amid(progress: Progress) -> bool
+    ensures { λ r. ⌜ (r ≡ true → Amid progress) ⌝ }
+{
+    if !is_fragmented(progress.message.message_type) {
+        return false;
+    }
+    if is_stray_word(progress.message) {
+        return false;
+    }
+    if MOST_FRAGMENTS < progress.total {
+        return false;
+    }
+    if progress.next < 2 {
+        return false;
+    }
+    if progress.total <= progress.next {
+        return false;
+    }
+    if progress.total - progress.next < 2 {
+        return false;
+    }
+    progress.information_length as usize <= MOST_INFORMATION
+}
+
+// The piece's information joins the message.
+fn go_on(progress: Progress, memory: &mut [u8], piece: &[u8])
+    requires { ⌜ (4144 ≤ length (now memory)) × (sets (now memory) 0 (messageBytes (progress .message)) ≡ now memory) × GoesOn progress (now piece) ⌝ }
+    ensures { λ _. ⌜ now (memory .exit) ≡ held (grown (assemblyOf progress (bufferIn (now (memory .entry)))) (drop 20 (now (piece .entry)))) (now (memory .entry)) ⌝ }
+{
+    let gathered = progress.gathered as usize;
+    let n = piece.len() - 20;
+    put_bytes(&mut memory[BUFFER..ASSEMBLY_SIZE], gathered, &piece[20..]);
+    let message = progress.message;
+    let next = Progress {
+        message,
+        total: progress.total,
+        next: progress.next + 1,
+        information_length: progress.information_length,
+        gathered: (gathered + n) as u32,
+    };
+    put_counts(memory, next);
 }
 
 // Memory that has the room and holds an assembly.
