@@ -181,12 +181,12 @@ list-take xs zero h = refl
 list-take xs (suc n) h = rw (list-take xs n (omega arith), take-suc xs n 0 h)
 
 -- one number more is stored
-pub list-next : (f : ℕ → ℕ) (i : ℕ) (s : List ℕ) {s₁ s₂ : List ℕ} {v : ℕ} → s₁ ≡ sets s 0 (listOf f i) → v ≡ f i → s₂ ≡ set s₁ i v
-    → s₂ ≡ sets s 0 (listOf f (i + 1))
+pub list-next : (f : ℕ → ℕ) (i at : ℕ) (s : List ℕ) {s₁ s₂ : List ℕ} {v : ℕ} → s₁ ≡ sets s at (listOf f i) → v ≡ f i → s₂ ≡ set s₁ (at + i) v
+    → s₂ ≡ sets s at (listOf f (i + 1))
 unfolding listOf
-list-next f i s p q r =
-    let a : sets s 0 (listOf f i ++ (f i ∷ [])) ≡ sets (sets s 0 (listOf f i)) (0 + length (listOf f i)) (f i ∷ []) = sets-append (listOf f i) (f i ∷ []) s 0 in
-    r ∙ rw (p, q, add-one i, a, length-list f i, zero-add i)
+list-next f i at s p q r =
+    let a : sets s at (listOf f i ++ (f i ∷ [])) ≡ sets (sets s at (listOf f i)) (at + length (listOf f i)) (f i ∷ []) = sets-append (listOf f i) (f i ∷ []) s at in
+    r ∙ rw (p, q, add-one i, a, length-list f i)
 
 -- ---- bytes one after another
 

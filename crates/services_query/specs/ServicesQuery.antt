@@ -1,18 +1,21 @@
 -- What is asked of a DEVICE_SERVICES payload (document 01, "Device services"). The whole list is judged first.
--- In this order: the tests of an element; an element shown; the three questions.
-use Prim.Native.Nat.{ℕ, _*_}
+-- In this order: the tests of an element; an element shown; the three questions; all elements in one pass.
+use Prim.Native.Nat.{ℕ, _+_, _*_}
 use mathlib.Core.Bool.{Bool, cond, _&&_}
 use mathlib.Core.List.{List}
 use lib.Dec.{ltb, eqb}
 use lib.ListN.{length}
+use Rattle.wire.specs.Numbers.{u32At}
 use Rattle.wire.specs.Runs.{over}
 use Rattle.protocol.specs.Refusal.{refusal, outputTooSmall}
 use Rattle.protocol.specs.Service.{sameId}
 use Rattle.protocol.specs.declared.Verdict.{Verdict}
 use Rattle.protocol.specs.declared.Verdict.the-variants.{Fits, Fault}
 use Rattle.protocol.specs.declared.service.ServiceId.{ServiceId}
-use Rattle.folds.specs.Folds.{anyOf, firstIndex}
+use Rattle.folds.specs.Folds.{anyOf, firstIndex, listOf, joined, sumOf}
 use Rattle.device_services.specs.DeviceServices.{countOf, offsetOf, cidCountAt, elementAt, cidAt, cidsAt, verdictOf}
+use Rattle.services_query.specs.declared.all.AllAnswer.{AllAnswer}
+use Rattle.services_query.specs.declared.all.AllAnswer.the-variants.{Listed as AllListed, Refused as AllRefused}
 use Rattle.services_query.specs.declared.ElementAnswer.{ElementAnswer}
 use Rattle.services_query.specs.declared.ElementAnswer.the-variants.{Listed, NotListed, Refused}
 use Rattle.services_query.specs.declared.ListedAnswer.{ListedAnswer}
@@ -77,3 +80,46 @@ told (Fault r) any = IsRefused r
 -- whether any element holds both
 unfoldable pub listedOf : List ℕ → ServiceId → ℕ → ListedAnswer
 listedOf s service cid = told (verdictOf s) (anyOf (holds s service cid) (countOf s))
+
+-- ---- all elements in one pass: the answer, and the caller's two lists at exit
+
+-- the n numbers that stand one behind another from `at` on
+unfoldable pub wordsAt : List ℕ → ℕ → ℕ → List ℕ
+wordsAt s at n = listOf (λ k. u32At s (at + 4 * k)) n
+
+-- of each of the first n elements its 28 bytes before the CIDs, as seven numbers
+unfoldable pub allFields : List ℕ → ℕ → List ℕ
+allFields s n = joined (λ i. wordsAt s (offsetOf s i) 7) n
+
+-- how many CIDs element i has
+abbrev pub cidsOfElement : List ℕ → ℕ → ℕ
+cidsOfElement s i = cidCountAt s (offsetOf s i)
+
+-- of each of the first n elements its CIDs
+unfoldable pub allCids : List ℕ → ℕ → List ℕ
+allCids s n = joined (λ i. cidsAt s (offsetOf s i)) n
+
+abbrev pub totalOf : List ℕ → ℕ
+totalOf s = sumOf (cidsOfElement s) (countOf s)
+
+pub record AllShown : Type 0 where
+  pub answer : AllAnswer
+  pub fields : List ℕ
+  pub cids : List ℕ
+
+abbrev pub noneShown : AllAnswer → List ℕ → List ℕ → AllShown
+noneShown a fields cids = record { answer = a; fields = fields; cids = cids }
+
+-- "a list too small is 11", by the bytes needed: the elements' list first
+unfoldable pub allShown : List ℕ → List ℕ → List ℕ → AllShown
+allShown s fields cids =
+    cond (ltb (length fields) (7 * countOf s)) (noneShown (AllRefused (refusal outputTooSmall (28 * countOf s))) fields cids)
+    (cond (ltb (length cids) (totalOf s)) (noneShown (AllRefused (refusal outputTooSmall (4 * totalOf s))) fields cids)
+    (record { answer = AllListed (countOf s) (totalOf s); fields = over (allFields s (countOf s)) fields; cids = over (allCids s (countOf s)) cids }))
+
+abbrev pub allJudged : Verdict → AllShown → List ℕ → List ℕ → AllShown
+allJudged Fits x fields cids = x
+allJudged (Fault r) x fields cids = noneShown (AllRefused r) fields cids
+
+unfoldable pub allOf : List ℕ → List ℕ → List ℕ → AllShown
+allOf s fields cids = allJudged (verdictOf s) (allShown s fields cids) fields cids

@@ -1,6 +1,9 @@
 // Questions to a DEVICE_SERVICES payload: an element by its number or its service, and whether a
 // CID is listed. The whole list is judged before anything of it is shown.
+pub mod all;
+
 use device_services::DeviceService;
+use device_services::ELEMENT_FIXED_PART;
 use device_services::judge_list;
 use device_services::judged_cid;
 use device_services::judged_cid_count;
@@ -13,14 +16,15 @@ use protocol::Verdict;
 use protocol::service::ServiceId;
 use protocol::service::id_at;
 use protocol::service::is_same_id;
+use wire::u32_at;
 ghost use mathlib.Core.Path.{_≡_};
 ghost use mathlib.Core.Bool.{_&&_};
-ghost use Prim.Native.Nat.{_≤_};
+ghost use Prim.Native.Nat.{_+_, _≤_};
 ghost use lib.ListN.{length};
 ghost use lib.Seq.{sets};
-ghost use Rattle.folds.specs.Folds.{anyOf, firstIndex, listOf};
-ghost use Rattle.device_services.specs.DeviceServices.{offsetOf, cidAt};
-ghost use Rattle.services_query.specs.ServicesQuery.{isOf, isCid, hasCid, holds, elementShown, chosenShown, elementOf, cidsOf, listedOf};
+ghost use Rattle.folds.specs.Folds.{anyOf, firstIndex};
+ghost use Rattle.device_services.specs.DeviceServices.{offsetOf};
+ghost use Rattle.services_query.specs.ServicesQuery.{wordsAt, isOf, isCid, hasCid, holds, elementShown, chosenShown, elementOf, cidsOf, listedOf};
 
 // An element's fields; its CIDs stand at the front of the caller's list.
 pub enum ElementAnswer {
@@ -97,18 +101,19 @@ fn show_element(payload: &[u8], number: u32, cids: &mut [u32]) -> ElementAnswer
             place: 4 * count as usize,
         });
     }
-    copy_cids(payload, offset, count, cids);
+    let first = offset as usize + ELEMENT_FIXED_PART as usize;
+    copy_words(payload, first, count, cids, 0);
     ElementAnswer::Listed(judged_element(payload, offset))
 }
 
-// The first n CIDs of the element that starts at an offset.
-fn copy_cids(payload: &[u8], offset: u32, n: u32, cids: &mut [u32])
-    requires { ⌜ n ≤ length (now cids) ⌝ }
-    ensures { λ _. ⌜ now (cids .exit) ≡ sets (now (cids .entry)) 0 (listOf (cidAt (now (payload .entry)) offset) n) ⌝ }
+// The n numbers that stand one behind another from `from` on, to a place of a list.
+fn copy_words(payload: &[u8], from: usize, n: u32, list: &mut [u32], at: usize)
+    requires { ⌜ (from ≤ 4294967323) × (at + n ≤ length (now list)) ⌝ }
+    ensures { λ _. ⌜ now (list .exit) ≡ sets (now (list .entry)) at (wordsAt (now (payload .entry)) from n) ⌝ }
 {
     let mut i: u32 = 0;
     while i < n {
-        cids[i as usize] = judged_cid(payload, offset, i);
+        list[at + i as usize] = u32_at(payload, from + 4 * i as usize);
         i += 1;
     }
 }
