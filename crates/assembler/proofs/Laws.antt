@@ -10,7 +10,7 @@ use lib.Dec.{eqb}
 use lib.ListN.{length, take, drop, replicate, length-append, length-drop}
 use lib.Seq.{sets, take-all, drop-length}
 use Rattle.wire.specs.Numbers.{u32At}
-use Rattle.wire.specs.Runs.{over}
+use Rattle.wire.specs.Output.{over}
 use Rattle.wire.proofs.Laws.{sets-then, sets-over}
 use Rattle.protocol.specs.Verdict.{judge}
 use Rattle.protocol.specs.declared.Refusal.{Refusal}

@@ -11,7 +11,7 @@ use protocol::Refusal;
 use wire::u32_at;
 ghost use mathlib.Core.Path.{_≡_};
 ghost use lib.ListN.{length};
-ghost use Rattle.wire.specs.Runs.{over};
+ghost use Rattle.wire.specs.Output.{over};
 ghost use Rattle.assembler.specs.Door.{wholeShown, fedShown, byValue, receiveOf};
 
 // What a piece is. `dropped` says that an unfinished message was dropped for this one.

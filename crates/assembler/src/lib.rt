@@ -23,7 +23,7 @@ ghost use mathlib.Core.Path.{_≡_};
 ghost use mathlib.Core.List.{_++_};
 ghost use Prim.Native.Nat.{_+_, _≤_, _<_};
 ghost use lib.ListN.{length, take, replicate};
-ghost use Rattle.wire.specs.Runs.{over};
+ghost use Rattle.wire.specs.Output.{over};
 ghost use Rattle.protocol.specs.Verdict.{judge};
 ghost use Rattle.message.specs.Message.{firstLength};
 ghost use Rattle.assembler.specs.Assembly.{assemblyOf, empty, byValue, inPlace, refused, grownProgress, gatherOf, begunProgress, begunBytes, continues, joinRules, joinOf, judgedOf, stepOf, lentStepOf};

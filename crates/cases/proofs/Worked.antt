@@ -3,7 +3,7 @@
 use mathlib.Core.Path.{refl}
 use lib.Ieee.{odd, ofBits}
 use Rattle.wire.specs.Numbers.{u16At, u32At, u64At}
-use Rattle.wire.specs.Runs.{over, fitted}
+use Rattle.wire.specs.Output.{over, fitted}
 use Rattle.protocol.specs.Verdict.{faultIf, firstOf, judgeFrom, exactLength, openLength, given, withRoom, writing}
 use Rattle.protocol.specs.DataClass.{classBits, sumOfBits, maskOf, isBit}
 use Rattle.packet_service.specs.PacketService.{recordAt as packetAt, laterRules, formRules, rules as packetRules, verdictOf as packetVerdict, readOf as packetRead}

@@ -7,7 +7,7 @@ use lent::assembly::receive;
 use protocol::Refusal;
 ghost use mathlib.Core.Path.{_≡_};
 ghost use lib.ListN.{length};
-ghost use Rattle.wire.specs.Runs.{over};
+ghost use Rattle.wire.specs.Output.{over};
 ghost use Rattle.lent.specs.LentAssembly.{emptied, receiveIn};
 ghost use Rattle.c_structs.specs.Answers.{refusalOf};
 ghost use Rattle.c_structs.specs.Messages.{receiveInfo};

@@ -6,7 +6,7 @@ use mathlib.Core.List.{List, [], _∷_, _++_}
 use lib.Dec.{ltb, eqb}
 use lib.ListN.{length, take, drop}
 use Rattle.wire.specs.Numbers.{digits}
-use Rattle.wire.specs.Runs.{over}
+use Rattle.wire.specs.Output.{over}
 use Rattle.protocol.specs.Refusal.{unknown, tooLong, outsideTable, wrongTransferSize}
 use Rattle.protocol.specs.Verdict.{Rule, rule, judge, withRoom}
 use Rattle.protocol.specs.MessageType.{INDICATE-STATUS, isFragmented}

@@ -6,7 +6,7 @@ use Prim.Native.Nat.{ℕ, suc, _+_, _-_, _≤_, _<_, min}
 use native.Mathlib.Omega.{arith}
 use lib.ListN.{length, take, drop, length-drop}
 use lib.Seq.{drop-drop}
-use Rattle.wire.specs.Runs.{over}
+use Rattle.wire.specs.Output.{over}
 use Rattle.assembler.specs.Assembly.{assemblyOf, inPlace, stepOf}
 use Rattle.assembler.specs.declared.FedInPlace.{FedInPlace}
 use Rattle.cutter.proofs.Later.{cut-take, cut-drop}

@@ -6,7 +6,7 @@ use mathlib.Core.List.{List, [], _∷_}
 use Prim.Native.Nat.{ℕ, zero, suc, _+_, _-_}
 use native.Mathlib.Omega.{arith}
 use lib.ListN.{length}
-use Rattle.wire.specs.Runs.{over}
+use Rattle.wire.specs.Output.{over}
 use Rattle.message.specs.declared.MessageHeader.{MessageHeader}
 use Rattle.assembler.specs.Assembly.{empty, stepOf}
 use Rattle.assembler.specs.Run.{Seen, Run, runOf}

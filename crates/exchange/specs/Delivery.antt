@@ -10,7 +10,7 @@ use Rattle.assembler.specs.Assembly.{empty, isPending}
 use Rattle.assembler.specs.Run.{Piece, Run, runOf}
 use Rattle.cutter.specs.Cut.{cutOf}
 use Rattle.cutter.specs.declared.Cutting.the-variants.{Fragments}
-use Rattle.wire.specs.Runs.{over}
+use Rattle.wire.specs.Output.{over}
 use Rattle.exchange.specs.Messages.{OfWidth, parts, pieces, lastSeen, received}
 use Rattle.exchange.specs.Collected.{Collected, before, collected}
 

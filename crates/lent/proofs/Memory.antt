@@ -11,7 +11,7 @@ use lib.Dec.{ltb}
 use lib.ListN.{length, getD, set, take, drop, replicate, take-append-drop, length-append, length-take, length-drop}
 use lib.Seq.{sets, set-getD, take-all, take-at, take-append-le, drop-at, drop-drop, drop-length}
 use Rattle.wire.specs.Numbers.{digits}
-use Rattle.wire.specs.Runs.{over}
+use Rattle.wire.specs.Output.{over}
 use Rattle.wire.proofs.Laws.{sets-over, sets-then, four-to}
 use Rattle.protocol.specs.Service.{idBytes}
 use Rattle.message.specs.declared.MessageHeader.{MessageHeader}

@@ -31,7 +31,7 @@ ghost use Prim.Native.Nat.{_+_, _≤_, _<_};
 ghost use lib.ListN.{length, drop};
 ghost use lib.Seq.{sets};
 ghost use Rattle.wire.specs.Numbers.{u32At, digits};
-ghost use Rattle.wire.specs.Runs.{over};
+ghost use Rattle.wire.specs.Output.{over};
 ghost use Rattle.protocol.specs.Verdict.{judge};
 ghost use Rattle.protocol.specs.Service.{idAt, idBytes};
 ghost use Rattle.assembler.specs.Assembly.{assemblyOf, grown};

@@ -10,7 +10,7 @@ use lib.Dec.{eqb}
 use lib.ListN.{length, getD, take, drop, length-append, length-drop, length-replicate, replicate-append-replicate}
 use lib.Seq.{take-at, drop-at}
 use Rattle.wire.specs.Numbers.{num, u32At, digits}
-use Rattle.wire.specs.Runs.{over}
+use Rattle.wire.specs.Output.{over}
 use Rattle.wire.proofs.Laws.{num-digits, num-skip}
 use Rattle.protocol.specs.MessageType.{INDICATE-STATUS}
 use Rattle.protocol.specs.Service.{idAt, idBytes}

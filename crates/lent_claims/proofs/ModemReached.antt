@@ -6,7 +6,7 @@ use mathlib.Core.List.{List, [], _∷_}
 use Prim.Native.Nat.{ℕ}
 use native.Mathlib.Omega.{arith}
 use Rattle.wire.specs.Numbers.{u16At}
-use Rattle.wire.specs.Runs.{over}
+use Rattle.wire.specs.Output.{over}
 use Rattle.protocol.specs.MessageType.{COMMAND}
 use Rattle.protocol.specs.Verdict.{faultIf, firstOf, judgeFrom, exactLength, given, withRoom, writing}
 use Rattle.protocol.specs.declared.Version.{Version}

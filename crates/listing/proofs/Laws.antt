@@ -10,7 +10,7 @@ use borrow.Author.Tests.{lt-leb}
 use lib.Dec.{leb}
 use lib.ListN.{length, length-append, length-drop, set, take, drop, drop-of-length-le}
 use lib.Seq.{sets, length-take-le}
-use Rattle.wire.specs.Runs.{over, fitted}
+use Rattle.wire.specs.Output.{over, fitted}
 use Rattle.wire.proofs.Laws.{sets-append, sets-over, take-over, take-rest, fitted-take}
 use Rattle.ascii.specs.Ascii.{decimal, unhexed, through}
 use Rattle.ascii.proofs.Laws.{by-test, length-decimal, length-unhexed, through-le, through-some}

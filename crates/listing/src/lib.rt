@@ -16,7 +16,7 @@ use rows::put_row;
 ghost use mathlib.Core.Path.{_≡_};
 ghost use Prim.Native.Nat.{_+_, _≤_};
 ghost use lib.ListN.{length};
-ghost use Rattle.wire.specs.Runs.{over};
+ghost use Rattle.wire.specs.Output.{over};
 ghost use Rattle.rows.specs.Rows.{Put};
 ghost use Rattle.listing.specs.Listing.{payloadText, spelledText, lineText};
 

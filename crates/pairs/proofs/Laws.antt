@@ -10,7 +10,7 @@ use native.Mathlib.Omega.{arith}
 use borrow.Author.Tests.{le-ltb, lt-ltb, ltb-false, eq-eqb, ne-eqb, eqb-true, eqb-false}
 use lib.Dec.{ltb, eqb}
 use lib.ListN.{length, take, drop}
-use Rattle.wire.specs.Runs.{fitted}
+use Rattle.wire.specs.Output.{fitted}
 use Rattle.wire.proofs.Laws.{text-at}
 use Rattle.protocol.specs.Refusal.{refusal, wrongOffset}
 use Rattle.protocol.specs.Verdict.{Kept, judge, judgeFrom, faultIf, firstOf}

@@ -4,7 +4,7 @@
 use Prim.Native.Nat.{ℕ, _+_}
 use mathlib.Core.List.{List, [], _∷_, _++_}
 use lib.ListN.{length, getD, take}
-use Rattle.wire.specs.Runs.{fitted}
+use Rattle.wire.specs.Output.{fitted}
 use Rattle.protocol.specs.Refusal.{wrongSize}
 use Rattle.protocol.specs.Verdict.{Rule, rule, firstOf}
 use Rattle.protocol.specs.declared.Verdict.{Verdict}

@@ -16,7 +16,7 @@ ghost use mathlib.Core.Path.{_≡_};
 ghost use Prim.Native.Nat.{_≤_, min};
 ghost use lib.ListN.{length, getD};
 ghost use lib.Seq.{sets};
-ghost use Rattle.wire.specs.Runs.{fitted};
+ghost use Rattle.wire.specs.Output.{fitted};
 ghost use Rattle.protocol.specs.Verdict.{judge as judged};
 ghost use Rattle.pairs.specs.Pair.{range, padded, rangeBytes};
 ghost use Rattle.pairs.specs.Texts.{rangesAt, textsVerdict, sizeRules, startOf, laidAt};

@@ -10,7 +10,7 @@ use borrow.Author.Tests.{leb-true, leb-false}
 use lib.Dec.{leb}
 use lib.ListN.{length, length-append, getD}
 use lib.Seq.{sets, length-sets}
-use Rattle.wire.specs.Runs.{over}
+use Rattle.wire.specs.Output.{over}
 use Rattle.wire.proofs.Laws.{sets-append, sets-out, sets-over}
 use Rattle.ascii.specs.Ascii.{hexPair, hexedIn}
 use Rattle.folds.specs.Folds.{joined}

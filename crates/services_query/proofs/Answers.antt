@@ -14,7 +14,7 @@ use Rattle.protocol.proofs.Services.{same-said, said-same}
 use Rattle.protocol.proofs.Tests.{and-both, both-and}
 use Rattle.folds.specs.Folds.{anyOf, firstIndex}
 use Rattle.folds.proofs.Laws.{some-of, each-none, any-at, index-at, index-below, index-none}
-use Rattle.wire.specs.Runs.{over}
+use Rattle.wire.specs.Output.{over}
 use Rattle.protocol.specs.Refusal.{refusal, outputTooSmall}
 use Rattle.device_services.specs.DeviceServices.{countOf, offsetOf, cidCountAt, elementAt, cidsAt, verdictOf}
 use lib.Dec.{ltb}

@@ -6,7 +6,7 @@ use mathlib.Core.Bool.{Bool, cond, _&&_}
 use mathlib.Core.List.{List}
 use lib.Dec.{ltb, eqb}
 use lib.ListN.{length, getD, take}
-use Rattle.wire.specs.Runs.{over}
+use Rattle.wire.specs.Output.{over}
 use Rattle.protocol.specs.Refusal.{refusal, outputTooSmall}
 use Rattle.protocol.specs.Service.{sameId}
 use Rattle.protocol.specs.declared.Written.{Written}

@@ -10,7 +10,7 @@ use native.Mathlib.Omega.{arith}
 use lib.ListN.{length, getD, set, take, drop, List·getD-eq-default, drop-of-length-le, length-append, length-drop, replicate, replicate-append-replicate}
 use lib.Seq.{sets, length-sets, sets-eq, set-out, getD-set-other, getD-take, getD-drop, length-take-le, take-suc, take-all, take-length, take-at, drop-at, drop-drop}
 use Rattle.wire.specs.Numbers.{num, u32At, digits}
-use Rattle.wire.specs.Runs.{fitted, over}
+use Rattle.wire.specs.Output.{fitted, over}
 
 -- ---- past the end
 

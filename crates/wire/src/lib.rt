@@ -6,7 +6,7 @@ ghost use Prim.Native.Nat.{_+_, _≤_, _<_};
 ghost use lib.ListN.{length, getD, set};
 ghost use lib.Seq.{sets};
 ghost use Rattle.wire.specs.Numbers.{u16At, u32At, u64At, digits};
-ghost use Rattle.wire.specs.Runs.{fitted};
+ghost use Rattle.wire.specs.Output.{fitted};
 
 pub fn byte_at(s: &[u8], at: usize) -> u8
     ensures { λ r. ⌜ r ≡ getD (now (s .entry)) at 0 ⌝ }

@@ -2,7 +2,7 @@
 use borrow.Author.Needs.{needs}
 use mathlib.Core.Path.{_≡_, refl, _∙_, sym, ap}
 use borrow.Author.Tests.{lt-ltb, le-ltb}
-use Rattle.wire.specs.Runs.{over}
+use Rattle.wire.specs.Output.{over}
 use native.Mathlib.Omega.{arith}
 use lib.ListN.{length, take, length-take}
 use Rattle.assembler.specs.Assembly.{assemblyOf, empty, lentStepOf}

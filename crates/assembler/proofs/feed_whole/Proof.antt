@@ -1,7 +1,7 @@
 -- By the judgement of the piece.
 use borrow.Author.Needs.{needs}
 use mathlib.Core.Path.{refl, sym, _∙_}
-use Rattle.wire.specs.Runs.{over}
+use Rattle.wire.specs.Output.{over}
 use Rattle.assembler.specs.Assembly.{refused, stepBy, stepOf}
 use Rattle.assembler.proofs.Laws.{rest, brings}
 use Rattle.assembler.proofs.feed_whole.Statement.{statement}

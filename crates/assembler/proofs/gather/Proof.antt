@@ -3,7 +3,7 @@ use borrow.Author.Needs.{needs}
 use mathlib.Core.Path.{refl}
 use native.Mathlib.Omega.{arith}
 use borrow.Author.Tests.{eq-eqb, ne-eqb, lt-ltb, le-ltb}
-use Rattle.wire.specs.Runs.{over}
+use Rattle.wire.specs.Output.{over}
 use Rattle.assembler.specs.Assembly.{empty, refused, waiting, completed, grown, gatherOf}
 use Rattle.assembler.proofs.gather.Statement.{statement}
 use Rattle.assembler.proofs.gather.Tie as tie

@@ -6,7 +6,7 @@ use Prim.Native.Nat.{_-_}
 use native.Mathlib.Omega.{arith}
 use lib.ListN.{length}
 use lib.Seq.{sets}
-use Rattle.wire.specs.Runs.{fitted}
+use Rattle.wire.specs.Output.{fitted}
 use Rattle.wire.proofs.Laws.{sets-then, fitted-rest, length-fitted}
 use Rattle.wire.proofs.put_fitting.Statement.{statement}
 use Rattle.wire.proofs.put_fitting.Tie as tie

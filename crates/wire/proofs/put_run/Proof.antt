@@ -1,7 +1,7 @@
 -- What has no room is dropped, so the run that fits is the whole one's.
 use borrow.Author.Needs.{needs}
 use mathlib.Core.Path.{sym, _∙_}
-use Rattle.wire.specs.Runs.{fitted}
+use Rattle.wire.specs.Output.{fitted}
 use Rattle.wire.proofs.Laws.{sets-out, run-past}
 use Rattle.wire.proofs.put_run.Statement.{statement}
 use Rattle.wire.proofs.put_run.Tie as tie

@@ -1,7 +1,7 @@
 -- By whether the piece is a whole message's.
 use borrow.Author.Needs.{needs}
 use mathlib.Core.Path.{refl}
-use Rattle.wire.specs.Runs.{over}
+use Rattle.wire.specs.Output.{over}
 use Rattle.assembler.specs.Door.{fedShown, receiveOf}
 use Rattle.assembler.proofs.door.receive.Statement.{statement}
 use Rattle.assembler.proofs.door.receive.Tie as tie

@@ -3,7 +3,7 @@ use borrow.Author.Needs.{needs}
 use mathlib.Core.Path.{refl, _∙_}
 use native.Mathlib.Omega.{arith}
 use lib.ListN.{length, length-take}
-use Rattle.wire.specs.Runs.{over}
+use Rattle.wire.specs.Output.{over}
 use Rattle.assembler.specs.Assembly.{waiting}
 use Rattle.lent.specs.LentAssembly.{bufferIn, keptOf, feedIn}
 use Rattle.lent.proofs.GoingOn.{amid-fits, goes-on}

@@ -3,7 +3,7 @@ use borrow.Author.Needs.{needs}
 use mathlib.Core.Path.{_∙_, sym, ap}
 use mathlib.Core.List.{_++_}
 use lib.ListN.{length, drop}
-use Rattle.wire.specs.Runs.{over}
+use Rattle.wire.specs.Output.{over}
 use Rattle.assembler.specs.Assembly.{assemblyOf}
 use Rattle.assembler.specs.declared.FedInPlace.{FedInPlace}
 use Rattle.assembler.proofs.Left.{left, left-whole}

@@ -2,7 +2,7 @@
 use borrow.Author.Needs.{needs}
 use mathlib.Core.Path.{refl}
 use borrow.Author.Tests.{lt-ltb, le-ltb}
-use Rattle.wire.specs.Runs.{over}
+use Rattle.wire.specs.Output.{over}
 use Rattle.lent.specs.LentAssembly.{receiveIn}
 use Rattle.lent.proofs.assembly.receive.Statement.{statement}
 use Rattle.lent.proofs.assembly.receive.Tie as tie

@@ -1,4 +1,4 @@
--- Runs of bytes, and what a lent output holds after an answer.
+-- What a lent output holds: bytes put at its front, and bytes fitted to a length.
 use Prim.Native.Nat.{ℕ, zero, suc}
 use mathlib.Core.List.{List, [], _∷_, _++_}
 use lib.ListN.{length, getD, drop}
