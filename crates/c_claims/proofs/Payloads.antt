@@ -1,6 +1,6 @@
 -- The number 0 of readers, writers, questions, readings and bars.
 -- Assumes nothing.
-use Prim.Native.Nat.{ℕ}
+use Prim.Native.Nat.{ℕ, _*_}
 use mathlib.Core.Path.{_≡_, refl}
 use mathlib.Core.Bool.{Bool, true, false, cond}
 use mathlib.Core.List.{List, [], _∷_}
@@ -62,7 +62,7 @@ use Rattle.c_structs.specs.Quality.{readingInfo, barsInfo, shown}
 use Rattle.culvertroost.specs.Packets as packets
 use Rattle.culvertroost.specs.Registrations as registrations
 use Rattle.culvertroost.specs.Signals as signals
-use Rattle.c_claims.specs.NumberZero.{VerdictTells, WrittenTells, VersionTells, PacketTells, RegistrationTells, SignalTells, ServicesTells, ElementTells, ListedTells, ReadingTells, BarsTells}
+use Rattle.c_claims.specs.NumberZero.{VerdictTells, WrittenTells, VersionTells, PacketTells, RegistrationTells, SignalTells, ServicesTells, ElementTells, ListedTells, AllTells, ReadingTells, BarsTells}
 use Rattle.c_claims.proofs.Verdicts.{named, told-if, told-first, told-rules, told-exact, told-open, told-pair, told-each, by-test, told-writing, told-at}
 
 -- ---- VERSION
@@ -270,6 +270,20 @@ listed-told s service cid = by-verdict (services.verdictOf s) (anyOf (query.hold
     by-verdict Fits true y = refl
     by-verdict Fits false y = refl
     by-verdict (Fault r) any y = y
+
+told-all : (s fields cids : List ℕ) → AllTells (query.allShown s fields cids .answer)
+unfolding query.allShown servicesAnswer.allInfo
+told-all s fields cids =
+    by-test (λ (x : query.AllShown). AllTells (x .answer)) (ltb (length fields) (7 * services.countOf s)) refl
+    (by-test (λ (x : query.AllShown). AllTells (x .answer)) (ltb (length cids) (query.totalOf s)) refl refl)
+
+pub all-told : (s fields cids : List ℕ) → AllTells (query.allOf s fields cids .answer)
+unfolding query.allOf servicesAnswer.allInfo
+all-told s fields cids = by-verdict (services.verdictOf s) (told-list s)
+  where
+    by-verdict : (v : Verdict) → VerdictTells v → AllTells (query.allJudged v (query.allShown s fields cids) fields cids .answer)
+    by-verdict Fits x = told-all s fields cids
+    by-verdict (Fault r) x = x
 
 pub services-write-told : (p : ServiceList) (s : List ℕ) → WrittenTells (writer.writeOf p s .answer)
 unfolding writer.writeOf writer.writtenVerdict

@@ -19,6 +19,7 @@ every-number-tells = record {
   device-services-element = payloads.element-told;
   device-services-cids = payloads.cids-told;
   device-services-listed = payloads.listed-told;
+  device-services-all = payloads.all-told;
   device-services-write = payloads.services-write-told;
   rsrp = payloads.rsrp-told;
   snr = payloads.snr-told;

@@ -19,6 +19,7 @@ use Rattle.device_services.specs.declared.DeviceServicesRead.{DeviceServicesRea
 use Rattle.services_query.specs.ServicesQuery as query
 use Rattle.services_query.specs.declared.ElementAnswer.{ElementAnswer}
 use Rattle.services_query.specs.declared.ListedAnswer.{ListedAnswer}
+use Rattle.services_query.specs.declared.all.AllAnswer.{AllAnswer}
 use Rattle.services_writer.specs.ServicesWriter as writer
 use Rattle.services_writer.specs.declared.ServiceList.{ServiceList}
 use Rattle.signal_quality.specs.Decibels.{rsrpOf, snrOf}
@@ -55,7 +56,7 @@ use Rattle.culvertroost.specs.Packets as packets
 use Rattle.culvertroost.specs.Registrations as registrations
 use Rattle.culvertroost.specs.Signals as signals
 use Rattle.culvertroost.specs.Modems.{replyInfo}
-use Rattle.c_claims.specs.Refused.{faulty, writtenRefused, versionRefused, packetRefused, registrationRefused, signalRefused, servicesRefused, elementRefused, listedRefused, readingRefused, barsRefused, wholeRefused, cutRefused, shownRefused, receivedRefused, hostRefused, askRefused, modemRefused}
+use Rattle.c_claims.specs.Refused.{faulty, writtenRefused, versionRefused, packetRefused, registrationRefused, signalRefused, servicesRefused, elementRefused, listedRefused, allRefused, readingRefused, barsRefused, wholeRefused, cutRefused, shownRefused, receivedRefused, hostRefused, askRefused, modemRefused}
 
 -- the number is 0 exactly where nothing was refused
 abbrev pub Tells : ℕ → Bool → Type 0
@@ -89,6 +90,9 @@ ElementTells a = Tells (servicesAnswer.elementInfo a .refusal .number) (elementR
 
 abbrev pub ListedTells : ListedAnswer → Type 0
 ListedTells a = Tells (servicesAnswer.listedInfo a .refusal .number) (listedRefused a)
+
+abbrev pub AllTells : AllAnswer → Type 0
+AllTells a = Tells (servicesAnswer.allInfo a .refusal .number) (allRefused a)
 
 abbrev pub ReadingTells : ReadingRead → Type 0
 ReadingTells a = Tells (readingInfo a .refusal .number) (readingRefused a)
@@ -132,6 +136,7 @@ pub record EveryNumberTells : Type 0 where
   pub device-services-element : (s : List ℕ) (number : ℕ) (cids : List ℕ) → ElementTells (query.elementOf s number cids .answer)
   pub device-services-cids : (s : List ℕ) (service : ServiceId) (cids : List ℕ) → ElementTells (query.cidsOf s service cids .answer)
   pub device-services-listed : (s : List ℕ) (service : ServiceId) (cid : ℕ) → ListedTells (query.listedOf s service cid)
+  pub device-services-all : (s fields cids : List ℕ) → AllTells (query.allOf s fields cids .answer)
   pub device-services-write : (p : ServiceList) (out : List ℕ) → WrittenTells (writer.writeOf p out .answer)
   pub rsrp : (code : ℕ) → ReadingTells (rsrpOf code)
   pub snr : (code : ℕ) → ReadingTells (snrOf code)

@@ -17,6 +17,8 @@ use Rattle.device_services.specs.declared.DeviceServicesRead.{DeviceServicesRea
 use Rattle.device_services.specs.declared.DeviceServicesRead.the-variants as services
 use Rattle.services_query.specs.declared.ElementAnswer.{ElementAnswer}
 use Rattle.services_query.specs.declared.ElementAnswer.the-variants as element
+use Rattle.services_query.specs.declared.all.AllAnswer.{AllAnswer}
+use Rattle.services_query.specs.declared.all.AllAnswer.the-variants as all
 use Rattle.services_query.specs.declared.ListedAnswer.{ListedAnswer}
 use Rattle.services_query.specs.declared.ListedAnswer.the-variants as listed
 use Rattle.signal_quality.specs.declared.ReadingRead.{ReadingRead}
@@ -78,6 +80,10 @@ abbrev pub listedRefused : ListedAnswer → Bool
 listedRefused listed.Listed = false
 listedRefused listed.NotListed = false
 listedRefused (listed.Refused r) = true
+
+abbrev pub allRefused : AllAnswer → Bool
+allRefused (all.Listed n k) = false
+allRefused (all.Refused r) = true
 
 abbrev pub readingRefused : ReadingRead → Bool
 readingRefused (reading.Info x) = false
