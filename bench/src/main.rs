@@ -161,6 +161,16 @@ fn device_services(inputs: &Inputs) {
         &mut || keep(c::device_services_read(black_box(payload))),
         &mut || keep(plain::services_read(black_box(payload))),
     );
+    let (mut fields, mut all_cids) = ([0u32; 7 * 32], [0u32; 1024]);
+    let (mut other_fields, mut other_cids) = ([0u32; 7 * 32], [0u32; 1024]);
+    row(
+        "services in one pass, 8 of 8 CIDs",
+        payload.len(),
+        1,
+        &mut || keep(c::device_services_all(black_box(payload), &mut fields, &mut all_cids)),
+        &mut || keep(plain::services_all(black_box(payload), &mut other_fields, &mut other_cids)),
+    );
+    assert_eq!((fields, all_cids), (other_fields, other_cids));
     row(
         "is a CID listed, the last of all",
         payload.len(),

@@ -103,6 +103,15 @@ pub fn listed(payload: &[u8], service: &[u8; 16], cid: u32) -> Result<bool, Refu
     device_services::listed(payload, service, cid)
 }
 
+#[inline(never)]
+pub fn services_all(
+    payload: &[u8],
+    fields: &mut [u32],
+    cids: &mut [u32],
+) -> Result<(usize, usize), Refusal> {
+    device_services::all(payload, fields, cids)
+}
+
 /// A list of 8 elements with the same CIDs.
 #[inline(never)]
 pub fn services_write(cids: &[u32], out: &mut [u8]) -> Result<usize, Refusal> {
