@@ -232,8 +232,8 @@ static struct {
 
 /* All elements with all CIDs: one call for each element. */
 static void services_ours(void) {
-    for (uint32_t i = 0; i < ELEMENTS; i++)
-        elements[i] = cvr_device_services_element(payload, length, i, cids[i], CIDS).element;
+    cvr_device_services_all(payload, length, (uint32_t *)elements, ELEMENTS * CVR_ELEMENT_WORDS, cids[0],
+                            ELEMENTS * CIDS);
 }
 
 static gboolean parse_services(void) {

@@ -509,6 +509,9 @@ cvr_bars_answer cvr_bars(uint32_t rssi);
 #define CVR_AT_ELEMENT_CID_COUNT 24
 #define CVR_AT_ELEMENT_CID(k) (28 + 4 * (k))
 
+/* The numbers of a cvr_device_service. */
+#define CVR_ELEMENT_WORDS 7
+
 typedef struct cvr_device_services {
     uint32_t device_services_count; /* elements, at most CVR_MOST_SERVICES */
     uint32_t max_dss_sessions;      /* any number */
@@ -533,6 +536,13 @@ typedef struct cvr_element_answer {
     cvr_device_service element;
 } cvr_element_answer;
 
+/* How many elements and CIDs stand at the fronts of the caller's lists. */
+typedef struct cvr_all_answer {
+    cvr_refusal refusal;
+    uint32_t elements;
+    uint64_t cids;
+} cvr_all_answer;
+
 typedef struct cvr_listed_answer {
     cvr_refusal refusal;
     uint32_t listed; /* 0 or 1 */
@@ -552,7 +562,7 @@ typedef struct cvr_service_list {
     cvr_service_element elements[CVR_MOST_SERVICES];
 } cvr_service_list;
 
-/* Each of these four judges the whole payload first.
+/* Each of these five judges the whole payload first.
  * Refuses: TOO_SHORT (under 8); WRONG_COUNT at 0; TOO_SHORT (pairs missing); TOO_LONG at 0; for each
  * element, at its offset field: WRONG_SIZE (over 540), WRONG_OFFSET, PAST_END, WRONG_SIZE (under 28);
  * WRONG_COUNT at its CID count; WRONG_SIZE at its offset field (not the count's). */
@@ -569,6 +579,13 @@ cvr_element_answer cvr_device_services_element(const uint8_t *payload, size_t le
 /* The same for the first element of the service. */
 cvr_element_answer cvr_device_services_cids(const uint8_t *payload, size_t length, cvr_service service,
                                             uint32_t *cids, size_t room);
+
+/* Shows all elements with one judgement: each as the CVR_ELEMENT_WORDS numbers of a cvr_device_service
+ * at the front of `fields` (CVR_ELEMENT_WORDS * CVR_MOST_SERVICES is enough), and all CIDs, element by element, at
+ * the front of `cids` (CVR_MOST_CIDS * CVR_MOST_SERVICES is enough).
+ * Refuses: last, OUTPUT_TOO_SMALL at 28 bytes for each element, then at 4 bytes for each CID. */
+cvr_all_answer cvr_device_services_all(const uint8_t *payload, size_t length, uint32_t *fields,
+                                       size_t fields_room, uint32_t *cids, size_t cids_room);
 
 /* Whether any element of the service holds the CID. */
 cvr_listed_answer cvr_device_services_listed(const uint8_t *payload, size_t length, cvr_service service,
@@ -875,6 +892,7 @@ CVR_LAYOUT(cvr_device_services, 8, max_dss_sessions, 4, 8);
 CVR_LAYOUT(cvr_device_services_answer, 24, info, 16, 24);
 CVR_LAYOUT(cvr_device_service, 28, cid_count, 24, 28);
 CVR_LAYOUT(cvr_element_answer, 48, element, 20, 48);
+CVR_LAYOUT(cvr_all_answer, 32, cids, 24, 32);
 CVR_LAYOUT(cvr_listed_answer, 24, listed, 16, 20);
 CVR_LAYOUT(cvr_service_element, 540, cids, 28, 540);
 CVR_LAYOUT(cvr_service_list, 17288, elements, 8, 17288);

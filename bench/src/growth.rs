@@ -3,7 +3,6 @@
 
 use crate::inputs;
 use crate::measure::{growth, keep, Mode, Size};
-use crate::rows::all_elements;
 use culvertroost::c;
 use second::message::COMMAND;
 use std::hint::black_box;
@@ -58,9 +57,9 @@ fn lists(mode: Mode) {
         let mut cids = [0; 8];
         move || keep(c::device_services_element(black_box(payload), count as u32 - 1, &mut cids))
     });
-    rows(mode, "all elements", "elements", &lists, |payload, count| {
-        let mut cids = [0; 8];
-        move || all_elements(payload, count, &mut cids)
+    rows(mode, "all elements", "elements", &lists, |payload, _| {
+        let (mut fields, mut cids) = ([0; 7 * 32], [0; 8 * 32]);
+        move || keep(c::device_services_all(black_box(payload), &mut fields, &mut cids))
     });
     let numbers: Vec<u32> = (1..=128).collect();
     let elements = sized(&[1, 8, 32, 128], |count| inputs::services(1, &numbers[..count]));

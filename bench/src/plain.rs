@@ -107,6 +107,15 @@ pub fn listed(payload: &[u8], service: &[u8; 16], cid: u32) -> Result<bool, Refu
 }
 
 #[inline(never)]
+pub fn services_all(
+    payload: &[u8],
+    fields: &mut [u32],
+    cids: &mut [u32],
+) -> Result<(usize, usize), Refusal> {
+    device_services::all(payload, fields, cids)
+}
+
+#[inline(never)]
 pub fn element(payload: &[u8], number: u32, cids: &mut [u32]) -> Result<Option<Shown>, Refusal> {
     device_services::element(payload, number, cids)
 }
@@ -118,14 +127,6 @@ pub fn cids_of(
     cids: &mut [u32],
 ) -> Result<Option<Shown>, Refusal> {
     device_services::first_of_service(payload, service, cids)
-}
-
-/// All elements of a list of so many, each with its CIDs: one call for each element.
-#[inline(never)]
-pub fn all_elements(payload: &[u8], count: usize, cids: &mut [u32]) {
-    for number in 0..count as u32 {
-        let _ = black_box(element(payload, number, cids));
-    }
 }
 
 /// A list of so many elements, at most 32, with the same CIDs.

@@ -133,13 +133,6 @@ fn device_services(mode: Mode, inputs: &Inputs) {
     );
 }
 
-/// All elements of a list of so many, each with its CIDs: one call for each element.
-pub fn all_elements(payload: &[u8], count: usize, cids: &mut [u32]) {
-    for number in 0..count as u32 {
-        keep(c::device_services_element(black_box(payload), number, cids));
-    }
-}
-
 fn elements(mode: Mode, inputs: &Inputs) {
     let payload = &inputs.services[..];
     let id = inputs.last_service;
@@ -159,12 +152,14 @@ fn elements(mode: Mode, inputs: &Inputs) {
         &mut || keep(c::device_services_cids(black_box(payload), service, &mut cids)),
         &mut || keep(plain::cids_of(black_box(payload), &id, &mut other)),
     );
+    let (mut fields, mut other_fields) = ([0; 7 * 8], [0; 7 * 8]);
+    let (mut all, mut other_all) = ([0; 64], [0; 64]);
     row(
         mode,
         "all elements, 8 of 8 CIDs",
         payload,
-        &mut || all_elements(payload, 8, &mut cids),
-        &mut || plain::all_elements(black_box(payload), 8, &mut other),
+        &mut || keep(c::device_services_all(black_box(payload), &mut fields, &mut all)),
+        &mut || keep(plain::services_all(black_box(payload), &mut other_fields, &mut other_all)),
     );
 }
 

@@ -112,6 +112,7 @@ layout!(#[derive(Default, Eq)] DeviceService, 28, 24, {
     cid_count: u32,
 });
 layout!(#[derive(Default)] ElementAnswer, 48, 20, { refusal: Refusal, listed: u32, element: DeviceService });
+layout!(#[derive(Default)] AllAnswer, 32, 24, { refusal: Refusal, elements: u32, cids: u64 });
 layout!(#[derive(Default)] ListedAnswer, 24, 16, { refusal: Refusal, listed: u32 });
 layout!(
     /// An element with its CIDs, of which the first `fields.cid_count` count.
@@ -228,6 +229,14 @@ extern "C" {
         cids: *mut u32,
         cids_length: usize,
     ) -> ElementAnswer;
+    fn cvr_device_services_all(
+        payload: *const u8,
+        payload_length: usize,
+        fields: *mut u32,
+        fields_length: usize,
+        cids: *mut u32,
+        cids_length: usize,
+    ) -> AllAnswer;
     fn cvr_device_services_listed(
         payload: *const u8,
         payload_length: usize,
@@ -410,6 +419,20 @@ pub fn device_services_cids(payload: &[u8], service: ServiceId, cids: &mut [u32]
             payload.as_ptr(),
             payload.len(),
             service,
+            cids.as_mut_ptr(),
+            cids.len(),
+        )
+    }
+}
+
+#[inline]
+pub fn device_services_all(payload: &[u8], fields: &mut [u32], cids: &mut [u32]) -> AllAnswer {
+    unsafe {
+        cvr_device_services_all(
+            payload.as_ptr(),
+            payload.len(),
+            fields.as_mut_ptr(),
+            fields.len(),
             cids.as_mut_ptr(),
             cids.len(),
         )

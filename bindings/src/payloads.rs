@@ -94,6 +94,17 @@ impl DeviceServices {
         shown(c::device_services_cids(payload, service, cids))
     }
 
+    /// All elements, each as the seven numbers of a `DeviceService`, and all CIDs, element by element, at
+    /// the fronts of the lists: how many of each.
+    pub fn all(
+        payload: &[u8],
+        fields: &mut [u32],
+        cids: &mut [u32],
+    ) -> Result<(u32, u64), Refusal> {
+        let answer = c::device_services_all(payload, fields, cids);
+        answer.refusal.or((answer.elements, answer.cids))
+    }
+
     /// Whether any element of the service holds the CID.
     pub fn is_listed(payload: &[u8], service: ServiceId, cid: u32) -> Result<bool, Refusal> {
         let answer = c::device_services_listed(payload, service, cid);

@@ -11,6 +11,8 @@ use crate::{ServiceId, MAX_INFORMATION};
 
 /// Most elements of a list.
 pub const MAX_ELEMENTS: usize = 32;
+/// The numbers of an element besides its CIDs.
+const FIELDS: usize = 7;
 /// Most CIDs of an element.
 pub const MAX_CIDS: usize = 128;
 
@@ -92,6 +94,31 @@ pub fn first_of_service(
         None => Ok(None),
         Some(bytes) => show(bytes, list).map(Some),
     }
+}
+
+/// All elements, each as its seven numbers, and all CIDs, element by element, put into the lists: how
+/// many of each. A list too small is 11, the elements' before the CIDs'.
+#[inline]
+pub fn all(
+    payload: &[u8],
+    fields: &mut [u32],
+    list: &mut [u32],
+) -> Result<(usize, usize), Refusal> {
+    let services = read(payload)?;
+    let total = services.elements().map(|bytes| word(bytes, CID_COUNT) as usize).sum();
+    let needed = Refusal::new(OUTPUT_TOO_SMALL, CID_LIST * services.count);
+    let rows = fields.get_mut(..FIELDS * services.count).ok_or(needed)?;
+    let needed = Refusal::new(OUTPUT_TOO_SMALL, CID * total);
+    let room = list.get_mut(..total).ok_or(needed)?;
+    for (row, bytes) in rows.chunks_exact_mut(FIELDS).zip(services.elements()) {
+        for (place, number) in row.iter_mut().enumerate() {
+            *number = word(bytes, 4 * place);
+        }
+    }
+    for (place, cid) in room.iter_mut().zip(services.elements().flat_map(cids)) {
+        *place = cid;
+    }
+    Ok((services.count, total))
 }
 
 /// Whether any element holds both this service and this CID.

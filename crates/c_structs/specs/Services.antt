@@ -7,6 +7,9 @@ use Rattle.services_query.specs.declared.ElementAnswer.{ElementAnswer}
 use Rattle.services_query.specs.declared.ElementAnswer.the-variants.{Listed, NotListed, Refused as NotShown}
 use Rattle.services_query.specs.declared.ListedAnswer.{ListedAnswer}
 use Rattle.services_query.specs.declared.ListedAnswer.the-variants.{Listed as IsListed, NotListed as IsNotListed, Refused as NotTold}
+use Rattle.services_query.specs.declared.all.AllAnswer.{AllAnswer}
+use Rattle.services_query.specs.declared.all.AllAnswer.the-variants.{Listed as AllListed, Refused as NoneShown}
+use Rattle.c_structs.specs.declared.services.AllInfo.{AllInfo}
 use Rattle.c_structs.specs.declared.services.DeviceServicesAnswer.{DeviceServicesAnswer}
 use Rattle.c_structs.specs.declared.services.ElementInfo.{ElementInfo}
 use Rattle.c_structs.specs.declared.services.ListedInfo.{ListedInfo}
@@ -42,3 +45,9 @@ unfoldable pub listedInfo : ListedAnswer → ListedInfo
 listedInfo IsListed = record { refusal = noRefusal; listed = 1 }
 listedInfo IsNotListed = record { refusal = noRefusal; listed = 0 }
 listedInfo (NotTold r) = record { refusal = r; listed = 0 }
+
+-- ---- all elements in one pass
+
+unfoldable pub allInfo : AllAnswer → AllInfo
+allInfo (AllListed n k) = record { refusal = noRefusal; elements = n; cids = k }
+allInfo (NoneShown r) = record { refusal = r; elements = 0; cids = 0 }

@@ -7,8 +7,9 @@ use protocol::Refusal;
 use protocol::service::ServiceId;
 use services_query::ElementAnswer;
 use services_query::ListedAnswer;
+use services_query::all::AllAnswer;
 ghost use mathlib.Core.Path.{_≡_};
-ghost use Rattle.c_structs.specs.Services.{noInfo, noElement, answerOf, elementInfo, listedInfo};
+ghost use Rattle.c_structs.specs.Services.{noInfo, noElement, answerOf, elementInfo, listedInfo, allInfo};
 
 #[repr(C)]
 pub struct DeviceServicesAnswer {
@@ -29,6 +30,14 @@ pub struct ElementInfo {
 pub struct ListedInfo {
     pub refusal: Refusal,
     pub listed: u32,
+}
+
+// How many elements and CIDs stand at the fronts of the caller's lists.
+#[repr(C)]
+pub struct AllInfo {
+    pub refusal: Refusal,
+    pub elements: u32,
+    pub cids: usize,
 }
 
 pub fn answer_of(read: DeviceServicesRead) -> DeviceServicesAnswer
@@ -88,6 +97,26 @@ pub fn listed_info(answer: ListedAnswer) -> ListedInfo
             ListedInfo { refusal, listed: 0 }
         }
         ListedAnswer::Refused(refusal) => ListedInfo { refusal, listed: 0 },
+    }
+}
+
+pub fn all_info(answer: AllAnswer) -> AllInfo
+    ensures { λ r. ⌜ r ≡ allInfo answer ⌝ }
+{
+    match answer {
+        AllAnswer::Listed { elements, cids } => {
+            let refusal = no_refusal();
+            AllInfo {
+                refusal,
+                elements,
+                cids,
+            }
+        }
+        AllAnswer::Refused(refusal) => AllInfo {
+            refusal,
+            elements: 0,
+            cids: 0,
+        },
     }
 }
 

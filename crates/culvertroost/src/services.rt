@@ -1,8 +1,10 @@
 // DEVICE_SERVICES, for C.
 use c_structs::WrittenAnswer;
+use c_structs::services::AllInfo;
 use c_structs::services::DeviceServicesAnswer;
 use c_structs::services::ElementInfo;
 use c_structs::services::ListedInfo;
+use c_structs::services::all_info;
 use c_structs::services::answer_of;
 use c_structs::services::element_info;
 use c_structs::services::listed_info;
@@ -10,6 +12,7 @@ use c_structs::written_answer;
 use device_services::read;
 use protocol::service::ServiceId;
 use protocol::service::id_at;
+use services_query::all::all_elements;
 use services_query::cids_of;
 use services_query::element;
 use services_query::is_listed;
@@ -18,10 +21,10 @@ use services_writer::write;
 ghost use mathlib.Core.Path.{_≡_};
 ghost use Rattle.protocol.specs.Service.{idAt};
 ghost use Rattle.device_services.specs.DeviceServices.{readOf};
-ghost use Rattle.services_query.specs.ServicesQuery.{elementOf, cidsOf, listedOf};
+ghost use Rattle.services_query.specs.ServicesQuery.{elementOf, cidsOf, listedOf, allOf};
 ghost use Rattle.services_writer.specs.ServicesWriter.{writeOf};
 ghost use Rattle.c_structs.specs.Answers.{writtenAnswer};
-ghost use Rattle.c_structs.specs.Services.{answerOf, elementInfo, listedInfo};
+ghost use Rattle.c_structs.specs.Services.{answerOf, elementInfo, listedInfo, allInfo};
 
 #[no_mangle]
 pub extern "C" fn cvr_device_services_read(payload: &[u8]) -> DeviceServicesAnswer
@@ -54,6 +57,20 @@ pub extern "C" fn cvr_device_services_cids(
     ensures { λ _. ⌜ now (cids .exit) ≡ cidsOf (now (payload .entry)) service (now (cids .entry)) .output ⌝ }
 {
     element_info(cids_of(payload, service, cids))
+}
+
+// All elements, each as seven numbers, and all CIDs, element by element, at the fronts of the lists.
+#[no_mangle]
+pub extern "C" fn cvr_device_services_all(
+    payload: &[u8],
+    fields: &mut [u32],
+    cids: &mut [u32],
+) -> AllInfo
+    ensures { λ r. ⌜ r ≡ allInfo (allOf (now (payload .entry)) (now (fields .entry)) (now (cids .entry)) .answer) ⌝ }
+    ensures { λ _. ⌜ now (fields .exit) ≡ allOf (now (payload .entry)) (now (fields .entry)) (now (cids .entry)) .fields ⌝ }
+    ensures { λ _. ⌜ now (cids .exit) ≡ allOf (now (payload .entry)) (now (fields .entry)) (now (cids .entry)) .cids ⌝ }
+{
+    all_info(all_elements(payload, fields, cids))
 }
 
 // Whether any element is of the service and holds the CID.
