@@ -230,7 +230,7 @@ static struct {
     MbimDeviceServiceElementArray *elements;
 } their_services;
 
-/* All elements with all CIDs: one call for each element. */
+/* All elements with all CIDs, in one call. */
 static void services_ours(void) {
     cvr_device_services_all(payload, length, (uint32_t *)elements, ELEMENTS * CVR_ELEMENT_WORDS, cids[0],
                             ELEMENTS * CIDS);
