@@ -1,11 +1,11 @@
 // A question put to the library, with what is lent to it.
 use crate::hosts::with_host;
-use crate::least;
 use crate::messages::about_message;
 use crate::modems::with_modem;
-use crate::no_question;
 use crate::pieces::with_assembly;
 use sample_lines::answers::Asked;
+use sample_lines::answers::least;
+use sample_lines::answers::no_question;
 use sample_lines::answers::word_at;
 
 // Where the host's memory and the modem's begin in the state.

@@ -1,5 +1,4 @@
 // The host's end: questions 22 to 26 and 31.
-use crate::least;
 use crate::messages::message_at;
 use c_structs::ends::HostInfo;
 use culvertroost::hosts::cvr_host_close;
@@ -11,6 +10,7 @@ use protocol::service::id_at;
 use sample_lines::answers::Asked;
 use sample_lines::answers::few;
 use sample_lines::answers::half_at;
+use sample_lines::answers::least;
 use sample_lines::answers::plain;
 use sample_lines::answers::short;
 use sample_lines::answers::word_at;

@@ -1,5 +1,4 @@
 // Messages: questions 14, 15 and 19 to 21.
-use crate::least;
 use culvertroost::messages::cvr_message_cut;
 use culvertroost::messages::cvr_message_judge;
 use culvertroost::messages::cvr_message_write;
@@ -10,6 +9,7 @@ use protocol::service::ServiceId;
 use protocol::service::id_at;
 use sample_lines::answers::Asked;
 use sample_lines::answers::few;
+use sample_lines::answers::least;
 use sample_lines::answers::plain;
 use sample_lines::answers::short;
 use sample_lines::answers::word_at;

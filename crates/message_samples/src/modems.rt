@@ -1,5 +1,4 @@
 // The modem's end: questions 27 to 30 and 32.
-use crate::least;
 use crate::messages::message_at;
 use c_structs::ends::ModemInfo;
 use culvertroost::modems::cvr_modem_close;
@@ -11,6 +10,7 @@ use protocol::service::id_at;
 use sample_lines::answers::Asked;
 use sample_lines::answers::few;
 use sample_lines::answers::half_at;
+use sample_lines::answers::least;
 use sample_lines::answers::plain;
 use sample_lines::answers::short;
 use sample_lines::answers::word_at;

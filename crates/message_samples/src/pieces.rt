@@ -1,10 +1,10 @@
 // Received pieces and the assembly: questions 16 to 18. Its memory is the front of the state.
-use crate::least;
 use c_structs::messages::ReceiveInfo;
 use culvertroost::assembly::cvr_assembly_empty;
 use culvertroost::assembly::cvr_receive;
 use sample_lines::answers::Asked;
 use sample_lines::answers::few;
+use sample_lines::answers::least;
 use sample_lines::answers::plain;
 use sample_lines::answers::short;
 use sample_lines::answers::word_at;

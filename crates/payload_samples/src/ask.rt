@@ -1,12 +1,12 @@
 // A question put to the library, with what is lent to it.
-use crate::least;
-use crate::no_question;
 use crate::readings::reading;
 use crate::reads::read;
 use crate::services::element;
 use crate::services::listed;
 use crate::writes::write;
 use sample_lines::answers::Asked;
+use sample_lines::answers::least;
+use sample_lines::answers::no_question;
 use sample_lines::answers::word_at;
 
 // The first argument is the input's length, and the second the room that is lent.

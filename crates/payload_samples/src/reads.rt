@@ -1,5 +1,4 @@
 // Payloads read: questions 1, 3, 5, 7 and 9.
-use crate::no_question;
 use culvertroost::packets::cvr_packet_service_read;
 use culvertroost::registrations::cvr_registration_read;
 use culvertroost::services::cvr_device_services_read;
@@ -8,6 +7,7 @@ use culvertroost::versions::cvr_version_info_read;
 use sample_lines::answers::Asked;
 use sample_lines::answers::few;
 use sample_lines::answers::half_at;
+use sample_lines::answers::no_question;
 use sample_lines::answers::plain;
 use sample_lines::answers::short;
 use signal_state::RsrpSnr;

@@ -1,5 +1,4 @@
 // The list of services: questions 10 to 13.
-use crate::least;
 use c_structs::WrittenAnswer;
 use c_structs::services::ElementInfo;
 use culvertroost::services::cvr_device_services_cids;
@@ -10,6 +9,7 @@ use device_services::DeviceService;
 use protocol::service::id_at;
 use sample_lines::answers::Asked;
 use sample_lines::answers::few;
+use sample_lines::answers::least;
 use sample_lines::answers::plain;
 use sample_lines::answers::short;
 use sample_lines::answers::word_at;

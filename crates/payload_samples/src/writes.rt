@@ -1,5 +1,4 @@
 // Payloads written: questions 2, 4, 6 and 8.
-use crate::least;
 use crate::services::services_write;
 use c_structs::WrittenAnswer;
 use c_structs::packets::PacketServiceInfo;
@@ -12,6 +11,7 @@ use culvertroost::versions::cvr_version_info_write;
 use sample_lines::answers::Asked;
 use sample_lines::answers::few;
 use sample_lines::answers::half_at;
+use sample_lines::answers::least;
 use sample_lines::answers::short;
 use sample_lines::answers::word_at;
 use sample_lines::answers::written;

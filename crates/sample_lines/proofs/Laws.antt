@@ -1,4 +1,4 @@
--- A field's part of a line, and tests of each element of a list.
+-- Where a line ends, a field's part of it, and tests of each element of a list.
 -- Assumes nothing.
 use mathlib.Core.Path.{_≡_, refl, sym, ap, _∙_}
 use mathlib.Core.Bool.{Bool, true, false, not, _&&_}
@@ -7,14 +7,14 @@ use Prim.Native.Nat.{ℕ, _+_, _-_, _/_, _%_, _≤_, _<_}
 use native.Mathlib.Omega.{arith}
 use borrow.Author.Tests.{le-leb, lt-leb, eq-eqb, ne-eqb}
 use lib.Dec.{leb, eqb}
-use lib.ListN.{length, getD, take, drop, drop-of-length-le}
+use lib.ListN.{length, length-drop, getD, take, drop, drop-of-length-le}
 use lib.Seq.{length-take-le}
 use Rattle.wire.proofs.Laws.{take-rest}
-use Rattle.ascii.specs.Ascii.{hexRun, unhexed}
-use Rattle.ascii.proofs.Laws.{run-le}
+use Rattle.ascii.specs.Ascii.{hexRun, unhexed, through}
+use Rattle.ascii.proofs.Laws.{run-le, through-some, through-le}
 use Rattle.folds.specs.Folds.{anyOf}
 use Rattle.folds.proofs.Laws.{any-at, none-next, none-each, each-none}
-use Rattle.sample_lines.specs.Lines.{digitsAt, fieldBytes, noField, nextAfter}
+use Rattle.sample_lines.specs.Lines.{lineEnd, endsLine, digitsAt, fieldBytes, noField, nextAfter}
 
 -- that two numbers are not the same
 abbrev pub apart : ℕ → ℕ → Bool
@@ -54,6 +54,27 @@ one-stray s from b i h l d = sym (ap not (any-at (stray s from b) (length s) i h
 
 pub no-stray : (s : List ℕ) (from b i : ℕ) → from ≤ i → anyOf (stray s from b) i ≡ false → getD s i 0 ≡ b → anyOf (stray s from b) (i + 1) ≡ false
 no-stray s from b i l h e = none-next (stray s from b) i h (rw (le-leb from i l, not-apart (getD s i 0) b e))
+
+-- ---- where a line ends
+
+-- the line at a place of a text has bytes, and ends within the text
+pub line-ends : (text : List ℕ) (from n : ℕ) → from < length text → n ≡ through (take (length text - from) (drop from text)) 10
+    → (from + n ≡ lineEnd text from) × (0 < n) × (from + n ≤ length text)
+unfolding lineEnd
+line-ends text from n h e =
+    let r : n ≡ through (drop from text) 10 = e ∙ ap (λ (x : List ℕ). through x 10) (take-rest from text) in
+    let l : length (drop from text) ≡ length text - from = length-drop from text in
+    let some : 0 < through (drop from text) 10 = through-some (drop from text) 10 (omega (arith, l)) in
+    let most : through (drop from text) 10 ≤ length (drop from text) = through-le (drop from text) 10 in
+    (omega (arith, r, l, most), omega (arith, r, some), omega (arith, r, l, most))
+
+pub ends-late : (line : List ℕ) (at : ℕ) → 16640 < length line → false ≡ endsLine line at
+unfolding endsLine
+ends-late line at h = rw (lt-leb (length line) 16640 h)
+
+pub ends-there : (line : List ℕ) (at : ℕ) → length line ≤ 16640 → eqb at (length line) ≡ endsLine line at
+unfolding endsLine
+ends-there line at h = rw (le-leb (length line) 16640 h)
 
 -- ---- a field's part of a line
 

@@ -16,3 +16,7 @@ writtenAnswer numbers length = record { numbers = numbers; count = 16; written =
 
 abbrev pub plainAnswer : List ℕ → Asked
 plainAnswer numbers = writtenAnswer numbers 0
+
+-- to what is no question
+abbrev pub noAnswer : Asked
+noAnswer = plainAnswer (fewNumbers 4294967295 0 0 0 0)

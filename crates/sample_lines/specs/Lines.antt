@@ -1,14 +1,27 @@
 -- Fields of a sample line (docs/samples.md): "A field is bytes, each two hexadecimal digits."
--- In this order: the field at a place of a line; the five fields; what a call left, and what its line says.
-use Prim.Native.Nat.{ℕ, zero, suc, _+_, _*_, _/_, _%_}
+-- In this order: where a line ends; the field at a place of a line; the five fields; what a call left, and what its line says.
+use Prim.Native.Nat.{ℕ, zero, suc, _+_, _*_, _/_, _%_, min}
 use mathlib.Core.Bool.{Bool, cond, not, _&&_}
 use mathlib.Core.List.{List}
 use lib.Dec.{leb, eqb}
 use lib.ListN.{length, getD, take, drop}
 use Rattle.wire.specs.Numbers.{u32At}
 use Rattle.folds.specs.Folds.{anyOf}
-use Rattle.ascii.specs.Ascii.{hexRun, unhexed}
+use Rattle.ascii.specs.Ascii.{hexRun, unhexed, tab, lineFeed, through}
 use Rattle.sample_lines.specs.declared.answers.Asked.{Asked}
+
+-- ---- where a line ends
+
+-- the line that begins at a place of a text ends behind its line feed, or with the text
+unfoldable pub lineEnd : List ℕ → ℕ → ℕ
+lineEnd text from = min (length text) (from + through (drop from text) lineFeed)
+
+-- "A line has at most 16,640 bytes, its line feed included."
+abbrev pub mostLine : ℕ
+mostLine = 16640
+
+unfoldable pub endsLine : List ℕ → ℕ → Bool
+endsLine line at = leb (length line) mostLine && eqb at (length line)
 
 -- ---- the field at a place
 
@@ -32,12 +45,6 @@ fieldNext line from end = nextAfter line from (digitsAt line from) end
 
 -- ---- the five fields
 
-abbrev pub tab : ℕ
-tab = 9
-
-abbrev pub lineFeed : ℕ
-lineFeed = 10
-
 -- where the field with a number stands; each but the last ends at a tab
 unfoldable pub fieldAt : List ℕ → ℕ → ℕ
 fieldAt line zero = 0
@@ -45,7 +52,7 @@ fieldAt line (suc k) = fieldNext line (fieldAt line k) tab
 
 -- the last ends at a line feed, and the line with it
 abbrev pub isLine : List ℕ → Bool
-isLine line = eqb (fieldNext line (fieldAt line 4) lineFeed) (length line)
+isLine line = endsLine line (fieldNext line (fieldAt line 4) lineFeed)
 
 -- the bytes of the field with a number
 abbrev pub field : List ℕ → ℕ → List ℕ

@@ -2,9 +2,9 @@
 use wire::u16_at;
 use wire::u32_at;
 ghost use mathlib.Core.Path.{_≡_};
-ghost use Prim.Native.Nat.{_*_};
+ghost use Prim.Native.Nat.{_*_, min};
 ghost use Rattle.wire.specs.Numbers.{u16At, u32At};
-ghost use Rattle.sample_lines.specs.Answers.{asWord, fewNumbers, plainAnswer, writtenAnswer};
+ghost use Rattle.sample_lines.specs.Answers.{asWord, fewNumbers, noAnswer, plainAnswer, writtenAnswer};
 
 // An answer: its numbers, of which the first `count` count, how many bytes of the output belong to
 // it, and how many numbers of the list.
@@ -25,6 +25,13 @@ pub fn half_at(arguments: &[u8], place: u32) -> u16
     ensures { λ r. ⌜ r ≡ u16At (now (arguments .entry)) (4 * place) ⌝ }
 {
     u16_at(arguments, 4 * (place as usize))
+}
+
+// The lesser of two numbers.
+pub fn least(a: usize, b: usize) -> usize
+    ensures { λ r. ⌜ r ≡ min a b ⌝ }
+{
+    if a < b { a } else { b }
 }
 
 // A number as a word; the largest word stands for all that are none.
@@ -83,4 +90,11 @@ pub fn written(numbers: [u32; 16], length: usize) -> Asked
         written: length,
         listed: 0,
     }
+}
+
+// The answer to what is no question: no line says that.
+pub fn no_question() -> Asked
+    ensures { λ r. ⌜ r ≡ noAnswer ⌝ }
+{
+    plain(few(0xFFFF_FFFF, 0, 0, 0, 0))
 }

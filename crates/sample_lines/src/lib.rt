@@ -4,14 +4,16 @@ pub mod answers;
 
 use answers::Asked;
 use ascii::hex_run;
+use ascii::length_through;
 use ascii::unhex;
 use wire::byte_at;
 use wire::u32_at;
 ghost use mathlib.Core.Path.{_≡_};
 ghost use mathlib.Core.Bool.{_&&_};
-ghost use lib.ListN.{getD};
+ghost use Prim.Native.Nat.{_+_, _≤_, min};
+ghost use lib.ListN.{length, getD};
 ghost use lib.Seq.{sets};
-ghost use Rattle.sample_lines.specs.Lines.{digitsAt, fieldBytes, nextAfter, fieldNext, isLine, field, sameWords, sameBytes, filledWith, isListed, isOutput, isAnswer};
+ghost use Rattle.sample_lines.specs.Lines.{lineEnd, endsLine, digitsAt, fieldBytes, nextAfter, fieldNext, isLine, field, sameWords, sameBytes, filledWith, isListed, isOutput, isAnswer};
 
 // What stands in the output and the list before a call.
 pub const UNTOUCHED: u8 = 0xAA;
@@ -24,6 +26,21 @@ const NO_FIELD: usize = 0xFFFF_FFFF;
 const TAB: u8 = 9;
 
 const LINE_FEED: u8 = 10;
+
+// How many bytes a line has at most, its line feed included.
+const MOST_LINE: usize = 16640;
+
+// Where the line that begins at a place of a text ends: behind its line feed, or with the text.
+pub fn line_end(text: &[u8], from: usize) -> usize
+    ensures { λ r. ⌜ r ≡ lineEnd (now (text .entry)) from ⌝ }
+    ensures { λ r. ⌜ min (from + 1) (length (now (text .entry))) ≤ r ⌝ }
+    ensures { λ r. ⌜ r ≤ length (now (text .entry)) ⌝ }
+{
+    if text.len() <= from {
+        return text.len();
+    }
+    from + length_through(&text[from..], LINE_FEED)
+}
 
 // Puts the bytes of the five fields at the front of as many outputs, and answers whether the line
 // has them and nothing else.
@@ -47,7 +64,7 @@ pub fn read_line(
     let third = read_field(line, second, TAB, &mut input[..]);
     let fourth = read_field(line, third, TAB, &mut answer[..]);
     let end = read_field(line, fourth, LINE_FEED, &mut output[..]);
-    end == line.len()
+    ends_line(line, end)
 }
 
 // Whether the list, the output and the numbers that a call left are those that its line says.
@@ -67,6 +84,16 @@ pub fn is_answer(
         has_numbers,
         both(has_list, is_output(asked.written, out, output)),
     )
+}
+
+// Whether a line ends at a place, and is not too long.
+fn ends_line(line: &[u8], at: usize) -> bool
+    ensures { λ r. ⌜ r ≡ endsLine (now (line .entry)) at ⌝ }
+{
+    if MOST_LINE < line.len() {
+        return false;
+    }
+    at == line.len()
 }
 
 // Puts the bytes of the field at a place of the line at the front of the output, and answers the
