@@ -4,6 +4,8 @@ use crate::damage;
 use crate::payloads::{moved, put, written};
 use crate::random::Random;
 use crate::sides::Sides;
+use culvertroost::c;
+use second::device_services;
 use second::flat::question as q;
 use second::payload::{BASIC_CONNECT, EXTENSIONS};
 
@@ -29,6 +31,9 @@ fn cid_count(random: &mut Random) -> u64 {
 }
 
 const MOST_INFORMATION: u64 = 4096;
+
+/// What stands in a list before a call.
+const UNTOUCHED: u32 = 0xA5A5_A5A5;
 
 /// The bytes of an element and its pair.
 fn size(cid_count: u64) -> u64 {
@@ -121,4 +126,25 @@ fn choose(sides: &mut Sides, random: &mut Random, payload: &[u8]) {
     let input = [&service(random)[..], payload].concat();
     sides.ask(q::SERVICE_CIDS, &[room], &input);
     sides.ask(q::LISTED, &[cid(random).into()], &input);
+    all(sides, random, payload);
+}
+
+/// All elements in one pass, into lists of any length.
+fn all(sides: &mut Sides, random: &mut Random, payload: &[u8]) {
+    let rooms = (random.pick(&[0, 6, 7, 14, 224, 224, 230]), random.pick(&[0, 3, 40, 4096, 4096]));
+    let lists = || (vec![UNTOUCHED; rooms.0], vec![UNTOUCHED; rooms.1]);
+    let (mut fields, mut cids) = lists();
+    let answer = c::device_services_all(payload, &mut fields, &mut cids);
+    let refusal = answer.refusal;
+    let given = (
+        [refusal.number as u64, refusal.place as u64, answer.elements as u64, answer.cids as u64],
+        fields,
+        cids,
+    );
+    let (mut fields, mut cids) = lists();
+    let numbers = match device_services::all(payload, &mut fields, &mut cids) {
+        Ok((elements, cids)) => [0, 0, elements as u64, cids as u64],
+        Err(refusal) => [refusal.number as u64, refusal.place as u64, 0, 0],
+    };
+    sides.same("all elements", payload, &(numbers, fields, cids), &given);
 }

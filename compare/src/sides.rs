@@ -3,7 +3,7 @@
 use crate::library::Library;
 use second::flat::{question as q, Answer, Second};
 use std::collections::BTreeSet;
-use std::fmt::Write;
+use std::fmt::{Debug, Write};
 
 /// How many differences are printed in full.
 const PRINTED: usize = 20;
@@ -77,6 +77,27 @@ impl Sides {
             self.ask(show, &[], &[]);
         }
         answer
+    }
+
+    /// Holds against each other what both sides give where there is no question for it.
+    pub fn same<T: PartialEq + Debug>(
+        &mut self,
+        call: &str,
+        input: &[u8],
+        expected: &T,
+        given: &T,
+    ) {
+        self.cases += 1;
+        if given == expected {
+            return;
+        }
+        self.differences += 1;
+        if self.differences <= PRINTED {
+            println!("difference {} at case {}: {call}", self.differences, self.cases);
+            println!("  input     {}", groups(input));
+            println!("  second    {expected:?}");
+            println!("  library   {given:?}");
+        }
     }
 
     fn count(&mut self, question: u32, number: u64) {
