@@ -528,7 +528,6 @@ pub fn u32_at(bytes: &[u8], at: usize) -> u32 {
     u32::from_le_bytes([bytes[at], bytes[at + 1], bytes[at + 2], bytes[at + 3]])
 }
 
-
 // ---- the two ends
 
 /// Lends the front of the end's memory, so many bytes. A refused `make` leaves the one before, or none.
