@@ -13,7 +13,6 @@ use second::registration::{self, Range, Registration};
 use second::signal_state::{self, RsrpSnr, SignalState};
 use second::version::Version;
 use second::{cutter, version_info};
-use std::hint::black_box;
 
 /// A loop that only copies.
 #[inline(never)]
