@@ -126,26 +126,7 @@ fn later_count(first: usize, each: usize, n: usize) -> usize
     (n - amount + (each - 1)) / each
 }
 
-// One test for the whole header: where it has room, the compiler drops those of its numbers.
 fn put_header(
-    message: MessageHeader,
-    length: usize,
-    total: u32,
-    number: u32,
-    out: &mut [u8],
-    at: usize,
-)
-    requires { ⌜ (at + 20 < 2 ^ 32) × (length < 2 ^ 32) ⌝ }
-    ensures { λ _. ⌜ now (out .exit) ≡ sets (now (out .entry)) at (headerBytes message length total number) ⌝ }
-{
-    if at + 20 <= out.len() {
-        put_words(message, length, total, number, out, at);
-        return;
-    }
-    put_words(message, length, total, number, out, at);
-}
-
-fn put_words(
     message: MessageHeader,
     length: usize,
     total: u32,

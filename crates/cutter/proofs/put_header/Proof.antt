@@ -7,8 +7,8 @@ use lib.Seq.{sets}
 use Rattle.wire.specs.Numbers.{digits}
 use Rattle.wire.proofs.Laws.{sets-then}
 use Rattle.cutter.specs.Cut.{headerBytes}
-use Rattle.cutter.proofs.put_words.Statement.{statement}
-use Rattle.cutter.proofs.put_words.Tie as tie
+use Rattle.cutter.proofs.put_header.Statement.{statement}
+use Rattle.cutter.proofs.put_header.Tie as tie
 
 returns : tie.Need-returns
 unfolding headerBytes
@@ -25,5 +25,5 @@ returns c =
     let four : _ ≡ sets s at (a ++ b ++ d ++ e) = sets-then (a ++ b ++ d) e at 12 s refl three (c .before .before .before .before .before .before .put-u324 .ensures) in
     sets-then (a ++ b ++ d ++ e) (digits 4 (c .before .before .before .before .before .before .before .before .before .before .before .before .before .before .before .before .before .before .before .before .before .args .number)) at 16 s refl four (c .before .before .put-u325 .ensures)
 
-pub put-words-spec : {M : Type 1} → statement M
-put-words-spec = tie.close (tie.spec (λ c. search needs) (λ c. search needs) (λ c. search needs) (λ c. search needs) (λ c. search needs) (λ c. search needs) (λ c. search needs) (λ c. search needs) (λ c. search needs) (λ c. search needs) (λ c. search needs) returns)
+pub put-header-spec : {M : Type 1} → statement M
+put-header-spec = tie.close (tie.spec (λ c. search needs) (λ c. search needs) (λ c. search needs) (λ c. search needs) (λ c. search needs) (λ c. search needs) (λ c. search needs) (λ c. search needs) (λ c. search needs) (λ c. search needs) (λ c. search needs) returns)
