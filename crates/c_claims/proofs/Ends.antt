@@ -24,28 +24,28 @@ use Rattle.services_query.specs.declared.ListedAnswer.the-variants as list
 use Rattle.message.specs.declared.MessageHeader.{MessageHeader}
 use Rattle.handshake.specs.Versions.{versionOf, infoOf, numberVerdict, isLater}
 use Rattle.handshake.specs.Commands.{versionCid, versionListed, roleOf}
-use Rattle.handshake.specs.Host as host
-use Rattle.handshake.specs.Modem as modem
+use Rattle.host.specs.Host as host
+use Rattle.modem.specs.Modem as modem
 use Rattle.handshake.specs.declared.Role.{Role}
 use Rattle.handshake.specs.declared.Role.the-variants as role
-use Rattle.handshake.specs.declared.host.Host.{Host}
-use Rattle.handshake.specs.declared.host.HostStage.{HostStage}
-use Rattle.handshake.specs.declared.host.HostStage.the-variants as hostStage
-use Rattle.handshake.specs.declared.host.HostStep.{HostStep}
-use Rattle.handshake.specs.declared.host.HostMade.{HostMade}
-use Rattle.handshake.specs.declared.host.HostMade.the-variants as hostMade
-use Rattle.handshake.specs.declared.host.HostAnswer.{HostAnswer}
-use Rattle.handshake.specs.declared.host.Ask.{Ask}
-use Rattle.handshake.specs.declared.modem.Modem.{Modem}
-use Rattle.handshake.specs.declared.modem.ModemStage.{ModemStage}
-use Rattle.handshake.specs.declared.modem.ModemStage.the-variants as modemStage
-use Rattle.handshake.specs.declared.modem.ModemMade.{ModemMade}
-use Rattle.handshake.specs.declared.modem.ModemMade.the-variants as modemMade
-use Rattle.handshake.specs.declared.modem.ModemAnswer.{ModemAnswer}
-use Rattle.handshake.specs.declared.modem.ModemAnswer.the-variants as answer
+use Rattle.host.specs.declared.Host.{Host}
+use Rattle.host.specs.declared.HostStage.{HostStage}
+use Rattle.host.specs.declared.HostStage.the-variants as hostStage
+use Rattle.host.specs.declared.HostStep.{HostStep}
+use Rattle.host.specs.declared.HostMade.{HostMade}
+use Rattle.host.specs.declared.HostMade.the-variants as hostMade
+use Rattle.host.specs.declared.HostAnswer.{HostAnswer}
+use Rattle.host.specs.declared.Ask.{Ask}
+use Rattle.modem.specs.declared.Modem.{Modem}
+use Rattle.modem.specs.declared.ModemStage.{ModemStage}
+use Rattle.modem.specs.declared.ModemStage.the-variants as modemStage
+use Rattle.modem.specs.declared.ModemMade.{ModemMade}
+use Rattle.modem.specs.declared.ModemMade.the-variants as modemMade
+use Rattle.modem.specs.declared.ModemAnswer.{ModemAnswer}
+use Rattle.modem.specs.declared.ModemAnswer.the-variants as answer
 use Rattle.lent.specs.Stored.{Stored, stored}
-use Rattle.lent_ends.specs.LentHost as lentHost
-use Rattle.lent_ends.specs.LentModem as lentModem
+use Rattle.lent_host.specs.LentHost as lentHost
+use Rattle.lent_modem.specs.LentModem as lentModem
 use Rattle.c_structs.specs.Answers.{writtenAnswer}
 use Rattle.c_structs.specs.Versions.{answerOf}
 use Rattle.c_structs.specs.Services.{listedInfo}

@@ -34,12 +34,12 @@ use Rattle.cutter.specs.declared.Cutting.{Cutting}
 use Rattle.payload.specs.Payload.{shownOf}
 use Rattle.payload.specs.declared.Shown.{Shown}
 use Rattle.assembler.specs.declared.door.Received.{Received}
-use Rattle.handshake.specs.declared.host.HostAnswer.{HostAnswer}
-use Rattle.handshake.specs.declared.host.Ask.{Ask}
+use Rattle.host.specs.declared.HostAnswer.{HostAnswer}
+use Rattle.host.specs.declared.Ask.{Ask}
 use Rattle.lent.specs.LentAssembly.{emptied, receiveIn}
-use Rattle.lent_ends.specs.LentHost as host
-use Rattle.lent_ends.specs.LentModem as modem
-use Rattle.lent_ends.specs.declared.modem.ModemReply.{ModemReply}
+use Rattle.lent_host.specs.LentHost as host
+use Rattle.lent_modem.specs.LentModem as modem
+use Rattle.lent_modem.specs.declared.ModemReply.{ModemReply}
 use Rattle.c_structs.specs.Answers.{refusalOf, writtenAnswer}
 use Rattle.c_structs.specs.Versions as versionAnswer
 use Rattle.c_structs.specs.Packets as packetAnswer

@@ -33,12 +33,12 @@ use Rattle.payload.specs.declared.Shown.{Shown}
 use Rattle.payload.specs.declared.Shown.the-variants as shown
 use Rattle.assembler.specs.declared.door.Received.{Received}
 use Rattle.assembler.specs.declared.door.Received.the-variants as received
-use Rattle.handshake.specs.declared.host.HostAnswer.{HostAnswer}
-use Rattle.handshake.specs.declared.host.HostAnswer.the-variants as host
-use Rattle.handshake.specs.declared.host.Ask.{Ask}
-use Rattle.handshake.specs.declared.host.Ask.the-variants as ask
-use Rattle.handshake.specs.declared.modem.ModemAnswer.{ModemAnswer}
-use Rattle.handshake.specs.declared.modem.ModemAnswer.the-variants as modem
+use Rattle.host.specs.declared.HostAnswer.{HostAnswer}
+use Rattle.host.specs.declared.HostAnswer.the-variants as host
+use Rattle.host.specs.declared.Ask.{Ask}
+use Rattle.host.specs.declared.Ask.the-variants as ask
+use Rattle.modem.specs.declared.ModemAnswer.{ModemAnswer}
+use Rattle.modem.specs.declared.ModemAnswer.the-variants as modem
 
 abbrev pub faulty : Verdict → Bool
 faulty Fits = false

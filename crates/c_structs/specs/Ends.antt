@@ -2,14 +2,14 @@
 use Prim.Native.Nat.{ℕ}
 use Rattle.protocol.specs.declared.Refusal.{Refusal}
 use Rattle.handshake.specs.Versions.{numberOf}
-use Rattle.handshake.specs.Modem.{noDeviceSupport, settledNumber}
-use Rattle.handshake.specs.declared.host.HostAnswer.{HostAnswer}
-use Rattle.handshake.specs.declared.host.HostAnswer.the-variants as host
-use Rattle.handshake.specs.declared.host.Ask.{Ask}
-use Rattle.handshake.specs.declared.host.Ask.the-variants as ask
-use Rattle.handshake.specs.declared.modem.ModemStage.{ModemStage}
-use Rattle.handshake.specs.declared.modem.ModemAnswer.{ModemAnswer}
-use Rattle.handshake.specs.declared.modem.ModemAnswer.the-variants as modem
+use Rattle.modem.specs.Modem.{noDeviceSupport, settledNumber}
+use Rattle.host.specs.declared.HostAnswer.{HostAnswer}
+use Rattle.host.specs.declared.HostAnswer.the-variants as host
+use Rattle.host.specs.declared.Ask.{Ask}
+use Rattle.host.specs.declared.Ask.the-variants as ask
+use Rattle.modem.specs.declared.ModemStage.{ModemStage}
+use Rattle.modem.specs.declared.ModemAnswer.{ModemAnswer}
+use Rattle.modem.specs.declared.ModemAnswer.the-variants as modem
 use Rattle.c_structs.specs.declared.ends.HostInfo.{HostInfo}
 use Rattle.c_structs.specs.declared.ends.AskInfo.{AskInfo}
 use Rattle.c_structs.specs.declared.ends.ModemInfo.{ModemInfo}

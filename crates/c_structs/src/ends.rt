@@ -1,12 +1,12 @@
 // Answers of the handshake's ends as plain members.
 use crate::messages::kind_number;
 use crate::no_refusal;
-use handshake::host::Ask;
-use handshake::host::HostAnswer;
-use handshake::modem::ModemAnswer;
-use handshake::modem::ModemStage;
-use handshake::modem::NO_DEVICE_SUPPORT;
-use handshake::modem::settled_number;
+use host::Ask;
+use host::HostAnswer;
+use modem::ModemAnswer;
+use modem::ModemStage;
+use modem::NO_DEVICE_SUPPORT;
+use modem::settled_number;
 use handshake::number_of;
 use protocol::Refusal;
 ghost use mathlib.Core.Path.{_≡_};

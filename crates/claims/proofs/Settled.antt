@@ -17,7 +17,7 @@ use Rattle.services_query.specs.declared.ListedAnswer.the-variants.{Listed, Not
 use Rattle.services_writer.specs.ServicesWriter.{writeOf}
 use Rattle.services_trip.proofs.RoundTrip.{round-trip}
 use Rattle.handshake.specs.Versions.{infoOf, larger, lower}
-use Rattle.handshake.specs.Modem.{noDeviceSupport}
+use Rattle.modem.specs.Modem.{noDeviceSupport}
 use Rattle.handshake.specs.Commands.{versionCid}
 use Rattle.handshake_claims.specs.Run.{Message, asksServices, asksVersion, replyTo, Passes, listedAs}
 use Rattle.handshake_claims.proofs.Run.{ends-settle}

@@ -15,12 +15,12 @@ use Rattle.services_writer.specs.declared.ServiceList.{ServiceList}
 use Rattle.services_trip.specs.ServicesTrip.{holdsIn, OfWidth}
 use Rattle.handshake.specs.Versions.{numberOf, above}
 use Rattle.handshake.specs.Commands.{versionCid}
-use Rattle.handshake.specs.Host.{end, openedOf}
-use Rattle.handshake.specs.Modem.{startOf, end as modemEnd}
+use Rattle.host.specs.Host.{end, openedOf}
+use Rattle.modem.specs.Modem.{startOf, end as modemEnd}
 use Rattle.handshake_claims.specs.Run.{Message, OtherCommand, Rooms, run, expected, Outcome}
 use Rattle.claims.specs.Wire.{Way, Open, wire, Sendable}
-use Rattle.handshake.specs.declared.host.HostStage.{HostStage}
-use Rattle.handshake.specs.declared.modem.ModemStage.{ModemStage}
+use Rattle.host.specs.declared.HostStage.{HostStage}
+use Rattle.modem.specs.declared.ModemStage.{ModemStage}
 
 -- the list holds CID 15 of the extensions
 abbrev pub listsVersion : ServiceList → Bool

@@ -1,5 +1,5 @@
 -- What a modem's end in lent memory answers, as plain members.
-use Rattle.lent_ends.specs.declared.modem.ModemReply.{ModemReply}
+use Rattle.lent_modem.specs.declared.ModemReply.{ModemReply}
 use Rattle.c_structs.specs.Ends.{modemInfo}
 use Rattle.c_structs.specs.declared.ends.ModemInfo.{ModemInfo}
 

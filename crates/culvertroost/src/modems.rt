@@ -2,14 +2,14 @@
 use c_structs::ends::ModemInfo;
 use c_structs::ends::modem_info;
 use c_structs::refusal_of;
-use lent_ends::modem::close;
-use lent_ends::modem::make;
-use lent_ends::modem::open;
-use lent_ends::modem::receive;
+use lent_modem::close;
+use lent_modem::make;
+use lent_modem::open;
+use lent_modem::receive;
 use message::MessageHeader;
 use protocol::Refusal;
 ghost use mathlib.Core.Path.{_≡_};
-ghost use Rattle.lent_ends.specs.LentModem.{makeIn, restartIn, receiveIn};
+ghost use Rattle.lent_modem.specs.LentModem.{makeIn, restartIn, receiveIn};
 ghost use Rattle.c_structs.specs.Answers.{refusalOf};
 ghost use Rattle.culvertroost.specs.Modems.{replyInfo};
 

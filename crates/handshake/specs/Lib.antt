@@ -1,4 +1,2 @@
 pub mod Versions
 pub mod Commands
-pub mod Host
-pub mod Modem

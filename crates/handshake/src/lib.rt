@@ -1,8 +1,6 @@
 // The handshake: how host and modem settle on a version of the extensions. Each end is a value that
 // its calls take and give back, and takes received messages as header and information. Fragments,
 // time and which reply belongs to which command are not known here.
-pub mod host;
-pub mod modem;
 
 use protocol::Refusal;
 use protocol::Verdict;
@@ -43,7 +41,7 @@ pub fn version_at(number: u16) -> Numbered
     }
 }
 
-fn role_of(carried: Carried) -> Role
+pub fn role_of(carried: Carried) -> Role
     ensures { λ r. ⌜ r ≡ roleOf carried ⌝ }
 {
     match carried {
@@ -52,7 +50,7 @@ fn role_of(carried: Carried) -> Role
     }
 }
 
-fn role_of_kind(kind: Kind) -> Role
+pub fn role_of_kind(kind: Kind) -> Role
     ensures { λ r. ⌜ r ≡ roleOfKind kind ⌝ }
 {
     match kind {
@@ -65,7 +63,7 @@ fn role_of_kind(kind: Kind) -> Role
 }
 
 // The verdict on a number that is to be a version's.
-fn judge_number(number: u16) -> Verdict
+pub fn judge_number(number: u16) -> Verdict
     ensures { λ r. ⌜ r ≡ numberVerdict number ⌝ }
 {
     also(Verdict::Fits, !is_extension(number), WRONG_VERSION, 0)
@@ -91,7 +89,7 @@ pub fn number_of(version: Version) -> u16
 }
 
 // The VERSION payload that carries a version.
-fn info_of(version: Version) -> VersionInfo
+pub fn info_of(version: Version) -> VersionInfo
     ensures { λ r. ⌜ r ≡ infoOf version ⌝ }
 {
     VersionInfo {
@@ -100,7 +98,7 @@ fn info_of(version: Version) -> VersionInfo
     }
 }
 
-fn larger(a: Version, b: Version) -> Version
+pub fn larger(a: Version, b: Version) -> Version
     ensures { λ r. ⌜ r ≡ larger a b ⌝ }
 {
     match a {
@@ -109,7 +107,7 @@ fn larger(a: Version, b: Version) -> Version
     }
 }
 
-fn lower(a: Version, b: Version) -> Version
+pub fn lower(a: Version, b: Version) -> Version
     ensures { λ r. ⌜ r ≡ lower a b ⌝ }
 {
     match a {
@@ -119,7 +117,7 @@ fn lower(a: Version, b: Version) -> Version
 }
 
 // Whether a is above b.
-fn is_above(a: Version, b: Version) -> bool
+pub fn is_above(a: Version, b: Version) -> bool
     ensures { λ r. ⌜ r ≡ above a b ⌝ }
 {
     match a {
@@ -129,7 +127,7 @@ fn is_above(a: Version, b: Version) -> bool
 }
 
 // Whether the version is 2.00.
-fn is_later(version: Version) -> bool
+pub fn is_later(version: Version) -> bool
     ensures { λ r. ⌜ r ≡ isLater version ⌝ }
 {
     match version {

@@ -27,18 +27,18 @@ use Rattle.services_query.specs.declared.ListedAnswer.{ListedAnswer}
 use Rattle.services_query.specs.declared.ListedAnswer.the-variants as list
 use Rattle.handshake.specs.Versions.{numberVerdict, versionOf, infoOf, larger, lower, above, isLater}
 use Rattle.handshake.specs.Commands.{roleOf, versionListed}
-use Rattle.handshake.specs.Host.{end, openedBy, openedOf, listRules, acceptedList, judgedList, listAt, listReply, servicesReplyOf, answeredAt, failedAt, answeredBy, versionReplyOf, replyRole, receiveBy, receiveOf, madeBy, madeOf}
-use Rattle.handshake.specs.Modem.{end as modemEnd, plain, failed, listedStage, servicesOf, answerOf, gaveBy, gave, giveOf, answerBy, isListed, canAnswer, versionOfCommand, firstOther, otherAt, commandBy, commandOf, commandRules, receiveBy as commandedBy, receiveOf as modemReceives, madeRules, listedBy, madeBy as modemMadeBy, madeOf as modemMadeOf}
+use Rattle.host.specs.Host.{end, openedBy, openedOf, listRules, acceptedList, judgedList, listAt, listReply, servicesReplyOf, answeredAt, failedAt, answeredBy, versionReplyOf, replyRole, receiveBy, receiveOf, madeBy, madeOf}
+use Rattle.modem.specs.Modem.{end as modemEnd, plain, failed, listedStage, servicesOf, answerOf, gaveBy, gave, giveOf, answerBy, isListed, canAnswer, versionOfCommand, firstOther, otherAt, commandBy, commandOf, commandRules, receiveBy as commandedBy, receiveOf as modemReceives, madeRules, listedBy, madeBy as modemMadeBy, madeOf as modemMadeOf}
 use Rattle.handshake_claims.specs.Calls.{HostCall, host-opens, host-closes, host-receives, host-asks, hostAfter, hostAfterAll, HostSound, ModemCall, modem-opens, modem-closes, modem-receives, modemAfter, modemAfterAll, ModemSoundAt, ModemSound}
-use Rattle.handshake.specs.declared.host.HostStage.{HostStage}
-use Rattle.handshake.specs.declared.host.HostStage.the-variants as host
-use Rattle.handshake.specs.declared.host.Host.{Host}
-use Rattle.handshake.specs.declared.host.HostMade.the-variants as hostMade
-use Rattle.handshake.specs.declared.host.HostStep.{HostStep}
-use Rattle.handshake.specs.declared.modem.ModemStage.{ModemStage}
-use Rattle.handshake.specs.declared.modem.ModemStage.the-variants as modem
-use Rattle.handshake.specs.declared.modem.Modem.{Modem}
-use Rattle.handshake.specs.declared.modem.ModemMade.the-variants as modemMade
+use Rattle.host.specs.declared.HostStage.{HostStage}
+use Rattle.host.specs.declared.HostStage.the-variants as host
+use Rattle.host.specs.declared.Host.{Host}
+use Rattle.host.specs.declared.HostMade.the-variants as hostMade
+use Rattle.host.specs.declared.HostStep.{HostStep}
+use Rattle.modem.specs.declared.ModemStage.{ModemStage}
+use Rattle.modem.specs.declared.ModemStage.the-variants as modem
+use Rattle.modem.specs.declared.Modem.{Modem}
+use Rattle.modem.specs.declared.ModemMade.the-variants as modemMade
 use Rattle.handshake.specs.declared.Role.{Role}
 use Rattle.handshake.specs.declared.Role.the-variants as role
 use Rattle.handshake_claims.specs.Claims.{HostNeverAbove, ModemNeverAbove}

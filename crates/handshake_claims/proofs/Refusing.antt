@@ -7,11 +7,11 @@ use mathlib.Core.List.{List}
 use Rattle.protocol.specs.Verdict.{judgeFrom, firstOf, faultIf}
 use Rattle.protocol.specs.declared.Version.{Version}
 use Rattle.protocol.specs.declared.Version.the-variants.{V1, V2}
-use Rattle.handshake.specs.Host.{end, listRules, listAt, listReply, servicesReplyOf, refusedWith}
+use Rattle.host.specs.Host.{end, listRules, listAt, listReply, servicesReplyOf, refusedWith}
 use Rattle.handshake.specs.Commands.{versionListed}
 use Rattle.handshake_claims.specs.Run.{listedAs, expected}
 use Rattle.handshake_claims.specs.Claims.{numberRefused, RefusesExactly}
-use Rattle.handshake.specs.declared.host.HostStage.the-variants.{Open}
+use Rattle.host.specs.declared.HostStage.the-variants.{Open}
 
 -- an accepted list is judged by the versions and by whether VERSION is listed
 pub list-judged : (n a : Version) (listed : Bool) (s : List ℕ) → versionListed s ≡ listedAs listed

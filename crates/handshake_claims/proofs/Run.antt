@@ -26,17 +26,17 @@ use Rattle.version_info.proofs.RoundTrip.{bytes-read}
 use Rattle.handshake.specs.Versions.{numberOf, numberVerdict, versionOf, infoOf, larger, lower, above}
 use Rattle.message.specs.declared.MessageHeader.{MessageHeader}
 use Rattle.handshake.specs.Commands.{servicesCid, versionCid, roleOfKind, roleOf, versionListed}
-use Rattle.handshake.specs.Host.{end, unchanged, settledAt, madeOf, openedOf, askOf, listRules, listAt, answeredAt, answeredBy, servicesReplyOf, versionReplyOf, replyRole, receiveBy, receiveOf}
-use Rattle.handshake.specs.Modem.{noDeviceSupport, end as modemEnd, madeRules, madeOf as modemMadeOf, startOf, servedAs, servicesOf, gave, giveOf, answerBy, canAnswer, versionOfCommand, otherAt, commandBy, commandOf, commandRules, receiveBy as commandedBy, receiveOf as modemReceives}
+use Rattle.host.specs.Host.{end, unchanged, settledAt, madeOf, openedOf, askOf, listRules, listAt, answeredAt, answeredBy, servicesReplyOf, versionReplyOf, replyRole, receiveBy, receiveOf}
+use Rattle.modem.specs.Modem.{noDeviceSupport, end as modemEnd, madeRules, madeOf as modemMadeOf, startOf, servedAs, servicesOf, gave, giveOf, answerBy, canAnswer, versionOfCommand, otherAt, commandBy, commandOf, commandRules, receiveBy as commandedBy, receiveOf as modemReceives}
 use Rattle.handshake_claims.specs.Run.{Message, headed, asksServices, asksVersion, sends, replyTo, replyBy, Line, reaches, Passes, both, afterReply, answered, taken, commandOver, Rooms, turn, run, expected, Outcome, listedAs, OtherCommand, Ready}
-use Rattle.handshake.specs.declared.host.HostStage.{HostStage}
-use Rattle.handshake.specs.declared.host.HostStage.the-variants as host
-use Rattle.handshake.specs.declared.host.Host.{Host}
-use Rattle.handshake.specs.declared.host.HostMade.the-variants as hostMade
-use Rattle.handshake.specs.declared.modem.ModemMade.the-variants as modemMade
-use Rattle.handshake.specs.declared.host.HostAnswer.the-variants as answer
-use Rattle.handshake.specs.declared.modem.ModemStage.{ModemStage}
-use Rattle.handshake.specs.declared.modem.ModemStage.the-variants as modem
+use Rattle.host.specs.declared.HostStage.{HostStage}
+use Rattle.host.specs.declared.HostStage.the-variants as host
+use Rattle.host.specs.declared.Host.{Host}
+use Rattle.host.specs.declared.HostMade.the-variants as hostMade
+use Rattle.modem.specs.declared.ModemMade.the-variants as modemMade
+use Rattle.host.specs.declared.HostAnswer.the-variants as answer
+use Rattle.modem.specs.declared.ModemStage.{ModemStage}
+use Rattle.modem.specs.declared.ModemStage.the-variants as modem
 use Rattle.handshake.specs.declared.Role.the-variants as role
 use Rattle.handshake_claims.proofs.Refusing.{list-judged}
 use Rattle.handshake_claims.specs.Claims.{MadeByList, EndsSettle}

@@ -18,14 +18,14 @@ use Rattle.version_info.specs.declared.VersionInfoRead.the-variants as read
 use Rattle.services_query.specs.declared.ListedAnswer.{ListedAnswer}
 use Rattle.services_query.specs.declared.ListedAnswer.the-variants as list
 use Rattle.handshake.specs.Commands.{roleOf, versionListed}
-use Rattle.handshake.specs.Host.{listAt, listReply, servicesReplyOf, answeredAt, failedAt, answeredBy, versionReplyOf, replyRole, receiveBy, receiveOf}
-use Rattle.handshake.specs.Modem.{at, listedStage, servicesOf, canAnswer, versionOfCommand, otherAt, commandBy, commandOf, commandRules, receiveBy as commandedBy, receiveOf as modemReceives}
+use Rattle.host.specs.Host.{listAt, listReply, servicesReplyOf, answeredAt, failedAt, answeredBy, versionReplyOf, replyRole, receiveBy, receiveOf}
+use Rattle.modem.specs.Modem.{at, listedStage, servicesOf, canAnswer, versionOfCommand, otherAt, commandBy, commandOf, commandRules, receiveBy as commandedBy, receiveOf as modemReceives}
 use Rattle.handshake_claims.specs.Calls.{HostCall, host-opens, host-closes, host-receives, host-asks, hostAfter, hostAfterAll, HostQuiet, ModemCall, modem-opens, modem-closes, modem-receives, modemAfter, modemAfterAll, ModemQuiet}
-use Rattle.handshake.specs.declared.host.HostStage.the-variants as host
-use Rattle.handshake.specs.declared.host.Host.{Host}
-use Rattle.handshake.specs.declared.host.HostStep.{HostStep}
-use Rattle.handshake.specs.declared.modem.ModemStage.the-variants as modem
-use Rattle.handshake.specs.declared.modem.Modem.{Modem}
+use Rattle.host.specs.declared.HostStage.the-variants as host
+use Rattle.host.specs.declared.Host.{Host}
+use Rattle.host.specs.declared.HostStep.{HostStep}
+use Rattle.modem.specs.declared.ModemStage.the-variants as modem
+use Rattle.modem.specs.declared.Modem.{Modem}
 use Rattle.handshake.specs.declared.Role.{Role}
 use Rattle.handshake.specs.declared.Role.the-variants as role
 use Rattle.handshake_claims.specs.Claims.{HostStays, ModemStays}

@@ -7,14 +7,14 @@ use Rattle.protocol.specs.declared.Version.{Version}
 use Rattle.protocol.specs.declared.Version.the-variants.{V2}
 use Rattle.message.specs.declared.MessageHeader.{MessageHeader}
 use Rattle.handshake.specs.Versions.{above, isLater}
-use Rattle.handshake.specs.Host.{openedOf, closedOf, receiveOf}
-use Rattle.handshake.specs.Modem.{startOf, receiveOf as modemReceives}
-use Rattle.handshake.specs.declared.host.HostStage.{HostStage}
-use Rattle.handshake.specs.declared.host.HostStage.the-variants as host
-use Rattle.handshake.specs.declared.host.Host.{Host}
-use Rattle.handshake.specs.declared.modem.ModemStage.{ModemStage}
-use Rattle.handshake.specs.declared.modem.ModemStage.the-variants as modem
-use Rattle.handshake.specs.declared.modem.Modem.{Modem}
+use Rattle.host.specs.Host.{openedOf, closedOf, receiveOf}
+use Rattle.modem.specs.Modem.{startOf, receiveOf as modemReceives}
+use Rattle.host.specs.declared.HostStage.{HostStage}
+use Rattle.host.specs.declared.HostStage.the-variants as host
+use Rattle.host.specs.declared.Host.{Host}
+use Rattle.modem.specs.declared.ModemStage.{ModemStage}
+use Rattle.modem.specs.declared.ModemStage.the-variants as modem
+use Rattle.modem.specs.declared.Modem.{Modem}
 
 -- ---- the host's
 

@@ -7,18 +7,18 @@ use mathlib.Core.List.{List}
 use Rattle.protocol.specs.declared.Version.{Version}
 use Rattle.handshake.specs.Versions.{above, versionOf, numberOf}
 use Rattle.handshake.specs.Commands.{versionListed}
-use Rattle.handshake.specs.Host.{end, madeOf, openedOf, servicesReplyOf, refusedWith}
-use Rattle.handshake.specs.Modem.{madeOf as modemMadeOf, end as modemEnd, startOf}
+use Rattle.host.specs.Host.{end, madeOf, openedOf, servicesReplyOf, refusedWith}
+use Rattle.modem.specs.Modem.{madeOf as modemMadeOf, end as modemEnd, startOf}
 use Rattle.handshake_claims.specs.Calls.{HostCall, HostQuiet, hostAfterAll, ModemCall, ModemQuiet, modemAfterAll}
 use Rattle.handshake_claims.specs.Run.{Message, Line, Rooms, Expected, refuses, settles, expected, Outcome, Ready, run, listedAs}
-use Rattle.handshake.specs.declared.host.Host.{Host}
-use Rattle.handshake.specs.declared.host.HostStage.{HostStage}
-use Rattle.handshake.specs.declared.host.HostStage.the-variants as host
-use Rattle.handshake.specs.declared.host.HostMade.the-variants as hostMade
-use Rattle.handshake.specs.declared.modem.Modem.{Modem}
-use Rattle.handshake.specs.declared.modem.ModemStage.{ModemStage}
-use Rattle.handshake.specs.declared.modem.ModemStage.the-variants as modem
-use Rattle.handshake.specs.declared.modem.ModemMade.the-variants as modemMade
+use Rattle.host.specs.declared.Host.{Host}
+use Rattle.host.specs.declared.HostStage.{HostStage}
+use Rattle.host.specs.declared.HostStage.the-variants as host
+use Rattle.host.specs.declared.HostMade.the-variants as hostMade
+use Rattle.modem.specs.declared.Modem.{Modem}
+use Rattle.modem.specs.declared.ModemStage.{ModemStage}
+use Rattle.modem.specs.declared.ModemStage.the-variants as modem
+use Rattle.modem.specs.declared.ModemMade.the-variants as modemMade
 
 -- a modem lists VERSION exactly where its list does
 abbrev pub MadeByList : Type 0

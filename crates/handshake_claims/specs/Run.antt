@@ -19,20 +19,20 @@ use Rattle.services_query.specs.declared.ListedAnswer.the-variants as list
 use Rattle.message.specs.declared.MessageHeader.{MessageHeader}
 use Rattle.handshake.specs.Versions.{infoOf, larger, lower, above, isLater}
 use Rattle.handshake.specs.Commands.{servicesCid, versionCid, roleOf, versionListed}
-use Rattle.handshake.specs.Host.{end, unchanged, Asking, askOf, receiveOf}
-use Rattle.handshake.specs.Modem.{Commanding, noDeviceSupport, queryType, receiveOf as modemReceives}
+use Rattle.host.specs.Host.{end, unchanged, Asking, askOf, receiveOf}
+use Rattle.modem.specs.Modem.{Commanding, noDeviceSupport, queryType, receiveOf as modemReceives}
 use Rattle.handshake.specs.declared.Role.the-variants as role
-use Rattle.handshake.specs.declared.host.HostStage.the-variants as stage
-use Rattle.handshake.specs.declared.host.Host.{Host}
-use Rattle.handshake.specs.declared.host.HostAnswer.{HostAnswer}
-use Rattle.handshake.specs.declared.host.HostAnswer.the-variants as answer
-use Rattle.handshake.specs.declared.host.HostStep.{HostStep}
-use Rattle.handshake.specs.declared.host.Ask.{Ask}
-use Rattle.handshake.specs.declared.host.Ask.the-variants as ask
-use Rattle.handshake.specs.declared.modem.ModemStage.the-variants as modemStage
-use Rattle.handshake.specs.declared.modem.Modem.{Modem}
-use Rattle.handshake.specs.declared.modem.ModemAnswer.{ModemAnswer}
-use Rattle.handshake.specs.declared.modem.ModemAnswer.the-variants as modemAnswer
+use Rattle.host.specs.declared.HostStage.the-variants as stage
+use Rattle.host.specs.declared.Host.{Host}
+use Rattle.host.specs.declared.HostAnswer.{HostAnswer}
+use Rattle.host.specs.declared.HostAnswer.the-variants as answer
+use Rattle.host.specs.declared.HostStep.{HostStep}
+use Rattle.host.specs.declared.Ask.{Ask}
+use Rattle.host.specs.declared.Ask.the-variants as ask
+use Rattle.modem.specs.declared.ModemStage.the-variants as modemStage
+use Rattle.modem.specs.declared.Modem.{Modem}
+use Rattle.modem.specs.declared.ModemAnswer.{ModemAnswer}
+use Rattle.modem.specs.declared.ModemAnswer.the-variants as modemAnswer
 
 -- ---- messages: a header and its information
 

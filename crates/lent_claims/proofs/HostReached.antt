@@ -10,12 +10,12 @@ use Rattle.protocol.specs.Verdict.{faultIf, firstOf, judgeFrom, judge}
 use Rattle.protocol.specs.declared.Version.{Version}
 use Rattle.protocol.specs.declared.Version.the-variants.{V1, V2}
 use Rattle.handshake.specs.Versions.{numberOf, numberVerdict}
-use Rattle.handshake.specs.Host.{end, madeOf, openedOf, listRules, judgedList, listAt, listReply, servicesReplyOf, failedAt, versionReplyOf, replyRole, receiveBy, receiveOf}
+use Rattle.host.specs.Host.{end, madeOf, openedOf, listRules, judgedList, listAt, listReply, servicesReplyOf, failedAt, versionReplyOf, replyRole, receiveBy, receiveOf}
 use Rattle.handshake_claims.specs.Calls.{host-opens, host-receives, HostSound}
-use Rattle.handshake.specs.declared.host.Host.{Host}
-use Rattle.handshake.specs.declared.host.HostMade.the-variants as made
-use Rattle.handshake.specs.declared.host.HostStage.{HostStage}
-use Rattle.handshake.specs.declared.host.HostStage.the-variants.{Closed, Open, AwaitsVersion, Settled}
+use Rattle.host.specs.declared.Host.{Host}
+use Rattle.host.specs.declared.HostMade.the-variants as made
+use Rattle.host.specs.declared.HostStage.{HostStage}
+use Rattle.host.specs.declared.HostStage.the-variants.{Closed, Open, AwaitsVersion, Settled}
 use Rattle.lent_claims.specs.Given.{Bytes}
 use Rattle.lent_claims.specs.Turns.{run}
 use Rattle.lent_claims.specs.HostMemory.{HostGiven, hostCall, HostMadeFrom, HostReached}

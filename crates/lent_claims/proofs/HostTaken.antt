@@ -19,18 +19,18 @@ use Rattle.protocol.proofs.Tests.{not-kept, equal-kept}
 use Rattle.protocol.proofs.Verdicts.{fits-kept, kept-fits}
 use Rattle.version_info.specs.VersionInfo.{isExtension}
 use Rattle.handshake.specs.Versions.{numberOf, versionOf, above}
-use Rattle.handshake.specs.Host.{end, step, madeOf, openedOf, closedOf, receiveOf}
+use Rattle.host.specs.Host.{end, step, madeOf, openedOf, closedOf, receiveOf}
 use Rattle.handshake_claims.specs.Calls.{HostCall, host-opens, host-closes, host-receives, host-asks, hostAfter, HostSound}
-use Rattle.handshake.specs.declared.host.Host.{Host}
-use Rattle.handshake.specs.declared.host.HostStep.{HostStep}
-use Rattle.handshake.specs.declared.host.HostAnswer.{HostAnswer}
-use Rattle.handshake.specs.declared.host.HostAnswer.the-variants.{Unchanged}
-use Rattle.handshake.specs.declared.host.HostMade.the-variants as made
-use Rattle.handshake.specs.declared.host.HostStage.{HostStage}
-use Rattle.handshake.specs.declared.host.HostStage.the-variants.{Closed, Open, AwaitsVersion, Settled}
+use Rattle.host.specs.declared.Host.{Host}
+use Rattle.host.specs.declared.HostStep.{HostStep}
+use Rattle.host.specs.declared.HostAnswer.{HostAnswer}
+use Rattle.host.specs.declared.HostAnswer.the-variants.{Unchanged}
+use Rattle.host.specs.declared.HostMade.the-variants as made
+use Rattle.host.specs.declared.HostStage.{HostStage}
+use Rattle.host.specs.declared.HostStage.the-variants.{Closed, Open, AwaitsVersion, Settled}
 use Rattle.handshake_claims.proofs.Bounded.{host-kept, sound-again, host-made-sound, extension-cases, advertised-below}
 use Rattle.lent_ends.specs.Stages.{strayVersion}
-use Rattle.lent_ends.specs.LentHost.{hostSize, hostBytes, hostRules, hostAt, hostIn, stageOf, stageNumber, stageVersion, makeIn, called, openIn, closeIn, receiveIn, askIn}
+use Rattle.lent_host.specs.LentHost.{hostSize, hostBytes, hostRules, hostAt, hostIn, stageOf, stageNumber, stageVersion, makeIn, called, openIn, closeIn, receiveIn, askIn}
 use Rattle.lent_claims.specs.Given.{Bytes}
 use Rattle.lent_claims.specs.HostMemory.{answers, hostCall, hostCallIn, HostTakes, HostReached, HostTakenExactly, HostMemoryServes}
 use Rattle.lent_claims.proofs.Serves.{run-holds, run-sound}

@@ -14,12 +14,12 @@ use Rattle.protocol.specs.declared.Version.the-variants.{V1, V2}
 use Rattle.version_info.specs.VersionInfo.{recordAt, rules, verdictOf, readOf, bytesOf, writeOf}
 use Rattle.handshake.specs.Versions.{numberOf, infoOf, above}
 use Rattle.handshake_claims.proofs.Bounded.{none-above}
-use Rattle.handshake.specs.Modem.{end, madeRules, madeOf, servicesOf, gave, giveOf, answerBy, canAnswer, versionOfCommand, otherAt, commandBy, commandOf, receiveBy, receiveOf}
+use Rattle.modem.specs.Modem.{end, madeRules, madeOf, servicesOf, gave, giveOf, answerBy, canAnswer, versionOfCommand, otherAt, commandBy, commandOf, receiveBy, receiveOf}
 use Rattle.handshake_claims.specs.Calls.{ModemCall, modem-receives, ModemSound, ModemSoundAt}
-use Rattle.handshake.specs.declared.modem.Modem.{Modem}
-use Rattle.handshake.specs.declared.modem.ModemMade.the-variants as made
-use Rattle.handshake.specs.declared.modem.ModemStage.{ModemStage}
-use Rattle.handshake.specs.declared.modem.ModemStage.the-variants.{Start, Listed, Settled}
+use Rattle.modem.specs.declared.Modem.{Modem}
+use Rattle.modem.specs.declared.ModemMade.the-variants as made
+use Rattle.modem.specs.declared.ModemStage.{ModemStage}
+use Rattle.modem.specs.declared.ModemStage.the-variants.{Start, Listed, Settled}
 use Rattle.lent_claims.specs.Given.{Bytes}
 use Rattle.lent_claims.specs.Turns.{run}
 use Rattle.lent_claims.specs.ModemMemory.{ModemGiven, modemCall, ModemMadeFrom, ModemReached}

@@ -19,14 +19,14 @@ use Rattle.protocol.proofs.Tests.{not-kept, equal-kept, and-cases}
 use Rattle.protocol.proofs.Verdicts.{fits-kept, kept-fits}
 use Rattle.version_info.specs.VersionInfo.{isExtension}
 use Rattle.handshake.specs.Versions.{numberOf, versionOf, isLater}
-use Rattle.handshake.specs.Modem.{end, settledNumber, madeOf, startOf, receiveOf}
+use Rattle.modem.specs.Modem.{end, settledNumber, madeOf, startOf, receiveOf}
 use Rattle.handshake_claims.specs.Calls.{ModemCall, modem-opens, modem-closes, modem-receives, modemAfter, ModemSound, ModemSoundAt}
-use Rattle.handshake.specs.declared.modem.Modem.{Modem}
-use Rattle.handshake.specs.declared.modem.ModemMade.the-variants as made
-use Rattle.handshake.specs.declared.modem.ModemStage.{ModemStage}
-use Rattle.handshake.specs.declared.modem.ModemStage.the-variants.{Start, Listed, Settled}
+use Rattle.modem.specs.declared.Modem.{Modem}
+use Rattle.modem.specs.declared.ModemMade.the-variants as made
+use Rattle.modem.specs.declared.ModemStage.{ModemStage}
+use Rattle.modem.specs.declared.ModemStage.the-variants.{Start, Listed, Settled}
 use Rattle.handshake_claims.proofs.Bounded.{modem-kept, modem-made-sound, extension-cases, advertised-below}
-use Rattle.lent_ends.specs.LentModem.{modemSize, modemBytes, stageRules, modemRules, modemAt, modemIn, stageOf, stageNumber, flagNumber, makeIn, restartIn, receiveIn}
+use Rattle.lent_modem.specs.LentModem.{modemSize, modemBytes, stageRules, modemRules, modemAt, modemIn, stageOf, stageNumber, flagNumber, makeIn, restartIn, receiveIn}
 use Rattle.lent_claims.specs.Given.{Bytes}
 use Rattle.lent_claims.specs.ModemMemory.{modemCall, modemCallIn, ModemTakes, ModemReached, ModemTakenExactly, ModemMemoryServes}
 use Rattle.lent_claims.proofs.Serves.{run-holds, run-sound}

@@ -6,12 +6,12 @@ use lib.ListN.{length}
 use Rattle.protocol.specs.Verdict.{judge}
 use Rattle.protocol.specs.declared.Verdict.the-variants.{Fits}
 use Rattle.handshake_claims.specs.Calls.{HostCall, host-opens, host-closes, host-receives, host-asks}
-use Rattle.handshake.specs.Host.{Asking, madeOf, openedOf, closedOf, askOf, receiveOf}
-use Rattle.handshake.specs.declared.host.Host.{Host}
-use Rattle.handshake.specs.declared.host.HostMade.the-variants as made
-use Rattle.handshake.specs.declared.host.HostAnswer.{HostAnswer}
-use Rattle.handshake.specs.declared.host.HostAnswer.the-variants.{Unchanged}
-use Rattle.lent_ends.specs.LentHost.{hostSize, hostBytes, hostRules, hostAt, makeIn, openIn, closeIn, receiveIn, askIn}
+use Rattle.host.specs.Host.{Asking, madeOf, openedOf, closedOf, askOf, receiveOf}
+use Rattle.host.specs.declared.Host.{Host}
+use Rattle.host.specs.declared.HostMade.the-variants as made
+use Rattle.host.specs.declared.HostAnswer.{HostAnswer}
+use Rattle.host.specs.declared.HostAnswer.the-variants.{Unchanged}
+use Rattle.lent_host.specs.LentHost.{hostSize, hostBytes, hostRules, hostAt, makeIn, openIn, closeIn, receiveIn, askIn}
 use Rattle.lent_claims.specs.Given.{WordsOfWidth, Bytes, messageWords}
 use Rattle.lent_claims.specs.Turns.{Turn, turn, Reached, TakenExactly, Serves}
 

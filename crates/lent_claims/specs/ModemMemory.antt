@@ -7,12 +7,12 @@ use Rattle.protocol.specs.Verdict.{judge}
 use Rattle.protocol.specs.declared.Verdict.{Verdict}
 use Rattle.protocol.specs.declared.Verdict.the-variants.{Fits}
 use Rattle.handshake_claims.specs.Calls.{ModemCall, modem-opens, modem-closes, modem-receives}
-use Rattle.handshake.specs.Modem.{madeOf, startOf, Commanding, receiveOf}
-use Rattle.handshake.specs.declared.modem.Modem.{Modem}
-use Rattle.handshake.specs.declared.modem.ModemMade.the-variants as made
+use Rattle.modem.specs.Modem.{madeOf, startOf, Commanding, receiveOf}
+use Rattle.modem.specs.declared.Modem.{Modem}
+use Rattle.modem.specs.declared.ModemMade.the-variants as made
 use Rattle.lent.specs.Stored.{Stored}
-use Rattle.lent_ends.specs.LentModem.{modemSize, modemBytes, modemRules, modemAt, makeIn, restartIn, ModemCalled, receiveIn}
-use Rattle.lent_ends.specs.declared.modem.ModemReply.{ModemReply}
+use Rattle.lent_modem.specs.LentModem.{modemSize, modemBytes, modemRules, modemAt, makeIn, restartIn, ModemCalled, receiveIn}
+use Rattle.lent_modem.specs.declared.ModemReply.{ModemReply}
 use Rattle.lent_claims.specs.Given.{WordsOfWidth, Bytes, messageWords}
 use Rattle.lent_claims.specs.Turns.{Turn, turn, Reached, TakenExactly, Serves}
 

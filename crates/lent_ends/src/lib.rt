@@ -1,7 +1,5 @@
 // The ends of the handshake in memory that the caller lends, 6 bytes a host and 10 a modem. Memory that
 // is too small, or whose numbers no calls can have left, is refused and stays as it was.
-pub mod host;
-pub mod modem;
 
 use protocol::CONTRADICTION;
 use protocol::OUTPUT_TOO_SMALL;
@@ -15,10 +13,10 @@ ghost use Rattle.protocol.specs.Verdict.{judge};
 ghost use Rattle.lent_ends.specs.Stages.{nativeRules, strayVersion};
 
 // Where each end has its native version.
-const NATIVE: usize = 0;
+pub const NATIVE: usize = 0;
 
 // The verdict on the room for an end, and on its native version.
-fn judge_native(memory: &[u8], size: usize) -> Verdict
+pub fn judge_native(memory: &[u8], size: usize) -> Verdict
     ensures { λ r. ⌜ r ≡ judge (nativeRules size (now (memory .entry))) ⌝ }
 {
     let room = also(Verdict::Fits, memory.len() < size, OUTPUT_TOO_SMALL, size);
@@ -31,7 +29,7 @@ fn judge_native(memory: &[u8], size: usize) -> Verdict
 }
 
 // Whether a stage can't have the number for its version: one with no version has 0.
-fn is_stray_version(versioned: bool, number: u16) -> bool
+pub fn is_stray_version(versioned: bool, number: u16) -> bool
     ensures { λ r. ⌜ r ≡ strayVersion versioned number ⌝ }
 {
     if versioned {
@@ -40,7 +38,7 @@ fn is_stray_version(versioned: bool, number: u16) -> bool
     number != 0
 }
 
-fn both(a: bool, b: bool) -> bool
+pub fn both(a: bool, b: bool) -> bool
     ensures { λ r. ⌜ r ≡ (a && b) ⌝ }
 {
     if a {

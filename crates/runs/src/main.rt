@@ -5,17 +5,17 @@
 use assembler::Assembly;
 use assembler::door::Received;
 use cutter::Cutting;
-use handshake::host::Ask;
-use handshake::host::Host;
-use handshake::host::HostAnswer;
-use handshake::host::HostMade;
-use handshake::host::HostStage;
-use handshake::modem::Modem;
-use handshake::modem::ModemAnswer;
-use handshake::modem::ModemMade;
-use handshake::modem::ModemStage;
-use handshake::modem::NO_DEVICE_SUPPORT;
-use handshake::modem::QUERY;
+use host::Ask;
+use host::Host;
+use host::HostAnswer;
+use host::HostMade;
+use host::HostStage;
+use modem::Modem;
+use modem::ModemAnswer;
+use modem::ModemMade;
+use modem::ModemStage;
+use modem::NO_DEVICE_SUPPORT;
+use modem::QUERY;
 use libc::STDOUT_FILENO;
 use message::MessageHeader;
 use packet_service::PacketForm;
@@ -159,9 +159,9 @@ fn run(native: u16, modem: u16, advertised: u16, services: &[u8]) -> Ends {
 }
 
 fn opened_host(native: u16, advertised: u16) -> Host {
-    match handshake::host::make(native) {
+    match host::make(native) {
         HostMade::Made(host) => {
-            let step = handshake::host::open(host, advertised);
+            let step = host::open(host, advertised);
             step.host
         }
         HostMade::Refused(_) => Host {
@@ -172,8 +172,8 @@ fn opened_host(native: u16, advertised: u16) -> Host {
 }
 
 fn opened_modem(native: u16, advertised: u16, services: &[u8]) -> Modem {
-    match handshake::modem::make(native, advertised, services) {
-        ModemMade::Made(modem) => handshake::modem::open(modem),
+    match modem::make(native, advertised, services) {
+        ModemMade::Made(modem) => modem::open(modem),
         ModemMade::Refused(_) => Modem {
             native: Version::V1,
             advertised: Version::V1,
@@ -187,7 +187,7 @@ fn opened_modem(native: u16, advertised: u16, services: &[u8]) -> Modem {
 fn turn(ends: Ends, services: &[u8]) -> Ends {
     let mut sent = [0u8; 4];
     let host = ends.host;
-    match handshake::host::next_command(host, &mut sent) {
+    match host::next_command(host, &mut sent) {
         Ask::Services => {
             let message = query(basic_connect_id(), DEVICE_SERVICES);
             send(ends, message, b"", services)
@@ -233,7 +233,7 @@ fn send(ends: Ends, message: MessageHeader, payload: &[u8], services: &[u8]) -> 
 fn answer(ends: Ends, message: MessageHeader, information: &[u8], services: &[u8]) -> Ends {
     let mut room = [0u8; 4];
     let modem = ends.modem;
-    let done = handshake::modem::receive(modem, message, information, &mut room);
+    let done = modem::receive(modem, message, information, &mut room);
     let answer = done.answer;
     let modem = done.modem;
     let host = ends.host;
@@ -279,7 +279,7 @@ fn reply(ends: Ends, message: MessageHeader, payload: &[u8]) -> Ends {
 fn hear(ends: Ends, message: MessageHeader, information: &[u8]) -> Ends {
     let host = ends.host;
     let modem = ends.modem;
-    let heard = handshake::host::receive(host, message, information);
+    let heard = host::receive(host, message, information);
     let answer = heard.answer;
     let host = heard.host;
     Ends {
