@@ -1,13 +1,13 @@
 // Answers of the handshake's ends as plain members.
 use crate::messages::kind_number;
 use crate::no_refusal;
+use handshake::number_of;
 use host::Ask;
 use host::HostAnswer;
 use modem::ModemAnswer;
 use modem::ModemStage;
 use modem::NO_DEVICE_SUPPORT;
 use modem::settled_number;
-use handshake::number_of;
 use protocol::Refusal;
 ghost use mathlib.Core.Path.{_≡_};
 ghost use Rattle.c_structs.specs.Ends.{eventInfo, hostInfo, askInfo, failedInfo, modemInfo};

@@ -15,8 +15,9 @@ use Rattle.protocol.specs.declared.Verdict.{Verdict}
 use Rattle.protocol.specs.declared.Verdict.the-variants.{Fits, Fault}
 use Rattle.protocol.proofs.Verdicts.{left-fits, right-fits, kept-fits, open-length, length-open}
 use Rattle.folds.proofs.Laws.{fits-each, each-fits}
-use Rattle.pairs.specs.Claims.{Inside, Whole}
-use Rattle.pairs.proofs.Behind.{behind-said, said-behind}
+use Rattle.pairs.specs.Claims.{Inside}
+use Rattle.lists.specs.Claims.{Whole}
+use Rattle.lists.proofs.Behind.{behind-said, said-behind}
 use Rattle.device_services.specs.declared.DeviceServices.{DeviceServices}
 use Rattle.device_services.specs.declared.DeviceServicesRead.the-variants.{Info}
 use Rattle.device_services.specs.declared.ElementJudged.the-variants as element

@@ -13,9 +13,9 @@ use Rattle.protocol.specs.declared.Verdict.{Verdict}
 use Rattle.protocol.specs.declared.Verdict.the-variants.{Fits, Fault}
 use Rattle.folds.specs.Folds.{firstFault, listOf}
 use Rattle.pairs.specs.Pair.{rangeAt, verdictOf as pairVerdict}
-use Rattle.pairs.specs.Lists.{listRules}
+use Rattle.lists.specs.Lists.{listRules}
 use Rattle.pairs.specs.declared.Range.{Range}
-use Rattle.pairs.specs.declared.lists.ListForm.{ListForm}
+use Rattle.lists.specs.declared.ListForm.{ListForm}
 use Rattle.pairs.specs.declared.PairKind.the-variants.{List as ListKind}
 use Rattle.device_services.specs.declared.DeviceServices.{DeviceServices}
 use Rattle.device_services.specs.declared.DeviceService.{DeviceService}

@@ -1,7 +1,7 @@
 // The DEVICE_SERVICES payload: its reader, the judge of one element, and an element's fields.
 // Questions to the list and the writer stand in crates of their own.
-use pairs::lists::ListForm;
-use pairs::lists::judge_lists;
+use lists::ListForm;
+use lists::judge_lists;
 use protocol::Refusal;
 use protocol::TOO_SHORT;
 use protocol::Verdict;
@@ -137,7 +137,7 @@ pub fn judge_element(payload: &[u8], number: u32) -> ElementJudged
         return ElementJudged::NotListed;
     }
     let fixed = listed_place(count);
-    match pairs::lists::judge_list(payload, fixed, listed_place(number), ELEMENT) {
+    match lists::judge_list(payload, fixed, listed_place(number), ELEMENT) {
         Verdict::Fits => ElementJudged::Fits,
         Verdict::Fault(refusal) => ElementJudged::Refused(refusal),
     }

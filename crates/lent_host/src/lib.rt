@@ -1,16 +1,16 @@
 // The host's end in 6 bytes: its native version, its stage and the stage's version, 16 bits each.
-use lent_ends::NATIVE;
-use lent_ends::both;
-use lent_ends::is_stray_version;
-use lent_ends::judge_native;
+use handshake::number_of;
+use handshake::version_of;
 use host::Ask;
 use host::Host;
 use host::HostAnswer;
 use host::HostMade;
 use host::HostStage;
 use host::HostStep;
-use handshake::number_of;
-use handshake::version_of;
+use lent_ends::NATIVE;
+use lent_ends::both;
+use lent_ends::is_stray_version;
+use lent_ends::judge_native;
 use message::MessageHeader;
 use protocol::CONTRADICTION;
 use protocol::OUTPUT_TOO_SMALL;
@@ -95,9 +95,7 @@ pub fn receive(memory: &mut [u8], message: MessageHeader, information: &[u8]) ->
     ensures { λ _. ⌜ now (memory .exit) ≡ receiveIn (now (memory .entry)) message (now (information .entry)) .memory ⌝ }
 {
     match host_at(memory) {
-        HostHeld::Held(host) => {
-            keep(memory, host::receive(host, message, information))
-        }
+        HostHeld::Held(host) => { keep(memory, host::receive(host, message, information)) }
         HostHeld::Refused(refusal) => HostAnswer::Refused(refusal),
     }
 }

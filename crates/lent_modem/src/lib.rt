@@ -1,18 +1,18 @@
 // The modem's end in 10 bytes: its native and its advertised version, whether it lists VERSION, its
 // stage and the version that it settled on, 16 bits each.
+use handshake::number_of;
+use handshake::version_of;
 use lent_ends::NATIVE;
 use lent_ends::both;
 use lent_ends::is_stray_version;
 use lent_ends::judge_native;
+use message::MessageHeader;
 use modem::Modem;
 use modem::ModemAnswer;
 use modem::ModemMade;
 use modem::ModemStage;
 use modem::ModemStep;
 use modem::settled_number;
-use handshake::number_of;
-use handshake::version_of;
-use message::MessageHeader;
 use protocol::CONTRADICTION;
 use protocol::OUTPUT_TOO_SMALL;
 use protocol::Refusal;

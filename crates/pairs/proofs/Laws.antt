@@ -1,7 +1,7 @@
 -- A pair is accepted exactly where it is absent or lies behind the fixed part, aligned and inside the payload; a pair that a writer
 -- places is accepted; the bytes put there are read back. Fixed part, limit and kind are parameters.
 -- Assumes nothing.
-use mathlib.Core.Path.{_≡_, refl}
+use mathlib.Core.Path.{_≡_, refl, sym, ap, _∙_}
 use mathlib.Core.Logic.{_↔_, _⊎_, inl, inr}
 use mathlib.Core.Bool.{Bool, true, false, cond}
 use mathlib.Core.List.{List, [], _∷_, _++_}
@@ -11,7 +11,8 @@ use borrow.Author.Tests.{le-ltb, lt-ltb, ltb-false, eq-eqb, ne-eqb, eqb-true, eq
 use lib.Dec.{ltb, eqb}
 use lib.ListN.{length, take, drop}
 use Rattle.wire.specs.Output.{fitted}
-use Rattle.wire.proofs.Laws.{text-at}
+use Rattle.wire.specs.Numbers.{num, u32At}
+use Rattle.wire.proofs.Laws.{text-at, num-skip, num-digits}
 use Rattle.protocol.specs.Refusal.{refusal, wrongOffset}
 use Rattle.protocol.specs.Verdict.{Kept, judge, judgeFrom, faultIf, firstOf}
 use Rattle.protocol.specs.declared.Verdict.the-variants.{Fits, Fault}
@@ -20,7 +21,7 @@ use Rattle.protocol.proofs.Verdicts.{fits-kept, kept-fits}
 use Rattle.pairs.specs.declared.Range.{Range}
 use Rattle.pairs.specs.declared.PairKind.{PairKind}
 use Rattle.pairs.specs.declared.PairKind.the-variants.{Text, List as ListKind}
-use Rattle.pairs.specs.Pair.{range, partOf, oddFor, unfit, rules, verdictOf, padded, placed}
+use Rattle.pairs.specs.Pair.{range, rangeAt, rangeBytes, partOf, oddFor, unfit, rules, verdictOf, padded, placed}
 use Rattle.pairs.specs.Claims.{Absent, Inside, Even, SizeFits, PairFits, RangeOfWidth, shownIn, FitsExactly}
 
 -- ---- sizes
@@ -144,3 +145,11 @@ module _ (s : List ℕ) (p : Range) where
       by-end : (b : Bool) → cond b [] (take (p .length) (drop (p .start) s)) ≡ []
       by-end true = refl
       by-end false = rw e
+
+pub range-back : (before rest : List ℕ) (p : Range) (at : ℕ) → length before ≡ at → RangeOfWidth p → rangeAt (before ++ (rangeBytes p ++ rest)) at ≡ p
+unfolding rangeAt u32At rangeBytes
+range-back before rest p at e z =
+    let s = rangeBytes p ++ rest in
+    let start : num 4 (before ++ s) at ≡ p .start = ap (num 4 (before ++ s)) (omega arith) ∙ num-skip 4 before s 0 ∙ num-digits 4 (p .start) [] (z .start) in
+    let size : num 4 (before ++ s) (at + 4) ≡ p .length = ap (λ (k : ℕ). num 4 (before ++ s) (k + 4)) (sym e) ∙ num-skip 4 before s 4 ∙ num-digits 4 (p .length) [] (z .length) in
+    λ i. record { start = start i; length = size i }

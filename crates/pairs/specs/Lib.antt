@@ -1,4 +1,2 @@
 pub mod Pair
-pub mod Texts
-pub mod Lists
 pub mod Claims

@@ -1,8 +1,5 @@
 // One offset/size pair of a payload: judged as a reader meets it, and placed as a writer puts it.
-// The texts of a record stand in `texts`, a list behind a pair in `lists`.
-pub mod lists;
-pub mod texts;
-
+// The texts of a record are judged in crate `texts`, a list behind a pair in `lists`.
 use protocol::PAST_END;
 use protocol::Refusal;
 use protocol::Verdict;
@@ -23,7 +20,7 @@ pub struct Range {
 }
 
 // The bytes of a pair.
-const PAIR_SIZE: usize = 8;
+pub const PAIR_SIZE: usize = 8;
 
 // What a pair is of: a text has an even size.
 pub enum PairKind {
@@ -84,7 +81,7 @@ pub fn put_range(out: &mut [u8], place: usize, pair: Range)
 }
 
 // The verdict on the pair that stands at `place` of a payload of `length` bytes.
-fn judge(
+pub fn judge(
     kind: PairKind,
     fixed: u32,
     limit: u32,
@@ -111,7 +108,7 @@ fn judge(
 }
 
 // The pair at a place of a payload: where all of it is there, one test serves.
-fn range_at(payload: &[u8], place: usize) -> Range
+pub fn range_at(payload: &[u8], place: usize) -> Range
     ensures { λ r. ⌜ r ≡ rangeAt (now (payload .entry)) place ⌝ }
 {
     if PAIR_SIZE <= payload.len() {
@@ -136,7 +133,7 @@ fn range_at(payload: &[u8], place: usize) -> Range
 }
 
 // A size with its padding, to a multiple of 4.
-fn padded_size(size: u32) -> usize
+pub fn padded_size(size: u32) -> usize
     ensures { λ r. ⌜ r ≡ padded size ⌝ }
 {
     (size as usize + 3) / 4 * 4

@@ -21,9 +21,9 @@ use Rattle.protocol.specs.declared.Version.the-variants.{V2}
 use Rattle.protocol.specs.declared.Written.the-variants.{Length}
 use Rattle.protocol.proofs.Tests.{and-cases, cases-and, or-none, none-or, equal-kept, kept-equal}
 use Rattle.protocol.proofs.Verdicts.{left-fits, right-fits, fits-kept, kept-fits, open-length, length-open, written-both, both-written}
-use Rattle.pairs.specs.Texts.{rangesAt}
-use Rattle.pairs.specs.Claims.{TextsFit}
-use Rattle.pairs.proofs.Rows.{texts-said, said-texts, said-sizes}
+use Rattle.texts.specs.Texts.{rangesAt}
+use Rattle.texts.specs.Claims.{TextsFit}
+use Rattle.texts.proofs.Rows.{texts-said, said-texts, said-sizes}
 use Rattle.registration.specs.declared.RegistrationForm.{RegistrationForm}
 use Rattle.registration.specs.declared.RegistrationForm.the-variants.{V1 as Form1, V2 as Form2}
 use Rattle.registration.specs.declared.Registration.{Registration}

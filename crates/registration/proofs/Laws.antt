@@ -12,9 +12,9 @@ use Rattle.protocol.specs.declared.Version.{Version}
 use Rattle.protocol.specs.declared.Version.the-variants.{V1, V2}
 use Rattle.protocol.proofs.Verdicts.{left-fits, right-fits, fits-kept}
 use Rattle.pairs.specs.Pair.{rangeBytes}
-use Rattle.pairs.specs.Texts as pairs
-use Rattle.pairs.specs.Claims.{SizesFit}
-use Rattle.pairs.proofs.Rows.{sizes-said, end-within, length-texts}
+use Rattle.texts.specs.Texts as pairs
+use Rattle.texts.specs.Claims.{SizesFit}
+use Rattle.texts.proofs.Rows.{sizes-said, end-within, length-texts}
 use Rattle.registration.specs.declared.RegistrationForm.{RegistrationForm}
 use Rattle.registration.specs.declared.RegistrationForm.the-variants.{V1 as Form1, V2 as Form2}
 use Rattle.registration.specs.declared.Registration.{Registration}

@@ -19,8 +19,8 @@ use Rattle.protocol.specs.declared.Version.the-variants.{V1, V2}
 use Rattle.protocol.proofs.Tests.{equal-kept, kept-equal}
 use Rattle.protocol.proofs.Verdicts.{last-fits, fits-kept, kept-fits, open-short}
 use Rattle.protocol.proofs.Classes.{later-classes}
-use Rattle.pairs.specs.Texts.{endOf}
-use Rattle.pairs.proofs.Rows.{end-behind, end-aligned, laid-inside, none-inside}
+use Rattle.texts.specs.Texts.{endOf}
+use Rattle.texts.proofs.Rows.{end-behind, end-aligned, laid-inside, none-inside}
 use Rattle.registration.specs.declared.RegistrationForm.{RegistrationForm}
 use Rattle.registration.specs.declared.RegistrationForm.the-variants.{V1 as Form1, V2 as Form2}
 use Rattle.registration.specs.declared.Registration.{Registration}

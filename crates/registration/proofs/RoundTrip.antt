@@ -13,10 +13,10 @@ use Rattle.protocol.specs.declared.Version.{Version}
 use Rattle.protocol.specs.declared.Written.the-variants.{Length}
 use Rattle.protocol.proofs.Verdicts.{length-open, written-fits, written-front}
 use Rattle.pairs.specs.Pair.{rangeBytes}
-use Rattle.pairs.specs.Texts.{laid, endOf, rangesBytes}
-use Rattle.pairs.specs.Texts as pairs
+use Rattle.texts.specs.Texts.{laid, endOf, rangesBytes}
+use Rattle.texts.specs.Texts as pairs
 use Rattle.pairs.specs.Claims.{shownIn}
-use Rattle.pairs.proofs.Rows.{end-behind, laid-fit, laid-sized, ranges-back, texts-back}
+use Rattle.texts.proofs.Rows.{end-behind, laid-fit, laid-sized, ranges-back, texts-back}
 use Rattle.registration.specs.declared.RegistrationForm.{RegistrationForm}
 use Rattle.registration.specs.declared.RegistrationForm.the-variants.{V1 as Form1, V2 as Form2}
 use Rattle.registration.specs.declared.Registration.{Registration}

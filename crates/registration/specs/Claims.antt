@@ -12,7 +12,8 @@ use Rattle.protocol.specs.declared.Refusal.{Refusal}
 use Rattle.protocol.specs.declared.Version.{Version}
 use Rattle.protocol.specs.declared.Version.the-variants.{V1, V2}
 use Rattle.pairs.specs.Pair.{rangeAt}
-use Rattle.pairs.specs.Claims.{Absent, Inside, SizeFits, PairFits, shownIn, firstInside}
+use Rattle.pairs.specs.Claims.{Absent, Inside, SizeFits, PairFits, shownIn}
+use Rattle.texts.specs.Claims.{firstInside}
 use Rattle.pairs.specs.declared.PairKind.the-variants.{Text}
 use Rattle.registration.specs.declared.RegistrationForm.{RegistrationForm}
 use Rattle.registration.specs.declared.RegistrationForm.the-variants.{V1 as Form1, V2 as Form2}

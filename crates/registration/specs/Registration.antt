@@ -14,8 +14,8 @@ use Rattle.protocol.specs.declared.Verdict.the-variants.{Fits, Fault}
 use Rattle.protocol.specs.declared.Version.{Version}
 use Rattle.protocol.specs.declared.Version.the-variants.{V1, V2}
 use Rattle.pairs.specs.Pair.{range}
-use Rattle.pairs.specs.Texts.{row, rangesAt, laid, endOf, rangesBytes}
-use Rattle.pairs.specs.Texts as pairs
+use Rattle.texts.specs.Texts.{row, rangesAt, laid, endOf, rangesBytes}
+use Rattle.texts.specs.Texts as pairs
 use Rattle.pairs.specs.declared.Range.{Range}
 use Rattle.registration.specs.declared.RegistrationForm.{RegistrationForm}
 use Rattle.registration.specs.declared.RegistrationForm.the-variants.{V1 as Form1, V2 as Form2}

@@ -1,12 +1,6 @@
 // The REGISTER_STATE payload: its record, and a reader and a writer of both forms. Texts are shown
 // as ranges of the payload and written from lent slices; what stands in a text is not judged.
 use pairs::Range;
-use pairs::texts::judge_sizes;
-use pairs::texts::judge_texts;
-use pairs::texts::judged_text;
-use pairs::texts::put_pair;
-use pairs::texts::put_text;
-use pairs::texts::start_of;
 use protocol::CONTRADICTION;
 use protocol::OUTPUT_TOO_SMALL;
 use protocol::OUTSIDE_TABLE;
@@ -18,6 +12,12 @@ use protocol::also;
 use protocol::data_class::is_only_classes;
 use protocol::first;
 use protocol::judge_open_length;
+use texts::judge_sizes;
+use texts::judge_texts;
+use texts::judged_text;
+use texts::put_pair;
+use texts::put_text;
+use texts::start_of;
 use wire::put_u32;
 use wire::u32_at;
 ghost use mathlib.Core.Path.{_≡_};
@@ -26,7 +26,7 @@ ghost use lib.ListN.{length};
 ghost use lib.Seq.{sets};
 ghost use Rattle.protocol.specs.Verdict.{firstOf, judge};
 ghost use Rattle.protocol.specs.declared.Verdict.the-variants.{Fits};
-ghost use Rattle.pairs.specs.Texts.{laid, rangesBytes, textsBytes};
+ghost use Rattle.texts.specs.Texts.{laid, rangesBytes, textsBytes};
 ghost use Rattle.registration.specs.Registration.{fixedPart, formAt, recordAt, textsAt, frontRules, textsVerdict, unregistered, backRules, readOf, versionOf, three, writtenVerdict, laidTexts, frontBytes, backBytes, fixedWith, writeOf};
 
 // What only one form has.

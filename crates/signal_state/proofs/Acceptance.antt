@@ -24,12 +24,12 @@ use Rattle.protocol.proofs.Classes.{class-said, said-class}
 use Rattle.protocol.proofs.Verdicts.{left-fits, right-fits, not-broken, fits-kept, kept-fits, then-kept, kept-then, exact-length, length-exact, open-length, length-open, written-both, both-written}
 use Rattle.folds.proofs.Laws.{fits-each, each-fits, none-each, each-none}
 use Rattle.pairs.specs.Pair.{rangeAt, unfit}
-use Rattle.pairs.specs.Lists.{absentIn}
-use Rattle.pairs.specs.Claims.{Whole}
+use Rattle.lists.specs.Lists.{absentIn}
+use Rattle.lists.specs.Claims.{Whole}
 use Rattle.pairs.specs.declared.Range.{Range}
 use Rattle.pairs.specs.declared.PairKind.the-variants.{List as ListKind}
 use Rattle.pairs.proofs.Laws.{size-said, said-size}
-use Rattle.pairs.proofs.Behind.{behind-said, said-behind}
+use Rattle.lists.proofs.Behind.{behind-said, said-behind}
 use Rattle.signal_state.specs.declared.RsrpSnr.{RsrpSnr}
 use Rattle.signal_state.specs.declared.SignalForm.{SignalForm}
 use Rattle.signal_state.specs.declared.SignalForm.the-variants.{V1 as Form1, V2 as Form2}

@@ -23,12 +23,13 @@ use Rattle.protocol.proofs.Verdicts.{left-fits, right-fits, not-broken, open-le
 use Rattle.folds.specs.Folds.{listOf}
 use Rattle.folds.proofs.Laws.{fits-next, fault-at, any-next, fault-same, any-same, length-list, length-joined}
 use Rattle.pairs.specs.Pair.{rangeAt, placed, rangeBytes}
-use Rattle.pairs.specs.Lists.{listVerdict}
-use Rattle.pairs.specs.Claims.{Absent, Inside, Whole}
+use Rattle.lists.specs.Lists.{listVerdict}
+use Rattle.pairs.specs.Claims.{Absent, Inside}
+use Rattle.lists.specs.Claims.{Whole}
 use Rattle.pairs.specs.declared.Range.{Range}
 use Rattle.pairs.specs.declared.PairKind.the-variants.{List as ListKind}
 use Rattle.pairs.proofs.Laws.{size-said}
-use Rattle.pairs.proofs.Behind.{behind-said}
+use Rattle.lists.proofs.Behind.{behind-said}
 use Rattle.signal_state.specs.declared.RsrpSnr.{RsrpSnr}
 use Rattle.signal_state.specs.declared.SignalForm.{SignalForm}
 use Rattle.signal_state.specs.declared.SignalState.{SignalState}

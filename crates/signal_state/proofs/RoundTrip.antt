@@ -26,9 +26,8 @@ use Rattle.pairs.specs.Pair.{range, rangeAt, unfit, placed, rangeBytes}
 use Rattle.pairs.specs.Claims.{RangeOfWidth}
 use Rattle.pairs.specs.declared.Range.{Range}
 use Rattle.pairs.specs.declared.PairKind.the-variants.{List as ListKind}
-use Rattle.pairs.proofs.Laws.{placed-fits, placed-sized}
-use Rattle.pairs.proofs.Behind.{said-list as said-behind}
-use Rattle.pairs.proofs.Rows.{range-back}
+use Rattle.pairs.proofs.Laws.{placed-fits, placed-sized, range-back}
+use Rattle.lists.proofs.Behind.{said-list as said-behind}
 use Rattle.signal_state.specs.declared.RsrpSnr.{RsrpSnr}
 use Rattle.signal_state.specs.declared.SignalForm.{SignalForm}
 use Rattle.signal_state.specs.declared.SignalForm.the-variants.{V1 as Form1, V2 as Form2}

@@ -16,9 +16,9 @@ use Rattle.protocol.specs.declared.Version.{Version}
 use Rattle.protocol.specs.declared.Version.the-variants.{V1, V2}
 use Rattle.folds.specs.Folds.{firstFault, anyOf, listOf, joined}
 use Rattle.pairs.specs.Pair.{rangeAt, unfit, verdictOf, placed, rangeBytes}
-use Rattle.pairs.specs.Lists as lists
+use Rattle.lists.specs.Lists as lists
 use Rattle.pairs.specs.declared.Range.{Range}
-use Rattle.pairs.specs.declared.lists.ListForm.{ListForm}
+use Rattle.lists.specs.declared.ListForm.{ListForm}
 use Rattle.pairs.specs.declared.PairKind.the-variants.{List as ListKind}
 use Rattle.signal_state.specs.declared.RsrpSnr.{RsrpSnr}
 use Rattle.signal_state.specs.declared.SignalForm.{SignalForm}

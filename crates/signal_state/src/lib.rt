@@ -1,10 +1,10 @@
 // The SIGNAL_STATE payload: its record and entries, and a reader and a writer of both forms. What a
 // code means in decibels is not known here.
+use lists::ListForm;
+use lists::judge_list;
+use lists::judged_list_count;
 use pairs::PairKind;
 use pairs::is_unfit;
-use pairs::lists::ListForm;
-use pairs::lists::judge_list;
-use pairs::lists::judged_list_count;
 use pairs::place_at;
 use pairs::put_range;
 use protocol::CONTRADICTION;

@@ -4,7 +4,7 @@ use mathlib.Core.Path.{refl}
 use mathlib.Core.List.{_++_}
 use Rattle.wire.proofs.Laws.{sets-then}
 use Rattle.pairs.specs.Pair.{rangeBytes}
-use Rattle.pairs.specs.Texts.{laid, rangesBytes}
+use Rattle.texts.specs.Texts.{laid, rangesBytes}
 use Rattle.registration.specs.Registration.{fixedPart, versionOf, three, laidTexts, frontBytes, textsBytes, backBytes, fixedBytes}
 use Rattle.registration.proofs.put_fixed.Statement.{statement}
 use Rattle.registration.proofs.put_fixed.Tie as tie

@@ -3,9 +3,9 @@ use borrow.Author.Needs.{needs}
 use mathlib.Core.Path.{refl}
 use mathlib.Core.List.{[], _∷_}
 use Prim.Native.Nat.{ℕ}
-use Rattle.pairs.specs.Texts.{laidAt}
+use Rattle.texts.specs.Texts.{laidAt}
 use Rattle.pairs.specs.declared.Range.{Range}
-use Rattle.pairs.proofs.Rows.{range-stored}
+use Rattle.texts.proofs.Rows.{range-stored}
 use Rattle.registration.specs.Registration.{three}
 use Rattle.registration.proofs.put_pairs.Statement.{statement}
 use Rattle.registration.proofs.put_pairs.Tie as tie

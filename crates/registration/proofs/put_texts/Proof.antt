@@ -4,8 +4,8 @@ use mathlib.Core.Path.{refl}
 use mathlib.Core.List.{[], _∷_}
 use Prim.Native.Nat.{ℕ}
 use lib.ListN.{length}
-use Rattle.pairs.specs.Texts.{startOf}
-use Rattle.pairs.proofs.Rows.{text-stored}
+use Rattle.texts.specs.Texts.{startOf}
+use Rattle.texts.proofs.Rows.{text-stored}
 use Rattle.registration.specs.Registration.{three}
 use Rattle.registration.proofs.put_texts.Statement.{statement}
 use Rattle.registration.proofs.put_texts.Tie as tie

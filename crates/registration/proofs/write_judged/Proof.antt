@@ -7,7 +7,7 @@ use Rattle.wire.proofs.Laws.{sets-then}
 use Rattle.protocol.specs.Verdict.{firstOf, faultIf}
 use Rattle.protocol.proofs.Verdicts.{wrote, refused}
 use native.Mathlib.Nat.{zero-add}
-use Rattle.pairs.specs.Texts.{textsBytes}
+use Rattle.texts.specs.Texts.{textsBytes}
 use Rattle.registration.specs.Registration.{fixedPart, versionOf, three, writtenVerdict, laidFor, fixedWith, bytesOf, writeOf}
 use Rattle.registration.proofs.Laws.{small, length-fixed, length-bytes}
 use Rattle.registration.proofs.write_judged.Statement.{statement}
