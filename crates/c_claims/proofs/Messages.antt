@@ -33,7 +33,8 @@ use Rattle.assembler.specs.declared.Assembly.{Assembly}
 use Rattle.assembler.specs.declared.Answer.{Answer}
 use Rattle.assembler.specs.declared.Answer.the-variants as answer
 use Rattle.assembler.specs.declared.door.Received.{Received}
-use Rattle.lent.specs.LentAssembly.{assemblySize, progressIn, bufferIn, pendingRules, progressVerdict, emptied, keptOf, judgedIn, feedIn, Receiving, receiveIn}
+use Rattle.lent_progress.specs.LentProgress.{pendingRules, progressVerdict}
+use Rattle.lent.specs.LentAssembly.{assemblySize, progressIn, bufferIn, emptied, keptOf, judgedIn, feedIn, Receiving, receiveIn}
 use Rattle.lent.specs.Stored.{Stored}
 use Rattle.c_structs.specs.Messages.{wholeInfo, cutInfo, kindInfo, receiveInfo}
 use Rattle.c_claims.specs.NumberZero.{VerdictTells, WrittenTells, WholeTells, CutTells, KindTells, ReceivedTells}

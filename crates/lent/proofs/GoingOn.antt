@@ -23,7 +23,8 @@ use Rattle.message.specs.declared.Fragment.the-variants as fragment
 use Rattle.message.proofs.Headers.{accepted-later, right-less}
 use Rattle.assembler.specs.Assembly.{Step, assemblyOf, waiting, grownProgress, grown, gatherOf, continues, joinRules, joinOf, judgedBy, judgedOf, begunBytes, stepBy, stepOf}
 use Rattle.assembler.specs.declared.Progress.{Progress}
-use Rattle.lent.specs.LentAssembly.{assemblySize, bufferIn, messageBytes, countBytes, progressBytes, changedIn, held, aboveCarried, pendingRules, progressVerdict, NextPiece, Amid, GoesOn}
+use Rattle.lent_progress.specs.LentProgress.{aboveCarried, pendingRules, progressVerdict}
+use Rattle.lent.specs.LentAssembly.{assemblySize, bufferIn, messageBytes, countBytes, progressBytes, changedIn, held, NextPiece, Amid, GoesOn}
 use Rattle.lent.proofs.Memory.{length-progress, length-buffer, put-back, changed-all}
 
 -- the memory is taken

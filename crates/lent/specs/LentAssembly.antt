@@ -1,5 +1,5 @@
 -- The assembly in lent memory (document 01: "the assembly holds 4,096 bytes, all zero when empty"): 48 bytes of numbers, then the 4,096.
--- In this order: places; which numbers feeding from empty can have left; emptying; feeding; any received piece.
+-- In this order: places; emptying; feeding; any received piece. Which numbers feeding from empty can have left stands in crate lent_progress.
 use Prim.Native.Nat.{ℕ, _+_, _-_, _≤_}
 use mathlib.Core.Path.{_≡_}
 use mathlib.Core.Bool.{Bool, true, false, not, cond, _&&_}
@@ -26,6 +26,7 @@ use Rattle.assembler.specs.declared.Answer.the-variants.{Refused}
 use Rattle.assembler.specs.Door.{wholeShown, fedShown}
 use Rattle.assembler.specs.declared.door.Received.{Received}
 use Rattle.assembler.specs.declared.door.Received.the-variants as received
+use Rattle.lent_progress.specs.LentProgress.{strayWord, progressVerdict}
 use Rattle.lent.specs.Stored.{Stored, unstored}
 
 -- ---- places
@@ -78,40 +79,6 @@ changedIn p m = cond (ltb (p .next) 2) (sets m 0 (progressBytes p)) (sets m 32 (
 -- the memory that holds an assembly; what is lent past its end stays as it was
 unfoldable pub held : Assembly → List ℕ → List ℕ
 held a m = over (progressBytes (a .progress) ++ a .bytes) m
-
--- ---- what feeding from empty can have left: no message, every number 0, or a pending one; else 10 at the field's place
--- The bytes of the buffer are not looked at: those past the gathered ones are never shown.
-
--- numbers are 0 exactly when their sum is
-unfoldable pub isNone : Progress → Bool
-isNone p =
-    let h = p .message in
-    eqb (h .service .word0 + h .service .word1 + h .service .word2 + h .service .word3) 0
-    && (eqb (h .«message_type» + h .transaction + h .cid + h .word) 0 && eqb (p .next + p .«information_length» + p .gathered) 0)
-
--- the word of a message that no first fragment has: an indication has none, and shows 0
-unfoldable pub strayWord : MessageHeader → Bool
-strayWord h = cond (eqb (h .«message_type») INDICATE-STATUS) (not (eqb (h .word) 0)) (wrongWord h)
-
--- more than the one fragment that came can carry; two can carry any message's information
-unfoldable pub aboveCarried : Progress → Bool
-aboveCarried p = eqb (p .next) 1 && ltb mostTransfer (firstLength (p .message .«message_type») + p .gathered)
-
-abbrev pub pendingRules : Progress → List Rule
-pendingRules p =
-    rule (not (isFragmented (p .message .«message_type»))) contradiction 0
-    ∷ rule (strayWord (p .message)) contradiction 28
-    ∷ rule (ltb mostFragments (p .total)) contradiction 32
-    ∷ rule (eqb (p .next) 0) contradiction 36
-    ∷ rule (leb (p .total) (p .next)) contradiction 36
-    ∷ rule (ltb mostInformation (p .«information_length»)) contradiction 40
-    ∷ rule (ltb (p .«information_length») (p .gathered)) contradiction 44
-    ∷ rule (aboveCarried p) contradiction 44
-    ∷ []
-
-unfoldable pub progressVerdict : Progress → Verdict
-progressVerdict p =
-    cond (eqb (p .total) 0) (judge (rule (not (isNone p)) contradiction 32 ∷ [])) (judge (pendingRules p))
 
 -- ---- emptying
 

@@ -7,19 +7,22 @@ use assembler::door::Received;
 use assembler::door::show_fed;
 use assembler::door::show_whole;
 use assembler::feed_lent;
-use assembler::first_length;
+use lent_progress::GATHERED;
+use lent_progress::INFORMATION_LENGTH;
+use lent_progress::MESSAGE_TYPE;
+use lent_progress::NEXT;
+use lent_progress::TOTAL;
+use lent_progress::WORD;
+use lent_progress::is_stray_word;
+use lent_progress::judge_progress;
 use message::MOST_FRAGMENTS;
 use message::MOST_TRANSFER;
 use message::MessageHeader;
 use message::is_whole_piece;
-use message::is_wrong_word;
-use protocol::CONTRADICTION;
 use protocol::MOST_INFORMATION;
 use protocol::OUTPUT_TOO_SMALL;
 use protocol::Refusal;
 use protocol::Verdict;
-use protocol::also;
-use protocol::message_type::INDICATE_STATUS;
 use protocol::message_type::is_fragmented;
 use protocol::service::ServiceId;
 use wire::put_bytes;
@@ -32,31 +35,19 @@ ghost use lib.ListN.{length, drop};
 ghost use lib.Seq.{sets};
 ghost use Rattle.wire.specs.Numbers.{u32At, digits};
 ghost use Rattle.wire.specs.Output.{over};
-ghost use Rattle.protocol.specs.Verdict.{judge};
 ghost use Rattle.protocol.specs.Service.{idAt, idBytes};
 ghost use Rattle.assembler.specs.Assembly.{assemblyOf, grown};
-ghost use Rattle.lent.specs.LentAssembly.{assemblySize, bufferIn, NextPiece, Amid, GoesOn, held, messageIn, progressIn, messageBytes, countBytes, progressBytes, changedIn, isNone, strayWord, aboveCarried, pendingRules, progressVerdict, emptied, keptOf, feedIn, receiveIn};
+ghost use Rattle.lent_progress.specs.LentProgress.{isNone, strayWord, aboveCarried, pendingRules, progressVerdict};
+ghost use Rattle.lent.specs.LentAssembly.{assemblySize, bufferIn, NextPiece, Amid, GoesOn, held, messageIn, progressIn, messageBytes, countBytes, progressBytes, changedIn, emptied, keptOf, feedIn, receiveIn};
 
 // How many bytes an assembly takes.
 pub const ASSEMBLY_SIZE: usize = 4144;
-
-const MESSAGE_TYPE: usize = 0;
 
 const TRANSACTION: usize = 4;
 
 const SERVICE: usize = 8;
 
 const CID: usize = 24;
-
-const WORD: usize = 28;
-
-const TOTAL: usize = 32;
-
-const NEXT: usize = 36;
-
-const INFORMATION_LENGTH: usize = 40;
-
-const GATHERED: usize = 44;
 
 const BUFFER: usize = 48;
 
@@ -319,95 +310,4 @@ fn put_counts(memory: &mut [u8], progress: Progress)
     put_u32(memory, NEXT, progress.next);
     put_u32(memory, INFORMATION_LENGTH, progress.information_length);
     put_u32(memory, GATHERED, progress.gathered);
-}
-
-// The verdict on what feeding from empty can have left: no message at all, or one that is pending.
-fn judge_progress(progress: Progress) -> Verdict
-    ensures { λ r. ⌜ r ≡ progressVerdict progress ⌝ }
-{
-    if progress.total == 0 {
-        return also(Verdict::Fits, !is_none(progress), CONTRADICTION, TOTAL);
-    }
-    judge_pending(progress)
-}
-
-fn judge_pending(progress: Progress) -> Verdict
-    ensures { λ r. ⌜ r ≡ judge (pendingRules progress) ⌝ }
-{
-    let message = progress.message;
-    let typed = also(
-        Verdict::Fits,
-        !is_fragmented(message.message_type),
-        CONTRADICTION,
-        MESSAGE_TYPE,
-    );
-    let worded = also(typed, is_stray_word(message), CONTRADICTION, WORD);
-    let counted = also(
-        worded,
-        MOST_FRAGMENTS < progress.total,
-        CONTRADICTION,
-        TOTAL,
-    );
-    let begun = also(counted, progress.next == 0, CONTRADICTION, NEXT);
-    let unfinished = also(begun, progress.total <= progress.next, CONTRADICTION, NEXT);
-    let declared = also(
-        unfinished,
-        MOST_INFORMATION < progress.information_length as usize,
-        CONTRADICTION,
-        INFORMATION_LENGTH,
-    );
-    let within = also(
-        declared,
-        progress.information_length < progress.gathered,
-        CONTRADICTION,
-        GATHERED,
-    );
-    also(within, is_above_carried(progress), CONTRADICTION, GATHERED)
-}
-
-// Whether no first fragment has the message's word.
-fn is_stray_word(message: MessageHeader) -> bool
-    ensures { λ r. ⌜ r ≡ strayWord message ⌝ }
-{
-    if message.message_type == INDICATE_STATUS {
-        return message.word != 0;
-    }
-    is_wrong_word(message)
-}
-
-// Whether more is gathered than the one fragment that came can carry. Two can carry any message.
-fn is_above_carried(progress: Progress) -> bool
-    ensures { λ r. ⌜ r ≡ aboveCarried progress ⌝ }
-{
-    if progress.next != 1 {
-        return false;
-    }
-    let before = first_length(progress.message.message_type);
-    MOST_TRANSFER < before + progress.gathered as usize
-}
-
-// Whether every number but the total is 0, as then their sums are.
-fn is_none(progress: Progress) -> bool
-    ensures { λ r. ⌜ r ≡ isNone progress ⌝ }
-{
-    let message = progress.message;
-    let service = message.service;
-    let id = service.word0 as u64
-        + service.word1 as u64
-        + service.word2 as u64
-        + service.word3 as u64;
-    let header = message.message_type as u64
-        + message.transaction as u64
-        + message.cid as u64
-        + message.word as u64;
-    let counts = progress.next as u64
-        + progress.information_length as u64
-        + progress.gathered as u64;
-    if id != 0 {
-        return false;
-    }
-    if header != 0 {
-        return false;
-    }
-    counts == 0
 }

@@ -22,7 +22,8 @@ use Rattle.assembler.specs.Door.{wholeShown, fedShown, wholeReceived, fedReceiv
 use Rattle.assembler.specs.declared.Progress.{Progress}
 use Rattle.assembler.specs.declared.Assembly.{Assembly}
 use Rattle.assembler.proofs.Left.{Waits, begun, joined, Left, nothing, pending, left, left-whole}
-use Rattle.lent.specs.LentAssembly.{assemblySize, messageIn, progressIn, bufferIn, messageBytes, countBytes, progressBytes, held, progressVerdict, cleared, emptied, Feeding, kept, keptOf, feedIn, untouched, fedIn, receiveIn}
+use Rattle.lent_progress.specs.LentProgress.{progressVerdict}
+use Rattle.lent.specs.LentAssembly.{assemblySize, messageIn, progressIn, bufferIn, messageBytes, countBytes, progressBytes, held, cleared, emptied, Feeding, kept, keptOf, feedIn, untouched, fedIn, receiveIn}
 use Rattle.lent_claims.specs.Given.{WordsOfWidth, Bytes, messageWords}
 use Rattle.lent_claims.proofs.NumbersLeft.{none-fits, left-fits}
 use Rattle.lent_claims.specs.AssemblyMemory.{wordsOf, Holds, runIn, AllBytes, MemoryServes}

@@ -21,7 +21,7 @@ use Rattle.assembler.specs.Run.{Piece, runOf}
 use Rattle.assembler.specs.declared.Progress.{Progress}
 use Rattle.assembler.specs.declared.Assembly.{Assembly}
 use Rattle.assembler.proofs.Left.{Waits, begun, joined, Left, nothing, pending, left}
-use Rattle.lent.specs.LentAssembly.{isNone, strayWord, aboveCarried, pendingRules, progressVerdict}
+use Rattle.lent_progress.specs.LentProgress.{isNone, strayWord, aboveCarried, pendingRules, progressVerdict}
 
 -- ---- no message
 

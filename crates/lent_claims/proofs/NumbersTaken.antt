@@ -27,7 +27,7 @@ use Rattle.assembler.specs.declared.Assembly.{Assembly}
 use Rattle.cutter.specs.Cut.{headerBytes, fragmentBytes, wordBytes, openingBytes, firstBytes}
 use Rattle.exchange.specs.Messages.{OfWidth, headerSeen}
 use Rattle.exchange.proofs.Runs.{held, first-step, next-step, gather-wait}
-use Rattle.lent.specs.LentAssembly.{strayWord, aboveCarried, pendingRules, progressVerdict}
+use Rattle.lent_progress.specs.LentProgress.{strayWord, aboveCarried, pendingRules, progressVerdict}
 use Rattle.lent_claims.specs.Given.{WordsOfWidth, Bytes}
 use Rattle.lent_claims.specs.AssemblyMemory.{wordsOf, AllBytes, NumbersReached, NumbersTakenExactly}
 use Rattle.lent_claims.proofs.NumbersLeft.{Taken, none, waiting as pending, taken, reached-fits}

@@ -21,7 +21,7 @@ use Rattle.assembler.specs.declared.Progress.{Progress}
 use Rattle.assembler.specs.declared.Assembly.{Assembly}
 use Rattle.assembler.specs.declared.Answer.{Answer}
 use Rattle.assembler.specs.declared.Answer.the-variants.{Pending, Complete, Refused}
-use Rattle.lent.specs.LentAssembly.{isNone, pendingRules, progressVerdict}
+use Rattle.lent_progress.specs.LentProgress.{isNone, pendingRules, progressVerdict}
 use Rattle.lent_claims.specs.AssemblyMemory.{ToldApart}
 
 -- ---- the number of a verdict is one of its rules'

@@ -13,7 +13,8 @@ use Rattle.assembler.specs.Door.{Seen, receiveAll}
 use Rattle.assembler.specs.declared.Progress.{Progress}
 use Rattle.assembler.specs.declared.Assembly.{Assembly}
 use Rattle.assembler.specs.declared.Answer.the-variants.{Refused}
-use Rattle.lent.specs.LentAssembly.{assemblySize, progressIn, bufferIn, progressVerdict, emptied, Receiving, receiveIn}
+use Rattle.lent_progress.specs.LentProgress.{progressVerdict}
+use Rattle.lent.specs.LentAssembly.{assemblySize, progressIn, bufferIn, emptied, Receiving, receiveIn}
 use Rattle.lent_claims.specs.Given.{WordsOfWidth, Bytes}
 
 -- the numbers of an assembly

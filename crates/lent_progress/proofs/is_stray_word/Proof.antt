@@ -1,9 +1,9 @@
 -- By whether it is an indication.
 use borrow.Author.Needs.{needs}
 use borrow.Author.Tests.{eq-eqb, ne-eqb}
-use Rattle.lent.specs.LentAssembly.{strayWord}
-use Rattle.lent.proofs.assembly.is_stray_word.Statement.{statement}
-use Rattle.lent.proofs.assembly.is_stray_word.Tie as tie
+use Rattle.lent_progress.specs.LentProgress.{strayWord}
+use Rattle.lent_progress.proofs.is_stray_word.Statement.{statement}
+use Rattle.lent_progress.proofs.is_stray_word.Tie as tie
 
 returns : tie.Need-returns
 unfolding strayWord

@@ -1,8 +1,8 @@
 -- The rules in their order.
 use borrow.Author.Needs.{needs}
 use Rattle.protocol.specs.Verdict.{judgeFrom}
-use Rattle.lent.proofs.assembly.judge_pending.Statement.{statement}
-use Rattle.lent.proofs.assembly.judge_pending.Tie as tie
+use Rattle.lent_progress.proofs.judge_pending.Statement.{statement}
+use Rattle.lent_progress.proofs.judge_pending.Tie as tie
 
 returns : tie.Need-returns
 unfolding judgeFrom

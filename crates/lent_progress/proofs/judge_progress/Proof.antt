@@ -2,9 +2,9 @@
 use borrow.Author.Needs.{needs}
 use borrow.Author.Tests.{eq-eqb, ne-eqb}
 use Rattle.protocol.specs.Verdict.{judgeFrom}
-use Rattle.lent.specs.LentAssembly.{progressVerdict}
-use Rattle.lent.proofs.assembly.judge_progress.Statement.{statement}
-use Rattle.lent.proofs.assembly.judge_progress.Tie as tie
+use Rattle.lent_progress.specs.LentProgress.{progressVerdict}
+use Rattle.lent_progress.proofs.judge_progress.Statement.{statement}
+use Rattle.lent_progress.proofs.judge_progress.Tie as tie
 
 returns : tie.Need-returns
 unfolding progressVerdict judgeFrom

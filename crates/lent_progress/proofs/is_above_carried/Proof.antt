@@ -3,9 +3,9 @@ use borrow.Author.Needs.{needs}
 use borrow.Author.Tests.{eq-eqb, ne-eqb}
 use native.Mathlib.Omega.{arith}
 use Rattle.message.proofs.Headers.{place-most}
-use Rattle.lent.specs.LentAssembly.{aboveCarried}
-use Rattle.lent.proofs.assembly.is_above_carried.Statement.{statement}
-use Rattle.lent.proofs.assembly.is_above_carried.Tie as tie
+use Rattle.lent_progress.specs.LentProgress.{aboveCarried}
+use Rattle.lent_progress.proofs.is_above_carried.Statement.{statement}
+use Rattle.lent_progress.proofs.is_above_carried.Tie as tie
 
 returns : tie.Need-returns
 unfolding aboveCarried

@@ -1,9 +1,9 @@
 -- Three sums, tested one after another.
 use borrow.Author.Needs.{needs}
 use borrow.Author.Tests.{eq-eqb, ne-eqb}
-use Rattle.lent.specs.LentAssembly.{isNone}
-use Rattle.lent.proofs.assembly.is_none.Statement.{statement}
-use Rattle.lent.proofs.assembly.is_none.Tie as tie
+use Rattle.lent_progress.specs.LentProgress.{isNone}
+use Rattle.lent_progress.proofs.is_none.Statement.{statement}
+use Rattle.lent_progress.proofs.is_none.Tie as tie
 
 returns : tie.Need-returns
 unfolding isNone
