@@ -10,7 +10,7 @@ use handshake::version_at;
 use protocol::Written;
 use registration::RegistrationRead;
 use registration::read;
-use registration::write;
+use registration_writer::write;
 ghost use mathlib.Core.Path.{_≡_};
 ghost use Rattle.c_structs.specs.Answers.{writtenAnswer};
 ghost use Rattle.c_structs.specs.Registrations.{answerOf};

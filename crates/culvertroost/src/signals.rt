@@ -10,7 +10,7 @@ use handshake::Numbered;
 use handshake::version_at;
 use protocol::Written;
 use signal_state::read;
-use signal_state::write;
+use signal_writer::write;
 ghost use mathlib.Core.Path.{_≡_};
 ghost use Rattle.c_structs.specs.Answers.{writtenAnswer};
 ghost use Rattle.c_structs.specs.Signals.{answerOf};

@@ -31,7 +31,7 @@ pub fn write_registration(
     ensures { λ _. ⌜ now (out .exit) ≡ registrationWritten info (now («provider_id» .entry)) (now («provider_name» .entry)) (now («roaming_text» .entry)) (now (out .entry)) .output ⌝ }
     ensures { λ r. ⌜ RegistrationBack r info (now («provider_id» .entry)) (now («provider_name» .entry)) (now («roaming_text» .entry)) (now (out .exit)) ⌝ }
 {
-    registration::write(info, provider_id, provider_name, roaming_text, out)
+    registration_writer::write(info, provider_id, provider_name, roaming_text, out)
 }
 
 pub fn write_signal_state(info: SignalState, entries: [RsrpSnr; 16], out: &mut [u8]) -> Written
@@ -39,5 +39,5 @@ pub fn write_signal_state(info: SignalState, entries: [RsrpSnr; 16], out: &mut [
     ensures { λ _. ⌜ now (out .exit) ≡ signalWritten info entries (now (out .entry)) .output ⌝ }
     ensures { λ r. ⌜ SignalBack r info entries (now (out .exit)) ⌝ }
 {
-    signal_state::write(info, entries, out)
+    signal_writer::write(info, entries, out)
 }

@@ -1,36 +1,27 @@
-// The SIGNAL_STATE payload: its record and entries, and a reader and a writer of both forms. What a
-// code means in decibels is not known here.
+// The SIGNAL_STATE payload: its record and entries, and a reader of both forms; the writer is in
+// `signal_writer`. What a code means in decibels is not known here.
 use lists::ListForm;
 use lists::judge_list;
 use lists::judged_list_count;
-use pairs::PairKind;
-use pairs::is_unfit;
-use pairs::place_at;
-use pairs::put_range;
 use protocol::CONTRADICTION;
-use protocol::OUTPUT_TOO_SMALL;
 use protocol::OUTSIDE_TABLE;
 use protocol::Refusal;
 use protocol::Verdict;
 use protocol::Version;
-use protocol::WRONG_SIZE;
-use protocol::Written;
 use protocol::also;
 use protocol::data_class::is_one_class;
 use protocol::first;
 use protocol::judge_exact_length;
 use protocol::judge_open_length;
-use wire::put_u32;
 use wire::u32_at;
 ghost use mathlib.Core.Path.{_≡_};
 ghost use mathlib.Core.Bool.{_||_};
 ghost use Prim.Native.Nat.{_+_, _*_, _≤_};
 ghost use lib.ListN.{length};
-ghost use lib.Seq.{sets};
-ghost use Rattle.protocol.specs.Verdict.{judge, writing};
+ghost use Rattle.protocol.specs.Verdict.{judge};
 ghost use Rattle.protocol.specs.declared.Verdict.the-variants.{Fits};
 ghost use Rattle.protocol.specs.declared.Version.the-variants.{V1, V2};
-ghost use Rattle.signal_state.specs.SignalState.{entryPlace, entryAt, noEntries, entriesAt, stateAt, unmarked, numberRules, entryRules, isKnown, entryIn, entriesVerdict, anyKnown, contradicts, bodyVerdict, headVerdict, refused, readEntries, readOf, versionOf, sizeOf, limitVerdict, listedVerdict, numberBytes, entryBytes, entriesBytes, listBytes, listedBytes, writeOf};
+ghost use Rattle.signal_state.specs.SignalState.{entryPlace, entryAt, noEntries, entriesAt, stateAt, unmarked, numberRules, entryRules, isKnown, contradicts, bodyVerdict, headVerdict, refused, readEntries, readOf, versionOf};
 
 // One entry of the list.
 #[repr(C)]
@@ -68,27 +59,27 @@ pub struct SignalStateShown {
     pub entries: [RsrpSnr; 16],
 }
 
-const RSSI: usize = 0;
+pub const RSSI: usize = 0;
 
-const ERROR_RATE: usize = 4;
+pub const ERROR_RATE: usize = 4;
 
-const SIGNAL_STRENGTH_INTERVAL: usize = 8;
+pub const SIGNAL_STRENGTH_INTERVAL: usize = 8;
 
-const RSSI_THRESHOLD: usize = 12;
+pub const RSSI_THRESHOLD: usize = 12;
 
-const ERROR_RATE_THRESHOLD: usize = 16;
+pub const ERROR_RATE_THRESHOLD: usize = 16;
 
-const RSRP_SNR: usize = 20;
+pub const RSRP_SNR: usize = 20;
 
-const LENGTH_V1: usize = 20;
+pub const LENGTH_V1: usize = 20;
 
-const FIXED_PART_V2: u32 = 28;
+pub const FIXED_PART_V2: u32 = 28;
 
-const LIST_LIMIT: u32 = 324;
+pub const LIST_LIMIT: u32 = 324;
 
-const COUNT_SIZE: usize = 4;
+pub const COUNT_SIZE: usize = 4;
 
-const ENTRY_SIZE: usize = 20;
+pub const ENTRY_SIZE: usize = 20;
 
 const MOST_ENTRIES: u32 = 16;
 
@@ -119,18 +110,6 @@ pub fn read(version: Version, payload: &[u8]) -> SignalStateShown
     match version {
         Version::V1 => read_numbers(payload),
         Version::V2 => read_listed(payload),
-    }
-}
-
-// Writes the record at its form's version; at 2.00 the first `count` entries with it.
-pub fn write(info: SignalState, entries: [RsrpSnr; 16], out: &mut [u8]) -> Written
-    ensures { λ r. ⌜ r ≡ writeOf info entries (now (out .entry)) .answer ⌝ }
-    ensures { λ _. ⌜ now (out .exit) ≡ writeOf info entries (now (out .entry)) .output ⌝ }
-{
-    let form = info.form;
-    match form {
-        SignalForm::V1 => write_numbers(info, out),
-        SignalForm::V2 { count } => write_listed(info, count, entries, out),
     }
 }
 
@@ -242,7 +221,7 @@ fn entry_at(s: &[u8], offset: u32, i: u32) -> RsrpSnr
     }
 }
 
-fn entry_place(offset: u32, i: u32) -> usize
+pub fn entry_place(offset: u32, i: u32) -> usize
     ensures { λ r. ⌜ r ≡ entryPlace offset i ⌝ }
 {
     offset as usize + COUNT_SIZE + ENTRY_SIZE * i as usize
@@ -274,7 +253,7 @@ fn entries_at(s: &[u8], offset: u32, n: u32) -> [RsrpSnr; 16]
     entries
 }
 
-fn judge_numbers(rssi: u32, error_rate: u32) -> Verdict
+pub fn judge_numbers(rssi: u32, error_rate: u32) -> Verdict
     ensures { λ r. ⌜ r ≡ judge (numberRules rssi «error_rate») ⌝ }
 {
     let rssi_known = also(
@@ -301,31 +280,6 @@ fn is_unmarked(last: u32, x: u32) -> bool
     last < x
 }
 
-// The entries of the list at `offset`, and last what contradicts.
-fn judge_body(rssi: u32, offset: u32, entries: [RsrpSnr; 16], n: u32) -> Verdict
-    requires { ⌜ n ≤ 16 ⌝ }
-    ensures { λ r. ⌜ r ≡ bodyVerdict rssi offset (entryIn entries) n ⌝ }
-{
-    let mut known = false;
-    let mut i: u32 = 0;
-    while i < n {
-        let at = i as usize;
-        let entry = entries[at];
-        let verdict = judge_entry(offset, i, entry);
-        if let Verdict::Fault(refusal) = verdict {
-            return Verdict::Fault(refusal);
-        }
-        known = or(known, is_known(entry));
-        i += 1;
-    }
-    also(
-        Verdict::Fits,
-        is_contradiction(rssi, known),
-        CONTRADICTION,
-        RSSI,
-    )
-}
-
 // The same of the entries as they stand in a payload.
 fn judge_body_at(s: &[u8], rssi: u32, offset: u32, n: u32) -> Verdict
     requires { ⌜ offset + 4 + 20 * n ≤ length (now s) ⌝ }
@@ -350,7 +304,7 @@ fn judge_body_at(s: &[u8], rssi: u32, offset: u32, n: u32) -> Verdict
     )
 }
 
-fn judge_entry(offset: u32, i: u32, entry: RsrpSnr) -> Verdict
+pub fn judge_entry(offset: u32, i: u32, entry: RsrpSnr) -> Verdict
     ensures { λ r. ⌜ r ≡ judge (entryRules (entryPlace offset i) entry) ⌝ }
 {
     let at = entry_place(offset, i);
@@ -365,7 +319,7 @@ fn judge_entry(offset: u32, i: u32, entry: RsrpSnr) -> Verdict
 }
 
 // Whether an RSRP or an SNR is there.
-fn is_known(entry: RsrpSnr) -> bool
+pub fn is_known(entry: RsrpSnr) -> bool
     ensures { λ r. ⌜ r ≡ isKnown entry ⌝ }
 {
     if entry.rsrp != RSRP_UNKNOWN {
@@ -374,7 +328,7 @@ fn is_known(entry: RsrpSnr) -> bool
     entry.snr != SNR_UNKNOWN
 }
 
-fn or(a: bool, b: bool) -> bool
+pub fn or(a: bool, b: bool) -> bool
     ensures { λ r. ⌜ r ≡ (a || b) ⌝ }
 {
     if a {
@@ -384,128 +338,11 @@ fn or(a: bool, b: bool) -> bool
 }
 
 // Whether there is an RSSI beside an RSRP or an SNR.
-fn is_contradiction(rssi: u32, known: bool) -> bool
+pub fn is_contradiction(rssi: u32, known: bool) -> bool
     ensures { λ r. ⌜ r ≡ contradicts rssi known ⌝ }
 {
     if known {
         return rssi != NUMBER_UNKNOWN;
     }
     false
-}
-
-// 1.00.
-fn write_numbers(info: SignalState, out: &mut [u8]) -> Written
-    ensures { λ r. ⌜ r ≡ writing (judge (numberRules (info .rssi) (info .«error_rate»))) (numberBytes info) (now (out .entry)) .answer ⌝ }
-    ensures { λ _. ⌜ now (out .exit) ≡ writing (judge (numberRules (info .rssi) (info .«error_rate»))) (numberBytes info) (now (out .entry)) .output ⌝ }
-{
-    let numbers = judge_numbers(info.rssi, info.error_rate);
-    match also(numbers, out.len() < LENGTH_V1, OUTPUT_TOO_SMALL, LENGTH_V1) {
-        Verdict::Fits => {
-            put_numbers(info, &mut out[..LENGTH_V1]);
-            Written::Length(LENGTH_V1)
-        }
-        Verdict::Fault(refusal) => Written::Refused(refusal),
-    }
-}
-
-// 2.00: the limit is judged before the entries are looked at.
-fn write_listed(info: SignalState, count: u32, entries: [RsrpSnr; 16], out: &mut [u8]) -> Written
-    ensures { λ r. ⌜ r ≡ writing (listedVerdict info count (entryIn entries)) (listedBytes info count (entryIn entries)) (now (out .entry)) .answer ⌝ }
-    ensures { λ _. ⌜ now (out .exit) ≡ writing (listedVerdict info count (entryIn entries)) (listedBytes info count (entryIn entries)) (now (out .entry)) .output ⌝ }
-{
-    match judge_limit(info, count) {
-        Verdict::Fits => write_entries(info, count, entries, out),
-        Verdict::Fault(refusal) => Written::Refused(refusal),
-    }
-}
-
-fn judge_limit(info: SignalState, count: u32) -> Verdict
-    ensures { λ r. ⌜ r ≡ limitVerdict info count ⌝ }
-{
-    let numbers = judge_numbers(info.rssi, info.error_rate);
-    let unfit = is_unfit(PairKind::List, LIST_LIMIT, size_of(count));
-    also(numbers, unfit, WRONG_SIZE, RSRP_SNR)
-}
-
-fn write_entries(info: SignalState, count: u32, entries: [RsrpSnr; 16], out: &mut [u8]) -> Written
-    requires { ⌜ limitVerdict info count ≡ Fits ⌝ }
-    ensures { λ r. ⌜ r ≡ writing (listedVerdict info count (entryIn entries)) (listedBytes info count (entryIn entries)) (now (out .entry)) .answer ⌝ }
-    ensures { λ _. ⌜ now (out .exit) ≡ writing (listedVerdict info count (entryIn entries)) (listedBytes info count (entryIn entries)) (now (out .entry)) .output ⌝ }
-{
-    let n = FIXED_PART_V2 as usize + size_of(count);
-    let body = judge_body(info.rssi, FIXED_PART_V2, entries, count);
-    match also(body, out.len() < n, OUTPUT_TOO_SMALL, n) {
-        Verdict::Fits => {
-            put_numbers(info, &mut out[..LENGTH_V1]);
-            put_list(entries, count, out);
-            Written::Length(n)
-        }
-        Verdict::Fault(refusal) => Written::Refused(refusal),
-    }
-}
-
-// The size of a list of so many entries.
-fn size_of(count: u32) -> usize
-    ensures { λ r. ⌜ r ≡ sizeOf count ⌝ }
-{
-    if count == 0 {
-        return 0;
-    }
-    COUNT_SIZE + ENTRY_SIZE * count as usize
-}
-
-fn put_numbers(info: SignalState, out: &mut [u8])
-    ensures { λ _. ⌜ now (out .exit) ≡ sets (now (out .entry)) 0 (numberBytes info) ⌝ }
-{
-    put_u32(out, RSSI, info.rssi);
-    put_u32(out, ERROR_RATE, info.error_rate);
-    put_u32(out, SIGNAL_STRENGTH_INTERVAL, info.signal_strength_interval);
-    put_u32(out, RSSI_THRESHOLD, info.rssi_threshold);
-    put_u32(out, ERROR_RATE_THRESHOLD, info.error_rate_threshold);
-}
-
-// The pair, and the list straight after it.
-fn put_list(entries: [RsrpSnr; 16], count: u32, out: &mut [u8])
-    requires { ⌜ (count ≤ 16) × (28 + sizeOf count ≤ length (now out)) ⌝ }
-    ensures { λ _. ⌜ now (out .exit) ≡ sets (now (out .entry)) 20 (listBytes count (entryIn entries)) ⌝ }
-{
-    let pair = place_at(FIXED_PART_V2, size_of(count) as u32);
-    put_range(out, RSRP_SNR, pair);
-    if count == 0 {
-        return;
-    }
-    put_u32(out, FIXED_PART_V2 as usize, count);
-    put_entries(entries, count, out);
-}
-
-fn put_entries(entries: [RsrpSnr; 16], n: u32, out: &mut [u8])
-    requires { ⌜ (n ≤ 16) × (32 + 20 * n ≤ length (now out)) ⌝ }
-    ensures { λ _. ⌜ now (out .exit) ≡ sets (now (out .entry)) 32 (entriesBytes n (entryIn entries)) ⌝ }
-{
-    let mut i: u32 = 0;
-    while i < n {
-        let at = i as usize;
-        let entry = entries[at];
-        put_entry(entry, i, out);
-        i += 1;
-    }
-}
-
-// Entry i into its part of the output, so that its stores need no test of their own.
-fn put_entry(entry: RsrpSnr, i: u32, out: &mut [u8])
-    requires { ⌜ entryPlace 28 i + 20 ≤ length (now out) ⌝ }
-    ensures { λ _. ⌜ now (out .exit) ≡ sets (now (out .entry)) (entryPlace 28 i) (entryBytes entry) ⌝ }
-{
-    let at = entry_place(FIXED_PART_V2, i);
-    put_fields(entry, &mut out[at..at + ENTRY_SIZE]);
-}
-
-fn put_fields(entry: RsrpSnr, part: &mut [u8])
-    ensures { λ _. ⌜ now (part .exit) ≡ sets (now (part .entry)) 0 (entryBytes entry) ⌝ }
-{
-    put_u32(part, 0, entry.rsrp);
-    put_u32(part, 4, entry.snr);
-    put_u32(part, 8, entry.rsrp_threshold);
-    put_u32(part, 12, entry.snr_threshold);
-    put_u32(part, 16, entry.system_type);
 }
