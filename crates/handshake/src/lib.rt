@@ -50,7 +50,7 @@ pub fn role_of(carried: Carried) -> Role
     }
 }
 
-pub fn role_of_kind(kind: Kind) -> Role
+fn role_of_kind(kind: Kind) -> Role
     ensures { λ r. ⌜ r ≡ roleOfKind kind ⌝ }
 {
     match kind {
