@@ -11,7 +11,7 @@ use lib.Seq.{sets, take-all, drop-drop}
 use Rattle.wire.proofs.Laws.{sets-then}
 use Rattle.message.specs.declared.MessageHeader.{MessageHeader}
 use Rattle.cutter.specs.Cut.{fragmentBytes, laterFragments, joined}
-use Rattle.cutter.proofs.Stored.{length-fragment}
+use Rattle.cutter.proofs.Stored.{stored-length, length-fragment}
 
 either : (a b : ℕ) → (a ≤ b) ⊎ (b ≤ a)
 either a b = elim (decLe a b) [ yes h ↦ inl h | no h ↦ inr (omega arith) ]
@@ -54,6 +54,28 @@ module _ (m : MessageHeader) (each total : ℕ) (information : List ℕ) (from :
   pub begin : 0 < total → from ≤ length information → at ≤ 4096 → Going s 1 from at
   begin some h l = record { w = []; is = refl; ends = omega arith; rest = refl; some = omega arith; most = some; within = h; low = omega arith }
 
+  -- what the next fragment takes
+  takes : (number position n : ℕ) → n ≡ min (length information - position) each
+      → length (fragmentBytes m total number (take each (drop position information))) ≡ 20 + n
+  takes number position n en =
+      let xs = drop position information in
+      let lb : length (take each xs) ≡ n = simp (length-take, length-drop) (omega arith) in
+      length-fragment m total number (take each xs) ∙ ap (λ (k : ℕ). 20 + k) lb
+
+  -- where all fragments have room, the next one has
+  pub room : {out : List ℕ} {number position end : ℕ} (n : ℕ) → Going out number position end → number < total
+      → n ≡ min (length information - position) each
+      → at + length (joined (laterFragments m each total 1 (total - 1) (drop from information))) ≤ length s → end + (20 + n) ≤ length out
+  room {out} {number} {position} n g less en h =
+      let xs = drop position information in
+      let p = fragmentBytes m total number (take each xs) in
+      let after = joined (laterFragments m each total (number + 1) (total - (number + 1)) (drop each xs)) in
+      let here = joined (laterFragments m each total number (total - number) xs) in
+      let a : length here ≡ length p + length after = ap length (next m each total number xs less) ∙ length-append p after in
+      let b : length (g .w) + length here ≡ _ = sym (length-append (g .w) here) ∙ ap length (g .rest) in
+      let same : length out ≡ length s = stored-length s at (g .w) (g .is) in
+      omega (arith, takes number position n en, a, b, same, g .ends)
+
   pub turn : {out out′ : List ℕ} {number position end : ℕ} (n : ℕ) → each ≤ 4076 → Going out number position end → number < total
       → n ≡ min (length information - position) each
       → out′ ≡ sets out end (fragmentBytes m total number (take (position + n - position) (drop position information)))
@@ -61,8 +83,7 @@ module _ (m : MessageHeader) (each total : ℕ) (information : List ℕ) (from :
   turn {out} {out′} {number} {position} {end} n cap g less en eo =
       let xs = drop position information in
       let p = fragmentBytes m total number (take each xs) in
-      let lb : length (take each xs) ≡ n = simp (length-take, length-drop) (omega arith) in
-      let lp : length p ≡ 20 + n = length-fragment m total number (take each xs) ∙ ap (λ (k : ℕ). 20 + k) lb in
+      let lp : length p ≡ 20 + n = takes number position n en in
       let eo′ : out′ ≡ sets out (at + length (g .w)) p = eo ∙ (λ i. sets out (g .ends i) (fragmentBytes m total number (part information position n each en i))) in
       let left = laterFragments m each total (number + 1) (total - (number + 1)) in
       let ed : drop (position + n) information ≡ drop each xs =

@@ -7,7 +7,7 @@ use Prim.Native.Nat.{ℕ, _+_}
 use native.Mathlib.Omega.{arith}
 use lib.Dec.{eqb}
 use lib.ListN.{length, length-append}
-use lib.Seq.{sets}
+use lib.Seq.{sets, length-sets}
 use Rattle.wire.specs.Numbers.{digits}
 use Rattle.wire.proofs.Laws.{sets-then}
 use Rattle.protocol.specs.MessageType.{INDICATE-STATUS}
@@ -16,7 +16,11 @@ use Rattle.message.specs.Message.{lengthPlace, firstLength}
 use Rattle.message.specs.declared.MessageHeader.{MessageHeader}
 use Rattle.cutter.specs.Cut.{headerBytes, fragmentBytes, wordBytes, openingBytes, firstBytes}
 
-length-header : (m : MessageHeader) (n total number : ℕ) → length (headerBytes m n total number) ≡ 20
+-- what is stored leaves the length
+pub stored-length : (s : List ℕ) (at : ℕ) (xs : List ℕ) {t : List ℕ} → t ≡ sets s at xs → length t ≡ length s
+stored-length s at xs e = ap length e ∙ length-sets s at xs
+
+pub length-header : (m : MessageHeader) (n total number : ℕ) → length (headerBytes m n total number) ≡ 20
 unfolding headerBytes
 length-header m n total number = refl
 

@@ -116,6 +116,24 @@ all-stored m size information s total amount end {s₁} room et ec ee p q =
     let q′ : _ ≡ sets s₁ (0 + end) b = q ∙ (λ i. sets s₁ end (joined (laterFragments m (size - 20) (et i) 1 (less i) (cut-drop information amount first ec i)))) ∙ ap (λ (j : ℕ). sets s₁ j b) (omega arith) in
     sets-then a b 0 end s la p′ q′ ∙ sets-over (a ++ b) s room
 
+-- the first fragment and the others have the length of all
+pub rest-length : (m : MessageHeader) (size : ℕ) (information : List ℕ) (total amount end : ℕ)
+    → total ≡ 1 + laterCount (size - firstLength (m .«message_type»)) (size - 20) (length information)
+    → amount ≡ min (length information) (size - firstLength (m .«message_type»))
+    → end ≡ firstLength (m .«message_type») + amount
+    → end + length (joined (laterFragments m (size - 20) total 1 (total - 1) (drop amount information))) ≡ length (joined (fragmentsOf m size information))
+unfolding fragmentsOf fragmentsBy joined
+rest-length m size information total amount end et ec ee =
+    let first = size - firstLength (m .«message_type») in
+    let k = laterCount first (size - 20) (length information) in
+    let a = firstBytes m (1 + k) (length information) (take first information) in
+    let b = joined (laterFragments m (size - 20) (1 + k) 1 k (drop first information)) in
+    let less : total - 1 ≡ k = omega arith in
+    let lt : length (take first information) ≡ amount = simp length-take (omega arith) in
+    let la : length a ≡ end = length-first m (1 + k) (length information) (take first information) ∙ omega arith in
+    let lb : length (joined (laterFragments m (size - 20) total 1 (total - 1) (drop amount information))) ≡ length b = λ i. length (joined (laterFragments m (size - 20) (et i) 1 (less i) (cut-drop information amount first ec i))) in
+    omega (arith, la, lb, length-append a b)
+
 -- ---- the two answers about room
 
 module _ (m : MessageHeader) (size : ℕ) (information s : List ℕ) where

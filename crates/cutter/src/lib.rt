@@ -23,6 +23,7 @@ ghost use Prim.Native.Nat.{_+_, _-_, _≤_, _<_, _^_, min};
 ghost use lib.ListN.{length, take, drop};
 ghost use lib.Seq.{sets};
 ghost use Rattle.protocol.specs.Verdict.{judge};
+ghost use Rattle.message.specs.Message.{firstLength};
 ghost use Rattle.cutter.specs.Cut.{wrongSize, wrongTransaction, messageRules, headerBytes, openingBytes, fragmentBytes, firstBytes, laterFragments, laterCount, joined, fittingOf, cutOf};
 ghost use Rattle.cutter.specs.Transaction.{nextTransaction};
 
@@ -126,22 +127,32 @@ fn later_count(first: usize, each: usize, n: usize) -> usize
     (n - amount + (each - 1)) / each
 }
 
-fn put_header(
-    message: MessageHeader,
-    length: usize,
-    total: u32,
-    number: u32,
-    out: &mut [u8],
-    at: usize,
-)
-    requires { ⌜ (at + 20 < 2 ^ 32) × (length < 2 ^ 32) ⌝ }
-    ensures { λ _. ⌜ now (out .exit) ≡ sets (now (out .entry)) at (headerBytes message length total number) ⌝ }
+fn put_header(message: MessageHeader, n: usize, total: u32, number: u32, out: &mut [u8], at: usize)
+    requires { ⌜ (at + 20 ≤ length (now out)) × (n < 2 ^ 32) ⌝ }
+    ensures { λ _. ⌜ now (out .exit) ≡ sets (now (out .entry)) at (headerBytes message n total number) ⌝ }
 {
-    put_u32(out, at, message.message_type);
-    put_u32(out, at + 4, length as u32);
-    put_u32(out, at + 8, message.transaction);
-    put_u32(out, at + 12, total);
-    put_u32(out, at + 16, number);
+    put_words(message, n, total, number, &mut out[at..at + 20]);
+}
+
+// The header of a fragment of n bytes. In a part of a length that the compiler knows, no store is tested.
+fn put_words(message: MessageHeader, n: usize, total: u32, number: u32, out: &mut [u8])
+    requires { ⌜ n < 2 ^ 32 ⌝ }
+    ensures { λ _. ⌜ now (out .exit) ≡ sets (now (out .entry)) 0 (headerBytes message n total number) ⌝ }
+{
+    put_u32(out, 0, message.message_type);
+    put_u32(out, 4, n as u32);
+    put_u32(out, 8, message.transaction);
+    put_u32(out, 12, total);
+    put_u32(out, 16, number);
+}
+
+// The bytes of a fragment behind its header, in a part of their own length.
+fn put_body(body: &[u8], out: &mut [u8], at: usize)
+    requires { ⌜ at + length (now body) ≤ length (now out) ⌝ }
+    ensures { λ _. ⌜ now (out .exit) ≡ sets (now (out .entry)) at (now (body .entry)) ⌝ }
+{
+    let n = body.len();
+    put_bytes(&mut out[at..at + n], 0, body);
 }
 
 // A later fragment, which carries `body`.
@@ -153,11 +164,11 @@ fn put_fragment(
     out: &mut [u8],
     at: usize,
 )
-    requires { ⌜ (at + 20 < 2 ^ 32) × (length (now body) ≤ 4096) ⌝ }
+    requires { ⌜ (at + (20 + length (now body)) ≤ length (now out)) × (length (now body) ≤ 4096) ⌝ }
     ensures { λ _. ⌜ now (out .exit) ≡ sets (now (out .entry)) at (fragmentBytes message total number (now (body .entry))) ⌝ }
 {
     put_header(message, 20 + body.len(), total, number, out, at);
-    put_bytes(out, at + 20, body);
+    put_body(body, out, at + 20);
 }
 
 // What a first fragment has between the header of every fragment and the information.
@@ -177,13 +188,13 @@ fn put_opening(message: MessageHeader, n: u32, out: &mut [u8])
 
 // The first fragment, which carries the first `amount` bytes of the information.
 fn put_first(message: MessageHeader, total: u32, information: &[u8], amount: usize, out: &mut [u8])
-    requires { ⌜ (amount ≤ length (now information)) × (length (now information) ≤ 4096) ⌝ }
+    requires { ⌜ (amount ≤ length (now information)) × (length (now information) ≤ 4096) × (firstLength (message .«message_type») + amount ≤ length (now out)) ⌝ }
     ensures { λ _. ⌜ now (out .exit) ≡ sets (now (out .entry)) 0 (firstBytes message total (length (now (information .entry))) (take amount (now (information .entry)))) ⌝ }
 {
     let head = length_place(message.message_type) + 4;
     put_header(message, head + amount, total, 0, out, 0);
     put_opening(message, information.len() as u32, out);
-    put_bytes(out, head, &information[..amount]);
+    put_body(&information[..amount], out, head);
 }
 
 // The fragments after the first.
@@ -197,6 +208,7 @@ fn put_later(
     at: usize,
 )
     requires { ⌜ (from ≤ length (now information)) × (each ≤ 4076) × (0 < total) × (total ≤ 128) × (at ≤ 4096) ⌝ }
+    requires { ⌜ at + length (joined (laterFragments message each total 1 (total - 1) (drop from (now information)))) ≤ length (now out) ⌝ }
     ensures { λ _. ⌜ now (out .exit) ≡ sets (now (out .entry)) at (joined (laterFragments message each total 1 (total - 1) (drop from (now (information .entry))))) ⌝ }
 {
     let mut number: u32 = 1;

@@ -1,13 +1,13 @@
 -- A later fragment with which the message goes on: the memory is taken, and the step is one that waits.
 -- Assumes nothing.
 use mathlib.Core.Path.{_≡_, refl, sym, ap, _∙_}
-use mathlib.Core.Logic.{inl, inr}
+use mathlib.Core.Logic.{inl, inr, ⊎-elim}
 use mathlib.Core.Bool.{Bool, true, false, not, _&&_}
 use mathlib.Core.List.{List, _++_}
 use Prim.Native.Nat.{ℕ, _+_, _-_, _≤_, _<_}
 use native.Mathlib.Omega.{arith}
-use borrow.Author.Tests.{eq-eqb, ne-eqb, le-ltb, lt-leb, le-leb}
-use lib.Dec.{eqb}
+use borrow.Author.Tests.{eqb-true, eq-eqb, ne-eqb, le-ltb, lt-leb, le-leb}
+use lib.Dec.{ltb, eqb}
 use lib.ListN.{length, take, drop, length-drop}
 use lib.Seq.{sets, length-sets}
 use Rattle.wire.specs.Numbers.{u32At}
@@ -15,10 +15,10 @@ use Rattle.wire.specs.Output.{over}
 use Rattle.wire.proofs.Laws.{take-rest}
 use Rattle.protocol.specs.Verdict.{judge}
 use Rattle.protocol.specs.declared.Verdict.the-variants.{Fits}
-use Rattle.protocol.proofs.Tests.{cases-and}
+use Rattle.protocol.proofs.Tests.{or-cases, cases-and}
 use Rattle.protocol.proofs.Verdicts.{kept-fits}
-use Rattle.protocol.specs.MessageType.{isFragmented}
-use Rattle.message.specs.Message.{headerAt, wrongAmount, fragmentOf}
+use Rattle.protocol.specs.MessageType.{isWhole, isFragmented}
+use Rattle.message.specs.Message.{isWholePiece, headerAt, wrongAmount, fragmentOf}
 use Rattle.message.specs.declared.Fragment.the-variants as fragment
 use Rattle.message.proofs.Headers.{accepted-later, right-less}
 use Rattle.assembler.specs.Assembly.{Step, assemblyOf, waiting, grownProgress, grown, gatherOf, continues, joinRules, joinOf, judgedBy, judgedOf, begunBytes, stepBy, stepOf}
@@ -26,6 +26,10 @@ use Rattle.assembler.specs.declared.Progress.{Progress}
 use Rattle.lent_progress.specs.LentProgress.{aboveCarried, pendingRules, progressVerdict}
 use Rattle.lent.specs.LentAssembly.{assemblySize, bufferIn, messageBytes, countBytes, progressBytes, changedIn, held, NextPiece, Amid, GoesOn}
 use Rattle.lent.proofs.Memory.{length-progress, length-buffer, put-back, changed-all}
+
+-- what is false is not true
+pub never : {A : Type 0} → _≡_ {A = Bool} false true → A
+never e = let z : _≡_ {A = ℕ} 0 1 = cc in absurd (omega arith)
 
 -- the memory is taken
 pub amid-fits : (p : Progress) (s : List ℕ) → GoesOn p s → progressVerdict p ≡ Fits
@@ -63,6 +67,16 @@ joins p s G =
       (right-less (eqb (u32At s 16 + 1) (u32At s 12)) (p .gathered + (length s - 20)) (p .«information_length») (ne-eqb _ _ more) (G .within), tt),
     )
 
+-- it is no whole message's
+type-fragmented : (t : ℕ) → isFragmented t ≡ true → isWhole t ≡ false
+unfolding isFragmented isWhole
+type-fragmented t e = ⊎-elim (λ h. rw (eqb-true t 3 h)) (λ h. ⊎-elim (λ k. rw (eqb-true t 0x80000003 k)) (λ k. ⊎-elim (λ l. rw (eqb-true t 0x80000007 l)) (λ l. never l) (or-cases _ _ k)) (or-cases _ _ h)) (or-cases _ _ e)
+
+pub not-whole : (p : Progress) (s : List ℕ) → GoesOn p s → isWholePiece s ≡ false
+unfolding isWholePiece
+not-whole p s G =
+    cases-and (not (ltb (length s) 4)) (isWhole (u32At s 0)) (inr (type-fragmented (u32At s 0) (ap isFragmented (G .piece .type) ∙ G .message .known)))
+
 pub goes-on : (p : Progress) (bytes s : List ℕ) (room : ℕ) → GoesOn p s → stepOf (assemblyOf p bytes) s room ≡ waiting (grown (assemblyOf p bytes) (drop 20 s)) false
 unfolding stepOf stepBy judgedOf judgedBy joinOf begunBytes gatherOf
 goes-on p bytes s room G =
@@ -89,7 +103,3 @@ gone-on m p s {b} {x} room kept G eb ex =
     put-back m b (progressBytes q) room whole (length-progress q)
     (ex ∙ counts-only q (take 48 m ++ rest) (omega (arith, G .message .later)) ∙ changed-all m rest p q room kept (inr refl))
     ∙ (λ i. over (progressBytes (grownProgress p (n i)) ++ e i) m)
-
--- what is false is not true
-pub never : {A : Type 0} → _≡_ {A = Bool} false true → A
-never e = let z : _≡_ {A = ℕ} 0 1 = cc in absurd (omega arith)

@@ -78,6 +78,15 @@ pub fn receive(memory: &mut [u8], piece: &[u8], out: &mut [u8]) -> Received
             place: ASSEMBLY_SIZE,
         });
     }
+    if goes_on_in(memory, piece) {
+        let progress = progress_at(memory);
+        go_on(progress, memory, piece);
+        return Received::Pending {
+            message_type: u32_at(piece, 0),
+            transaction: u32_at(piece, 8),
+            dropped: false,
+        };
+    }
     if is_whole_piece(piece) {
         return show_whole(piece);
     }
@@ -92,10 +101,6 @@ fn feed(memory: &mut [u8], piece: &[u8], out: &mut [u8]) -> Answer
     ensures { λ _. ⌜ now (out .exit) ≡ over (feedIn (now (memory .entry)) (now (piece .entry)) (length (now (out .entry))) .information) (now (out .entry)) ⌝ }
 {
     let progress = progress_at(memory);
-    if goes_on(progress, piece) {
-        go_on(progress, memory, piece);
-        return Answer::Pending { dropped: false };
-    }
     match judge_progress(progress) {
         Verdict::Fits => feed_whole(progress, memory, piece, out),
         Verdict::Fault(refusal) => {
@@ -106,7 +111,15 @@ fn feed(memory: &mut [u8], piece: &[u8], out: &mut [u8]) -> Answer
 }
 
 // Whether the piece is a later fragment with which the message goes on: most pieces are, and for them
-// this tells at once what the judges of memory and piece would.
+// this tells at once what the judges of memory and piece would. Numbers that it doesn't test are not read.
+fn goes_on_in(memory: &[u8], piece: &[u8]) -> bool
+    requires { ⌜ 4144 ≤ length (now memory) ⌝ }
+    ensures { λ r. ⌜ (r ≡ true → GoesOn (progressIn (now (memory .entry))) (now (piece .entry))) ⌝ }
+{
+    let progress = progress_at(memory);
+    goes_on(progress, piece)
+}
+
 fn goes_on(progress: Progress, piece: &[u8]) -> bool
     ensures { λ r. ⌜ (r ≡ true → GoesOn progress (now (piece .entry))) ⌝ }
 {
@@ -221,10 +234,10 @@ fn progress_at(memory: &[u8]) -> Progress
     let message = message_at(memory);
     Progress {
         message,
-        total: u32_at(memory, TOTAL),
-        next: u32_at(memory, NEXT),
-        information_length: u32_at(memory, INFORMATION_LENGTH),
-        gathered: u32_at(memory, GATHERED),
+        total: word_at(memory, TOTAL),
+        next: word_at(memory, NEXT),
+        information_length: word_at(memory, INFORMATION_LENGTH),
+        gathered: word_at(memory, GATHERED),
     }
 }
 

@@ -87,10 +87,21 @@ pub fn write(info: PacketService, out: &mut [u8]) -> Written
     ensures { λ r. ⌜ r ≡ writeOf info (now (out .entry)) .answer ⌝ }
     ensures { λ _. ⌜ now (out .exit) ≡ writeOf info (now (out .entry)) .output ⌝ }
 {
-    let n = length_of(version_of(info));
+    match version_of(info) {
+        Version::V1 => write_in(info, LENGTH_V1, out),
+        Version::V2 => write_in(info, LENGTH_V2, out),
+    }
+}
+
+// Writes n bytes, the length of the record's form: where it is a constant, no store is tested.
+fn write_in(info: PacketService, n: usize, out: &mut [u8]) -> Written
+    requires { ⌜ n ≡ lengthOf (versionOf info) ⌝ }
+    ensures { λ r. ⌜ r ≡ writeOf info (now (out .entry)) .answer ⌝ }
+    ensures { λ _. ⌜ now (out .exit) ≡ writeOf info (now (out .entry)) .output ⌝ }
+{
     match also(judge(info), out.len() < n, OUTPUT_TOO_SMALL, n) {
         Verdict::Fits => {
-            put(info, out);
+            put(info, &mut out[..n]);
             Written::Length(n)
         }
         Verdict::Fault(refusal) => Written::Refused(refusal),
@@ -109,15 +120,6 @@ pub fn version_of(info: PacketService) -> Version
             current_data_class: _,
             frequency_range: _,
         } => Version::V2,
-    }
-}
-
-fn length_of(version: Version) -> usize
-    ensures { λ r. ⌜ r ≡ lengthOf version ⌝ }
-{
-    match version {
-        Version::V1 => LENGTH_V1,
-        Version::V2 => LENGTH_V2,
     }
 }
 

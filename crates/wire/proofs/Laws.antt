@@ -217,6 +217,13 @@ fitted-take (suc n) t h = rw (fitted-take n t (omega arith), take-suc t n 0 h)
 pub fitted-all : (t : List ℕ) → fitted (length t) t ≡ t
 fitted-all t = fitted-take (length t) t (omega arith) ∙ take-length t
 
+-- a run through a block in between
+pub fitted-through : (n : ℕ) (block t : List ℕ) → n ≤ length block → fitted n (sets block 0 (fitted n t)) ≡ fitted n t
+fitted-through n block t h =
+    let xs = fitted n t in
+    let e : length xs ≡ n = length-fitted n t in
+    fitted-take n (sets block 0 xs) (omega (arith, length-sets block 0 xs)) ∙ ap (take n) (sets-over xs block (omega arith)) ∙ take-over xs block n e
+
 -- a text and zeros after it
 pub fitted-pad : (k : ℕ) (t : List ℕ) → fitted (length t + k) t ≡ t ++ replicate k 0
 unfolding fitted

@@ -3,11 +3,12 @@ use borrow.Author.Needs.{needs}
 use mathlib.Core.Path.{_≡_, sym, ap, _∙_}
 use Prim.Native.Nat.{ℕ, _+_, _-_, _*_, _≤_, min}
 use native.Mathlib.Omega.{arith}
-use lib.ListN.{length}
+use lib.ListN.{length, take}
 use Rattle.message.specs.Message.{firstLength}
 use Rattle.message.proofs.Headers.{place-most}
-use Rattle.cutter.specs.Cut.{Cut, laterCount, fragmentsOf, joined}
-use Rattle.cutter.proofs.Whole.{count-few, many, whole-length, all-stored, too-small, has-room}
+use Rattle.cutter.specs.Cut.{Cut, firstBytes, laterCount, fragmentsOf, joined}
+use Rattle.cutter.proofs.Stored.{stored-length}
+use Rattle.cutter.proofs.Whole.{count-few, many, whole-length, rest-length, all-stored, too-small, has-room}
 use Rattle.cutter.proofs.cut_fitting.Statement.{statement}
 use Rattle.cutter.proofs.cut_fitting.Tie as tie
 
@@ -47,12 +48,20 @@ sub-least : tie.Need-sub-least
 sub-least c = omega (arith, c .before .before .length-place .ensures, place-most (c .before .before .before .before .before .args .message .«message_type»))
 
 put-first-requires : tie.Need-put-first-requires
-put-first-requires c κs = omega (arith, c .before .least .ensures)
+put-first-requires c κs = omega (arith, c .before .least .ensures, c .before .before .before .before .length-place .ensures, c .before .before .if1 .left)
 
 put-later-requires : tie.Need-put-later-requires
 put-later-requires c κs =
     let few = count-few (c .before .before .before .before .before .before .before .before .before .before .before .args .size - (c .before .before .before .before .before .before .before .before .length-place .result + 4)) (c .before .before .before .before .before .before .before .before .before .before .before .args .size - 20) (length (c .before .before .before .before .before .before .before .before .before .before .before .args .information .now)) (omega arith) (c .before .before .before .before .before .before .before .before .before .before .before .pre .2) in
-    (omega (arith, c .before .before .before .before .before .least .ensures), omega (arith, c .before .before .before .before .before .before .before .before .before .before .before .pre .1), omega arith, omega (arith, c .before .before .before .before .before .before .before .later-count .ensures, few), omega (arith, c .before .before .before .before .before .least .ensures, c .before .before .before .before .before .before .before .before .before .before .before .pre .1, c .before .before .before .before .before .before .before .before .before .before .before .pre .0, c .before .before .before .before .before .before .before .before .length-place .ensures, place-most (c .before .before .before .before .before .before .before .before .before .before .before .args .message .«message_type»)))
+    let a = c .before .before .before .before .before .before .before .before .before .before .before .args in
+    let p = c .before .before .before .before .before .before .before .before .length-place .ensures in
+    let l : c .before .before .before .before .before .before .before .later-count .result ≡ laterCount (a .size - firstLength (a .message .«message_type»)) (a .size - 20) (length (a .information .now)) =
+    c .before .before .before .before .before .before .before .later-count .ensures ∙ ap (λ (k : ℕ). laterCount (a .size - (k + 4)) (a .size - 20) (length (a .information .now))) p in
+    let all = whole-length (a .message) (a .size) (a .information .now) (c .before .before .before .before .before .before .before .before .before .before .before .pre .0) (c .before .before .before .before .before .before .before .before .before .before .before .pre .2) in
+    let rest = rest-length (a .message) (a .size) (a .information .now) _ (c .before .before .before .before .before .least .result) _ (ap (λ (k : ℕ). 1 + k) l) (c .before .before .before .before .before .least .ensures ∙ ap (λ (k : ℕ). min (length (a .information .now)) (a .size - (k + 4))) p)
+    (ap (λ (k : ℕ). k + 4 + c .before .before .before .before .before .least .result) p) in
+    let same = stored-length (a .out .now) 0 (firstBytes (a .message) (1 + c .before .before .before .before .before .before .before .later-count .result) (length (a .information .now)) (take (c .before .before .before .before .before .least .result) (a .information .now))) (c .before .before .before .put-first .ensures) in
+    ((omega (arith, c .before .before .before .before .before .least .ensures), omega (arith, c .before .before .before .before .before .before .before .before .before .before .before .pre .1), omega arith, omega (arith, c .before .before .before .before .before .before .before .later-count .ensures, few), omega (arith, c .before .before .before .before .before .least .ensures, c .before .before .before .before .before .before .before .before .before .before .before .pre .1, c .before .before .before .before .before .before .before .before .before .before .before .pre .0, c .before .before .before .before .before .before .before .before .length-place .ensures, place-most (c .before .before .before .before .before .before .before .before .before .before .before .args .message .«message_type»))), omega (arith, all, rest, same, l, p, c .before .before .before .before .before .before .if1 .left))
 
 returns-2 : tie.Need-returns-2
 returns-2 c =

@@ -1,11 +1,10 @@
 -- The loop's invariant: some fragments are written, and what is left of them is still to come.
 use borrow.Author.Needs.{needs}
-use mathlib.Core.Path.{ap, _∙_}
 use Prim.Native.Nat.{_-_}
 use native.Mathlib.Omega.{arith}
-use lib.ListN.{length, length-take, length-drop}
-use lib.Seq.{length-sets}
-use Rattle.cutter.proofs.Later.{Going, begin, turn, finish}
+use lib.ListN.{length-take, length-drop}
+use Rattle.cutter.proofs.Stored.{stored-length}
+use Rattle.cutter.proofs.Later.{Going, begin, room, turn, finish}
 use Rattle.cutter.proofs.put_later.Statement.{statement}
 use Rattle.cutter.proofs.put_later.Tie as tie
 
@@ -16,7 +15,7 @@ abbrev μ-loop : tie.MeasureT-loop
 μ-loop message each total information from out₀ at number₀ position₀ end₀ out number position end = total - number
 
 loop-holds : tie.Need-loop-holds Inv-loop μ-loop
-loop-holds c = begin _ _ _ _ _ _ _ (c .before .before .pre .2) (c .before .before .pre .0) (c .before .before .pre .4)
+loop-holds c = begin _ _ _ _ _ _ _ (c .before .before .pre .0 .2) (c .before .before .pre .0 .0) (c .before .before .pre .0 .4)
 
 sub-least : tie.Need-sub-least Inv-loop μ-loop
 sub-least c = omega arith
@@ -34,16 +33,20 @@ part-put-fragment-end : tie.Need-part-put-fragment-end Inv-loop μ-loop
 part-put-fragment-end c = omega (arith, c .least .ensures)
 
 put-fragment-requires : tie.Need-put-fragment-requires Inv-loop μ-loop
-put-fragment-requires c κs = (omega (arith, c .before .before .before .before .loop .inv .low), simp (length-take, length-drop) (omega (arith, c .before .before .least .ensures, c .before .before .before .before .before .before .before .pre .1)))
+put-fragment-requires c κs =
+    let a = c .before .before .before .before .before .before .before .args in
+    let n = c .before .before .least .result in
+    let room = room (a .message) (a .each) (a .total) (a .information .now) (a .from) (a .out .now) (a .at) n (c .before .before .before .before .loop .inv) (c .before .before .before .loop-test .taken) (c .before .before .least .ensures) (c .before .before .before .before .before .before .before .pre .1) in
+    (simp (length-take, length-drop) (omega (arith, room, c .before .before .least .ensures)), simp (length-take, length-drop) (omega (arith, c .before .before .least .ensures, c .before .before .before .before .before .before .before .pre .0 .1)))
 
 loop-less : tie.Need-loop-less Inv-loop μ-loop
 loop-less c = omega arith
 
 loop-again : tie.Need-loop-again Inv-loop μ-loop
-loop-again c = turn _ _ _ _ _ _ _ (c .before .before .before .before .before .least .result) (c .before .before .before .before .before .before .before .before .before .before .pre .1) (c .before .before .before .before .before .before .before .loop .inv) (c .before .before .before .before .before .before .loop-test .taken) (c .before .before .before .before .before .least .ensures) (c .before .before .put-fragment .ensures)
+loop-again c = turn _ _ _ _ _ _ _ (c .before .before .before .before .before .least .result) (c .before .before .before .before .before .before .before .before .before .before .pre .0 .1) (c .before .before .before .before .before .before .before .loop .inv) (c .before .before .before .before .before .before .loop-test .taken) (c .before .before .before .before .before .least .ensures) (c .before .before .put-fragment .ensures)
 
 same-length : tie.Need-same-length Inv-loop μ-loop
-same-length c = ap length (c .before .loop .inv .is) ∙ length-sets (c .before .before .before .before .args .out .now) (c .before .before .before .before .args .at) (c .before .loop .inv .w)
+same-length c = let a = c .before .before .before .before .args in stored-length (a .out .now) (a .at) (c .before .loop .inv .w) (c .before .loop .inv .is)
 
 returns : tie.Need-returns Inv-loop μ-loop
 returns c = finish _ _ _ _ _ _ _ (c .before .loop .inv) (c .loop-test .left)

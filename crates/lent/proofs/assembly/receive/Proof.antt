@@ -1,9 +1,13 @@
--- By the room, then by whether the piece is a whole message's.
+-- By the room, by whether the message goes on, then by whether the piece is a whole message's.
 use borrow.Author.Needs.{needs}
 use mathlib.Core.Path.{refl}
 use borrow.Author.Tests.{lt-ltb, le-ltb}
+use lib.ListN.{length}
 use Rattle.wire.specs.Output.{over}
-use Rattle.lent.specs.LentAssembly.{receiveIn}
+use Rattle.assembler.specs.Assembly.{waiting}
+use Rattle.assembler.specs.Door.{fedShown}
+use Rattle.lent.specs.LentAssembly.{GoesOn, bufferIn, keptOf, feedIn, receiveIn}
+use Rattle.lent.proofs.GoingOn.{not-whole, amid-fits, goes-on}
 use Rattle.lent.proofs.assembly.receive.Statement.{statement}
 use Rattle.lent.proofs.assembly.receive.Tie as tie
 
@@ -11,16 +15,34 @@ returns : tie.Need-returns
 unfolding receiveIn over
 returns c = rw (lt-ltb _ _ (c .if1 .taken)) (refl, (refl, refl))
 
-returns-2 : tie.Need-returns-2
-unfolding receiveIn over
-returns-2 c = rw (le-ltb _ _ (c .before .before .before .if1 .left), ← c .before .before .is-whole-piece .ensures, c .before .if2 .taken) (c .show-whole .ensures, (refl, refl))
+goes-on-in-requires : tie.Need-goes-on-in-requires
+goes-on-in-requires c κs = c .before .if1 .left
 
-feed-requires : tie.Need-feed-requires
-feed-requires c κs = c .before .before .before .before .if1 .left
+progress-at-requires : tie.Need-progress-at-requires
+progress-at-requires c κs = c .before .before .before .before .if1 .left
+
+go-on-requires : tie.Need-go-on-requires
+go-on-requires c κs = (c .before .before .before .before .before .before .if1 .left, c .before .progress-at .ensures .1, rw (c .before .progress-at .ensures .0) (c .before .before .before .before .goes-on-in .ensures (c .before .before .before .if2 .taken)))
+
+returns-2 : tie.Need-returns-2
+unfolding receiveIn feedIn keptOf waiting over fedShown
+returns-2 c =
+    let p = c .before .before .before .before .before .before .progress-at .result in
+    let m = c .before .before .before .before .before .before .before .before .before .before .before .before .before .before .before .args .memory .now in
+    let s = c .before .before .before .before .before .before .before .before .before .before .before .before .before .before .before .args .piece .now in
+    let G : GoesOn p s = rw (c .before .before .before .before .before .before .progress-at .ensures .0) (c .before .before .before .before .before .before .before .before .before .goes-on-in .ensures (c .before .before .before .before .before .before .before .before .if2 .taken)) in
+    rw (le-ltb _ _ (c .before .before .before .before .before .before .before .before .before .before .before .if1 .left), not-whole p s G, ← c .before .before .before .before .before .before .progress-at .ensures .0, amid-fits p s G, goes-on p (bufferIn m) s (length (c .before .before .before .before .before .before .before .before .before .before .before .before .before .before .before .args .out .now)) G, c .before .u32-at .ensures, c .u32-at2 .ensures) (refl, (c .before .before .before .before .go-on .ensures, refl))
 
 returns-3 : tie.Need-returns-3
+unfolding receiveIn over
+returns-3 c = rw (le-ltb _ _ (c .before .before .before .before .before .before .if1 .left), ← c .before .before .is-whole-piece .ensures, c .before .if3 .taken) (c .show-whole .ensures, (refl, refl))
+
+feed-requires : tie.Need-feed-requires
+feed-requires c κs = c .before .before .before .before .before .before .before .if1 .left
+
+returns-4 : tie.Need-returns-4
 unfolding receiveIn
-returns-3 c = rw (le-ltb _ _ (c .before .before .before .before .before .before .before .before .before .before .if1 .left), ← c .before .before .before .before .before .before .before .before .before .is-whole-piece .ensures, c .before .before .before .before .before .before .before .before .if2 .left, ← c .before .before .before .before .before .feed .ensures .0) (c .show-fed .ensures, c .before .before .before .before .before .feed .ensures .1)
+returns-4 c = rw (le-ltb _ _ (c .before .before .before .before .before .before .before .before .before .before .before .before .before .if1 .left), ← c .before .before .before .before .before .before .before .before .before .is-whole-piece .ensures, c .before .before .before .before .before .before .before .before .if3 .left, ← c .before .before .before .before .before .feed .ensures .0) (c .show-fed .ensures, c .before .before .before .before .before .feed .ensures .1)
 
 pub receive-spec : {M : Type 1} → statement M
-receive-spec = tie.close (tie.spec returns (λ c. search needs) (λ c. search needs) returns-2 feed-requires (λ c. search needs) (λ c. search needs) (λ c. search needs) returns-3)
+receive-spec = tie.close (tie.spec returns goes-on-in-requires progress-at-requires go-on-requires (λ c. search needs) (λ c. search needs) (λ c. search needs) returns-2 (λ c. search needs) (λ c. search needs) (λ c. search needs) returns-3 feed-requires (λ c. search needs) (λ c. search needs) (λ c. search needs) returns-4)
