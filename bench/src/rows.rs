@@ -131,6 +131,17 @@ fn device_services(mode: Mode, inputs: &Inputs) {
         &mut || keep(c::device_services_write(*black_box(&list), &mut out)),
         &mut || keep(plain::services_write(black_box(8), &inputs::CIDS, &mut other)),
     );
+    let (mut fields, mut cids) = ([0; 7 * 8], [0; 8 * 8]);
+    c::device_services_all(payload, &mut fields, &mut cids);
+    let (fields, cids) = (&fields[..], &cids[..]);
+    row(
+        mode,
+        "services write from lists, 8 of 8 CIDs",
+        payload,
+        &mut || keep(c::device_services_write_all(0, black_box(fields), black_box(cids), &mut out)),
+        &mut || keep(plain::services_write_all(0, black_box(fields), black_box(cids), &mut other)),
+    );
+    assert!(out.starts_with(payload) && other.starts_with(payload));
 }
 
 fn elements(mode: Mode, inputs: &Inputs) {
