@@ -1,11 +1,11 @@
 -- The record that two lists say: its elements, sizes, places and bytes in the lists' numbers, and what lists that fit have.
 -- Assumes nothing.
 use mathlib.Core.Path.{_≡_, refl, sym, ap, _∙_}
-use mathlib.Core.Bool.{Bool, true, false, not}
-use mathlib.Core.List.{List, [], _++_, append-nil}
-use Prim.Native.Nat.{ℕ, zero, suc, _+_, _*_, _/_, _%_, _-_, _≤_, _<_}
+use mathlib.Core.Bool.{not}
+use mathlib.Core.List.{List, [], append-nil}
+use Prim.Native.Nat.{ℕ, zero, suc, _+_, _*_, _%_, _-_, _≤_, _<_}
 use native.Mathlib.Omega.{arith}
-use borrow.Author.Tests.{eqb-true, ltb-false, lt-ltb, le-ltb}
+use borrow.Author.Tests.{ltb-false, lt-ltb, le-ltb}
 use lib.Dec.{ltb, eqb}
 use lib.ListN.{length, getD, take, drop, length-drop}
 use lib.Seq.{sets, getD-take, getD-drop, length-take-le}
@@ -17,10 +17,10 @@ use Rattle.protocol.specs.Verdict.{faultIf, firstOf}
 use Rattle.protocol.specs.declared.Refusal.{Refusal}
 use Rattle.protocol.specs.declared.Verdict.{Verdict}
 use Rattle.protocol.specs.declared.Verdict.the-variants.{Fits, Fault}
-use Rattle.protocol.proofs.Tests.{not-kept}
+use Rattle.protocol.proofs.Tests.{equal-kept}
 use Rattle.protocol.proofs.Verdicts.{left-fits, right-fits, not-broken}
 use Rattle.folds.specs.Folds.{firstFault, listOf, joined, sumOf}
-use Rattle.folds.proofs.Laws.{fits-next, fault-at, fault-same, list-at}
+use Rattle.folds.proofs.Laws.{fits-next, fault-at, fault-same, join-same, list-at}
 use Rattle.pairs.specs.Pair.{range, rangeBytes}
 use Rattle.device_services.specs.DeviceServices.{pairPlace, fixedPart}
 use Rattle.services_writer.specs.declared.ServiceElement.{ServiceElement}
@@ -32,17 +32,11 @@ use Rattle.services_lists.specs.ServicesLists.{countOf, wordOf, cidsCoun
 
 -- ---- words one after another
 
--- pieces that agree
-join-same : (f g : ℕ → List ℕ) (n : ℕ) → ((i : ℕ) → i < n → f i ≡ g i) → joined f n ≡ joined g n
-unfolding joined
-join-same f g zero h = refl
-join-same f g (suc n) h = rw (join-same f g n (λ i k. h i (omega arith)), h n (omega arith))
-
 -- the words of a part are those of the whole
-pub words-in : (m n : ℕ) (s : List ℕ) → n ≤ m → cidBytes (take m s) n ≡ cidBytes s n
+words-in : (m n : ℕ) (s : List ℕ) → n ≤ m → cidBytes (take m s) n ≡ cidBytes s n
 words-in m n s h = join-same (cidPiece (take m s)) (cidPiece s) n (λ i l. ap (digits 4) (getD-take m s i 0 (omega arith)))
 
--- and so are those of a part as the code takes it
+-- a part as the code takes it: its length, and its words
 pub part-length : (s : List ℕ) (at n : ℕ) → at + n ≤ length s → length (take (at + n - at) (drop at s)) ≡ n
 part-length s at n h =
     let m : at + n - at ≡ n = omega arith in
@@ -53,9 +47,8 @@ part-words : (s : List ℕ) (at n : ℕ) → at + n ≤ length s
 part-words s at n h =
     ap (cidBytes (take (at + n - at) (drop at s))) (part-length s at n h) ∙ words-in (at + n - at) n (drop at s) (omega arith)
 
--- ---- what is totalled
+-- ---- a total and the verdict that it came from
 
--- the verdict that a total came from
 back : Totalled → Verdict
 back (Cids n) = Fits
 back (Refused r) = Fault r
@@ -76,7 +69,7 @@ total-fits v n t p q = sym (back-total v n) ∙ ap back (sym p ∙ q)
 pub total-is : (v : Verdict) (n t : ℕ) {x : Totalled} → x ≡ totalled v n → x ≡ Cids t → t ≡ n
 unfolding totalled cidsIn
 total-is Fits n t p q = sym (ap cidsIn (sym p ∙ q))
-total-is (Fault r) n t p q = absurd (let z : _≡_ {A = Totalled} (Refused r) (Cids t) = sym p ∙ q in let y : _≡_ {A = ℕ} 0 1 = cc in omega arith)
+total-is (Fault r) n t p q = let z : _≡_ {A = ℕ} 0 1 = cc in absurd (omega arith)
 
 pub total-done : (v : Verdict) (n : ℕ) {t : ℕ} → v ≡ Fits → t ≡ n → Cids t ≡ totalled v n
 unfolding totalled
@@ -94,6 +87,7 @@ unfolding fieldBytes idBytes joined
 fields-said fields cids i = join-same (cidPiece (drop (7 * i) fields)) (λ k. digits 4 (wordOf fields i k)) 7 (λ k l. ap (digits 4) (getD-drop (7 * i) fields k 0)) ∙ refl
 
 module _ (max : ℕ) (fields cids : List ℕ) where
+  -- element i, its size, the sizes before it and its start
   pub said : (i : ℕ) → i < countOf fields → elementOf (recordOf max fields cids) i ≡ elementSaid fields cids i
   unfolding listOf
   said i h =
@@ -190,6 +184,7 @@ cids-few fields (suc n) h e =
 
 -- ---- the judgement in the code's order
 
+-- the rules on the count, those on the sizes, the rest
 arranged : (a b s l c : Verdict) → firstOf a (firstOf (firstOf b (firstOf s l)) c) ≡ firstOf (firstOf (firstOf Fits a) b) (firstOf s (firstOf l c))
 unfolding firstOf
 arranged (Fault r) b s l c = refl
@@ -223,9 +218,10 @@ sound max fields cids e =
     let rest = right-fits _ _ e in
     let p = recordOf max fields cids in
     let f = fitting p (left-fits _ _ rest) in
-    let t : cidsBefore fields n ≡ length cids = eqb-true (cidsBefore fields n) (length cids) (not-kept _ (not-broken _ contradiction 0 (right-fits _ _ rest))) in
+    let t : cidsBefore fields n ≡ length cids = equal-kept (cidsBefore fields n) (length cids) (not-broken _ contradiction 0 (right-fits _ _ rest)) in
     record { few = f .few; total = t; short = omega (arith, f .short, start-said max fields cids n (omega arith), t) }
 
+-- the payload's length, known without a look at the elements
 pub length-said : (max : ℕ) (fields cids : List ℕ) → Sound fields cids
     → length (bytesOf (recordOf max fields cids)) ≡ fixedPart (countOf fields) + 28 * countOf fields + 4 * length cids
 length-said max fields cids h =

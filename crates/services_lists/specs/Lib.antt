@@ -1,1 +1,2 @@
 pub mod ServicesLists
+pub mod Claims
