@@ -131,9 +131,7 @@ fn device_services(mode: Mode, inputs: &Inputs) {
         &mut || keep(c::device_services_write(*black_box(&list), &mut out)),
         &mut || keep(plain::services_write(black_box(8), &inputs::CIDS, &mut other)),
     );
-    let (mut fields, mut cids) = ([0; 7 * 8], [0; 8 * 8]);
-    c::device_services_all(payload, &mut fields, &mut cids);
-    let (fields, cids) = (&fields[..], &cids[..]);
+    let (fields, cids) = (&inputs.service_fields[..], &inputs.service_cids[..]);
     row(
         mode,
         "services write from lists, 8 of 8 CIDs",
@@ -141,7 +139,6 @@ fn device_services(mode: Mode, inputs: &Inputs) {
         &mut || keep(c::device_services_write_all(0, black_box(fields), black_box(cids), &mut out)),
         &mut || keep(plain::services_write_all(0, black_box(fields), black_box(cids), &mut other)),
     );
-    assert!(out.starts_with(payload) && other.starts_with(payload));
 }
 
 fn elements(mode: Mode, inputs: &Inputs) {
