@@ -63,6 +63,12 @@ static void device_services_write(void) {
     seen = cvr_device_services_write(list, out, sizeof out).refusal.number;
 }
 
+static void device_services_write_all(void) {
+    static const uint32_t fields[CVR_ELEMENT_WORDS] = {1, 2, 3, 4, 0, 0, 1};
+    static const uint32_t cid = 15;
+    seen = cvr_device_services_write_all(0, fields, CVR_ELEMENT_WORDS, &cid, 1, out, sizeof out).refusal.number;
+}
+
 static void message_cut(void) {
     seen = cvr_message_cut(message, 64, payload, 4000, out, sizeof out).refusal.number;
 }
@@ -110,7 +116,7 @@ static void row(const char *name, void (*function)(void)) {
     if (deepest < bytes) {
         deepest = bytes;
     }
-    printf("%-28s %6zu%s\n", name, bytes, seen == 0 ? "" : "  (refused)");
+    printf("%-30s %5zu%s\n", name, bytes, seen == 0 ? "" : "  (refused)");
 }
 
 /* A list of one service with one CID, as payload and as record. */
@@ -165,6 +171,7 @@ int main(void) {
     row("cvr_device_services_cids", device_services_cids);
     row("cvr_device_services_listed", device_services_listed);
     row("cvr_device_services_write", device_services_write);
+    row("cvr_device_services_write_all", device_services_write_all);
     cvr_host_make(host, sizeof host, CVR_VERSION_2_00);
     cvr_host_open(host, sizeof host, CVR_VERSION_1_00);
     message.message_type = CVR_MESSAGE_COMMAND_DONE;

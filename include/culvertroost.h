@@ -35,7 +35,8 @@
  * between calls lies in memory that you lend: bytes of any alignment, without pointers inside, that
  * may be copied. Several assemblies, hosts and modems don't disturb each other; calls on different
  * memory may run in parallel. Of other libraries it wants memcpy and memset. A call takes less than
- * 5 KB of stack, but cvr_device_services_write some 36 KB, half of it the list that is passed.
+ * 5 KB of stack, but cvr_device_services_write some 36 KB, half of it the list that is passed;
+ * cvr_device_services_write_all writes the same from two lists.
  *
  * What a caller owes:
  *   - a pointer is valid for the length that comes after it (a number of bytes, or of uint32_t where
@@ -595,6 +596,16 @@ cvr_listed_answer cvr_device_services_listed(const uint8_t *payload, size_t leng
  * Refuses: WRONG_COUNT at 0; WRONG_SIZE at the offset field of an element with too many CIDs; TOO_LONG
  * at 0; OUTPUT_TOO_SMALL. */
 cvr_written cvr_device_services_write(cvr_service_list list, uint8_t *out, size_t room);
+
+/* Writes the same from two lists, as cvr_device_services_all gives them: CVR_ELEMENT_WORDS numbers for
+ * each element, those of a cvr_device_service, and all CIDs, element by element. It copies nothing and
+ * takes little stack: the one to call where time or stack matters.
+ * Refuses: WRONG_COUNT at 0 (too many elements, or a part of one); WRONG_SIZE at the offset field of an
+ * element with too many CIDs; TOO_LONG at 0; CONTRADICTION at 0 (not as many CIDs as the elements
+ * count); OUTPUT_TOO_SMALL. */
+cvr_written cvr_device_services_write_all(uint32_t max_dss_sessions, const uint32_t *fields,
+                                          size_t fields_count, const uint32_t *cids, size_t cids_count,
+                                          uint8_t *out, size_t room);
 
 /* ---- messages ---------------------------------------------------------------------------------- */
 

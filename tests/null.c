@@ -76,6 +76,8 @@ static void services(void)
     expect("services CIDs", cvr_device_services_cids(NULL, 0, basic_connect, NULL, 0).refusal,
            CVR_TOO_SHORT, 0);
     expect("services all", cvr_device_services_all(NULL, 0, NULL, 0, NULL, 0).refusal, CVR_TOO_SHORT, 0);
+    expect("services write all", cvr_device_services_write_all(0, NULL, 0, NULL, 0, NULL, 0).refusal,
+           CVR_OUTPUT_TOO_SMALL, 8);
     expect("services listed", cvr_device_services_listed(NULL, 0, basic_connect, 9).refusal,
            CVR_TOO_SHORT, 0);
     expect_equal("services element", cvr_device_services_element(list, length, 0, NULL, 0).listed, 1);

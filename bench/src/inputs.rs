@@ -19,6 +19,9 @@ pub struct Inputs {
     pub registration: Vec<u8>,
     pub signal: Vec<u8>,
     pub services: Vec<u8>,
+    /// The same as two lists.
+    pub service_fields: [u32; 7 * 8],
+    pub service_cids: [u32; 8 * 8],
     pub last_service: [u8; 16],
 }
 
@@ -90,14 +93,18 @@ pub fn cut(size: usize, information: &[u8]) -> Vec<Vec<u8>> {
 
 impl Inputs {
     pub fn new() -> Inputs {
-        let inputs = Inputs {
+        let mut inputs = Inputs {
             version: vec![0, 1, 0, 2],
             packet: words(&[0, 2, 0x40, 50_000_000, 0, 150_000_000, 0, 1]),
             registration: registration(3),
             signal: signal(16),
             services: services(8, &CIDS),
+            service_fields: [0; 7 * 8],
+            service_cids: [0; 8 * 8],
             last_service: [8; 16],
         };
+        let (fields, cids) = (&mut inputs.service_fields, &mut inputs.service_cids);
+        plain::services_all(&inputs.services, fields, cids).expect("a list within the rules");
         inputs.check();
         inputs
     }
@@ -110,6 +117,10 @@ impl Inputs {
         assert_eq!(c::signal_state_read(0x0200, &self.signal).refusal.number, 0);
         let id = c::service_id(&self.last_service);
         assert_eq!(c::device_services_listed(&self.services, id, 8).listed, 1);
+        let mut out = [0; 4096];
+        let (fields, cids) = (&self.service_fields, &self.service_cids);
+        assert_eq!(c::device_services_write_all(0, fields, cids, &mut out).refusal.number, 0);
+        assert!(out.starts_with(&self.services));
     }
 
     /// The information of a message: at most 128 fragments carry it.

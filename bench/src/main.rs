@@ -36,7 +36,7 @@ fn main() {
     let heads = matches!(mode, Mode::Times);
     if heads {
         println!(
-            "{:34} {:>5} {:>9} {:>9} {:>6} {:>9} {:>6}",
+            "{:38} {:>5} {:>9} {:>9} {:>6} {:>9} {:>6}",
             "call", "bytes", "library", "second", "ratio", "copy", "ratio"
         );
     }

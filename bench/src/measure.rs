@@ -95,7 +95,7 @@ impl Row<'_> {
         let [ours, theirs, copy] = times.map(|time| time.nanoseconds);
         let (ours, theirs) = (ours / self.units as f64, theirs / self.units as f64);
         println!(
-            "{:34} {:5} {ours:9.1} {theirs:9.1} {:6.2} {copy:9.1} {:6.1}",
+            "{:38} {:5} {ours:9.1} {theirs:9.1} {:6.2} {copy:9.1} {:6.1}",
             self.name,
             self.bytes,
             ours / theirs,

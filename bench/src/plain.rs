@@ -140,6 +140,16 @@ pub fn services_write(count: usize, cids: &[u32], out: &mut [u8]) -> Result<usiz
 }
 
 #[inline(never)]
+pub fn services_write_all(
+    max_dss_sessions: u32,
+    fields: &[u32],
+    cids: &[u32],
+    out: &mut [u8],
+) -> Result<usize, Refusal> {
+    device_services::write_all(max_dss_sessions, fields, cids, out)
+}
+
+#[inline(never)]
 pub fn receive(
     assembler: &mut Assembler,
     piece: &[u8],

@@ -131,6 +131,14 @@ fn device_services(mode: Mode, inputs: &Inputs) {
         &mut || keep(c::device_services_write(*black_box(&list), &mut out)),
         &mut || keep(plain::services_write(black_box(8), &inputs::CIDS, &mut other)),
     );
+    let (fields, cids) = (&inputs.service_fields[..], &inputs.service_cids[..]);
+    row(
+        mode,
+        "services write from lists, 8 of 8 CIDs",
+        payload,
+        &mut || keep(c::device_services_write_all(0, black_box(fields), black_box(cids), &mut out)),
+        &mut || keep(plain::services_write_all(0, black_box(fields), black_box(cids), &mut other)),
+    );
 }
 
 fn elements(mode: Mode, inputs: &Inputs) {

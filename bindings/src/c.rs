@@ -248,6 +248,15 @@ extern "C" {
         out: *mut u8,
         out_length: usize,
     ) -> WrittenAnswer;
+    fn cvr_device_services_write_all(
+        max_dss_sessions: u32,
+        fields: *const u32,
+        fields_length: usize,
+        cids: *const u32,
+        cids_length: usize,
+        out: *mut u8,
+        out_length: usize,
+    ) -> WrittenAnswer;
 
     fn cvr_message_judge(message: *const u8, message_length: usize) -> WholeAnswer;
     fn cvr_message_write(
@@ -447,6 +456,26 @@ pub fn device_services_listed(payload: &[u8], service: ServiceId, cid: u32) -> L
 #[inline]
 pub fn device_services_write(list: ServiceList, out: &mut [u8]) -> WrittenAnswer {
     unsafe { cvr_device_services_write(list, out.as_mut_ptr(), out.len()) }
+}
+
+#[inline]
+pub fn device_services_write_all(
+    max_dss_sessions: u32,
+    fields: &[u32],
+    cids: &[u32],
+    out: &mut [u8],
+) -> WrittenAnswer {
+    unsafe {
+        cvr_device_services_write_all(
+            max_dss_sessions,
+            fields.as_ptr(),
+            fields.len(),
+            cids.as_ptr(),
+            cids.len(),
+            out.as_mut_ptr(),
+            out.len(),
+        )
+    }
 }
 
 #[inline]

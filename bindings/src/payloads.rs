@@ -105,6 +105,16 @@ impl DeviceServices {
         answer.refusal.or((answer.elements, answer.cids))
     }
 
+    /// Writes the lists that `all` fills: seven numbers for each element, and all CIDs, element by element.
+    pub fn write_all(
+        max_dss_sessions: u32,
+        fields: &[u32],
+        cids: &[u32],
+        out: &mut [u8],
+    ) -> Result<usize, Refusal> {
+        written(c::device_services_write_all(max_dss_sessions, fields, cids, out))
+    }
+
     /// Whether any element of the service holds the CID.
     pub fn is_listed(payload: &[u8], service: ServiceId, cid: u32) -> Result<bool, Refusal> {
         let answer = c::device_services_listed(payload, service, cid);

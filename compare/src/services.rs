@@ -82,6 +82,7 @@ pub fn services(sides: &mut Sides, random: &mut Random) {
     let (arguments, services, length) = list(random);
     let room = random.room(length.min(5000) as usize);
     let payload = written(sides, q::SERVICES_WRITE, room, &arguments, &services);
+    write_lists(sides, random);
     let payload = if random.once_in(2) { scattered(random) } else { payload };
     for _ in 0..3 {
         let payload = damage::maybe(random, &payload);
@@ -147,4 +148,38 @@ fn all(sides: &mut Sides, random: &mut Random, payload: &[u8]) {
         Err(refusal) => [refusal.number as u64, refusal.place as u64, 0, 0],
     };
     sides.same("all elements", payload, &(numbers, fields, cids), &given);
+}
+
+/// A list written from the numbers of its elements and all CIDs: as many as they count, or nearly.
+fn write_lists(sides: &mut Sides, random: &mut Random) {
+    let counts = cid_counts(random);
+    let mut fields = Vec::new();
+    for cid_count in &counts {
+        fields.extend((0..6).map(|_| random.hostile()));
+        fields.push(*cid_count as u32);
+    }
+    if random.once_in(16) {
+        fields.resize(random.below(7 * 34), random.hostile());
+    }
+    let counted = counts.iter().map(|cid_count| *cid_count as usize).sum::<usize>().min(5000);
+    let given = if random.once_in(8) { counted + random.below(5) } else { counted + 2 };
+    let cids: Vec<u32> = (2..given).map(|_| cid(random)).collect();
+    let length = 8 + counts.iter().map(|cid_count| size(*cid_count)).sum::<u64>();
+    let room = random.room(length.min(5000) as usize) as usize;
+    same_written(sides, random.hostile(), &fields, &cids, room);
+}
+
+/// Both sides write the lists into this room.
+pub fn same_written(sides: &mut Sides, sessions: u32, fields: &[u32], cids: &[u32], room: usize) {
+    let mut out = vec![UNTOUCHED as u8; room];
+    let answer = c::device_services_write_all(sessions, fields, cids, &mut out);
+    let refusal = answer.refusal;
+    let given = ([refusal.number as u64, refusal.place as u64, answer.length as u64], out);
+    let mut out = vec![UNTOUCHED as u8; room];
+    let numbers = match device_services::write_all(sessions, fields, cids, &mut out) {
+        Ok(length) => [0, 0, length as u64],
+        Err(refusal) => [refusal.number as u64, refusal.place as u64, 0],
+    };
+    let input: Vec<u8> = fields.iter().chain(cids).flat_map(|word| word.to_le_bytes()).collect();
+    sides.same("services written from lists", &input, &(numbers, out), &given);
 }

@@ -4,6 +4,7 @@
 use crate::library::WHOLE;
 use crate::messages::fragments;
 use crate::payloads::put;
+use crate::services::same_written;
 use crate::sides::Sides;
 use second::flat::{question as q, ASSEMBLY_SIZE, MODEM_SIZE};
 use second::message::{COMMAND, COMMAND_DONE, INDICATE_STATUS};
@@ -54,6 +55,7 @@ pub fn all(sides: &mut Sides) {
     }
     version_info(sides);
     services(sides);
+    service_lists(sides);
     codes(sides);
     whole(sides);
     for message_type in [COMMAND, COMMAND_DONE, INDICATE_STATUS] {
@@ -153,6 +155,33 @@ fn services(sides: &mut Sides) {
         let input = [&service[..], &payload].concat();
         rooms(sides, q::SERVICE_CIDS, &[], &input, 2);
         changed_numbers(sides, q::LISTED, &[15], 0, &input);
+    }
+}
+
+/// Lists to be written: each number changed, each list cut short at every length, each room.
+fn service_lists(sides: &mut Sides) {
+    let fields = [1, 2, 3, 4, 5, 6, 2, 7, 8, 9, 10, 11, 12, 0, 13, 14, 15, 16, 17, 18, 1];
+    let cids = [14, 16, 15];
+    for place in 0..fields.len() {
+        for number in numbers() {
+            let mut fields = fields;
+            fields[place] = number;
+            same_written(sides, 7, &fields, &cids, ROOM as usize);
+        }
+    }
+    for number in numbers() {
+        same_written(sides, number, &fields, &[number; 3], ROOM as usize);
+    }
+    for length in 0..=fields.len() {
+        for given in 0..=cids.len() {
+            same_written(sides, 7, &fields[..length], &cids[..given], ROOM as usize);
+        }
+    }
+    for count in 0..34 {
+        same_written(sides, 7, &[9, 9, 9, 9, 9, 9, 0].repeat(count), &[], ROOM as usize);
+    }
+    for room in 0..=8 + 3 * 36 + 3 * 4 + 1 {
+        same_written(sides, 7, &fields, &cids, room);
     }
 }
 

@@ -4,8 +4,8 @@
 use crate::bytes::{put, put_word, service, word};
 use crate::pair::{judge_list, Bounds, Range};
 use crate::refusal::{
-    require, Refusal, COUNT_OVER_LIMIT, INFORMATION_TOO_LONG, OUTPUT_TOO_SMALL, SIZE_WRONG,
-    TOO_SHORT,
+    require, Refusal, COUNT_OVER_LIMIT, FIELDS_CONTRADICT, INFORMATION_TOO_LONG, OUTPUT_TOO_SMALL,
+    SIZE_WRONG, TOO_SHORT,
 };
 use crate::{ServiceId, MAX_INFORMATION};
 
@@ -184,6 +184,46 @@ pub fn write(
     Ok(length)
 }
 
+/// Writes what `all` shows and gives the length written. Numbers that are no whole elements are 15; then
+/// as `write` judges, but counts that are not those of the CIDs given are 10, before 11.
+#[inline]
+pub fn write_all(
+    max_dss_sessions: u32,
+    fields: &[u32],
+    list: &[u32],
+    out: &mut [u8],
+) -> Result<usize, Refusal> {
+    let rows = fields.chunks_exact(FIELDS);
+    require(rows.remainder().is_empty(), COUNT_OVER_LIMIT, DEVICE_SERVICES_COUNT)?;
+    require(rows.len() <= MAX_ELEMENTS, COUNT_OVER_LIMIT, DEVICE_SERVICES_COUNT)?;
+    let fixed = PAIRS + PAIR * rows.len();
+    let mut total = 0;
+    for (number, row) in rows.clone().enumerate() {
+        let fits = counted(row) <= MAX_CIDS;
+        require(fits, SIZE_WRONG, PAIRS + PAIR * number)?;
+        total += counted(row);
+    }
+    let length = fixed + CID_LIST * rows.len() + CID * total;
+    require(length <= MAX_INFORMATION, INFORMATION_TOO_LONG, 0)?;
+    require(total == list.len(), FIELDS_CONTRADICT, 0)?;
+    let room = out.get_mut(..length).ok_or(Refusal::new(OUTPUT_TOO_SMALL, length))?;
+    let (pairs, mut elements) = room.split_at_mut(fixed);
+    put_word(pairs, DEVICE_SERVICES_COUNT, rows.len() as u32);
+    put_word(pairs, MAX_DSS_SESSIONS, max_dss_sessions);
+    let (mut offset, mut cids) = (fixed, list);
+    for (number, row) in rows.enumerate() {
+        let (own, later) = cids.split_at_checked(counted(row)).unwrap_or_default();
+        let size = CID_LIST + CID * own.len();
+        put_word(pairs, PAIRS + PAIR * number, offset as u32);
+        put_word(pairs, PAIRS + PAIR * number + 4, size as u32);
+        let (element, rest) = elements.split_at_mut_checked(size).unwrap_or_default();
+        put_words(element, row);
+        put_words(element.get_mut(CID_LIST..).unwrap_or_default(), own);
+        (offset, cids, elements) = (offset + size, later, rest);
+    }
+    Ok(length)
+}
+
 /// The pair's rules, then its element: size, count, size against count.
 #[inline(always)]
 fn judge_element(payload: &[u8], field: usize, bounds: Bounds) -> Result<(), Refusal> {
@@ -238,16 +278,26 @@ fn judge_sizes(elements: &[Element], fixed: usize) -> Result<usize, Refusal> {
     Ok(length)
 }
 
+/// The CIDs that an element's numbers count.
+#[inline(always)]
+fn counted(row: &[u32]) -> usize {
+    row.last().map_or(0, |count| *count as usize)
+}
+
+#[inline(always)]
+fn put_words(out: &mut [u8], words: &[u32]) {
+    for (bytes, value) in out.chunks_exact_mut(4).zip(words) {
+        put_word(bytes, 0, *value);
+    }
+}
+
 #[inline(always)]
 fn put_element(element: &Element, out: &mut [u8]) {
     put(out, DEVICE_SERVICE_ID, &element.device_service_id);
     put_word(out, DSS_PAYLOAD, element.dss_payload);
     put_word(out, MAX_DSS_INSTANCES, element.max_dss_instances);
     put_word(out, CID_COUNT, element.cids.len() as u32);
-    let list = out.get_mut(CID_LIST..).unwrap_or_default();
-    for (bytes, cid) in list.chunks_exact_mut(CID).zip(element.cids) {
-        put_word(bytes, 0, *cid);
-    }
+    put_words(out.get_mut(CID_LIST..).unwrap_or_default(), element.cids);
 }
 
 #[cfg(test)]
@@ -349,5 +399,32 @@ mod tests {
         assert_eq!(write(0, &long[..7], &mut [0; 100]), Err(Refusal::new(11, fits)));
         assert_eq!(written(&long[..7]).len(), fits);
         assert_eq!(written(&[]), [0, 0, 0, 0, 7, 0, 0, 0]);
+    }
+
+    #[test]
+    fn lists_are_written_as_shown() {
+        let payload = written(&[of(A, &[1, 2]), of(B, &[]), of(A, &[3])]);
+        let (mut fields, mut cids) = ([0; 21], [0; 3]);
+        assert_eq!(all(&payload, &mut fields, &mut cids), Ok((3, 3)));
+        let mut out = [0xEE; 200];
+        assert_eq!(write_all(7, &fields, &cids, &mut out), Ok(payload.len()));
+        assert_eq!(out[..payload.len()], payload);
+        assert!(out[payload.len()..].iter().all(|byte| *byte == 0xEE));
+    }
+
+    #[test]
+    fn lists_are_judged_15_8_5_10_11() {
+        let write = |fields: &[u32], cids: &[u32]| write_all(0, fields, cids, &mut []);
+        let rows = |cid_count: u32, count: usize| [1, 2, 3, 4, 5, 6, cid_count].repeat(count);
+        assert_eq!(write(&rows(129, 33)[1..], &[]), Err(Refusal::new(15, 0)));
+        assert_eq!(write(&rows(129, 33), &[]), Err(Refusal::new(15, 0)));
+        assert_eq!(write(&rows(129, 32)[1..], &[]), Err(Refusal::new(15, 0)));
+        assert_eq!(write(&rows(129, 32), &[]), Err(Refusal::new(8, 8)));
+        assert_eq!(write(&[rows(1, 1), rows(u32::MAX, 1)].concat(), &[]), Err(Refusal::new(8, 16)));
+        assert_eq!(write(&rows(128, 8), &[]), Err(Refusal::new(5, 0)));
+        assert_eq!(write(&rows(2, 2), &[9; 3]), Err(Refusal::new(10, 0)));
+        assert_eq!(write(&rows(2, 2), &[9; 5]), Err(Refusal::new(10, 0)));
+        assert_eq!(write(&rows(2, 2), &[9; 4]), Err(Refusal::new(11, 8 + 2 * (8 + 36))));
+        assert_eq!(write(&[], &[]), Err(Refusal::new(11, 8)));
     }
 }

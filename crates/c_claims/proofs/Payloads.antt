@@ -1,8 +1,8 @@
 -- The number 0 of readers, writers, questions, readings and bars.
 -- Assumes nothing.
-use Prim.Native.Nat.{ℕ, _*_}
+use Prim.Native.Nat.{ℕ, _*_, _%_}
 use mathlib.Core.Path.{_≡_, refl}
-use mathlib.Core.Bool.{Bool, true, false, cond}
+use mathlib.Core.Bool.{Bool, true, false, cond, not}
 use mathlib.Core.List.{List, [], _∷_}
 use lib.Dec.{ltb, eqb}
 use lib.ListN.{length}
@@ -43,6 +43,7 @@ use Rattle.device_services.specs.declared.DeviceServices.{DeviceServices}
 use Rattle.device_services.specs.DeviceServices as services
 use Rattle.services_query.specs.ServicesQuery as query
 use Rattle.services_writer.specs.declared.ServiceList.{ServiceList}
+use Rattle.services_lists.specs.ServicesLists as lists
 use Rattle.services_writer.specs.ServicesWriter as writer
 use Rattle.c_structs.specs.declared.packets.PacketServiceInfo.{PacketServiceInfo}
 use Rattle.c_structs.specs.declared.registrations.RegistrationInfo.{RegistrationInfo}
@@ -285,13 +286,24 @@ all-told s fields cids = by-verdict (services.verdictOf s) (told-list s)
     by-verdict Fits x = told-all s fields cids
     by-verdict (Fault r) x = x
 
-pub services-write-told : (p : ServiceList) (s : List ℕ) → WrittenTells (writer.writeOf p s .answer)
-unfolding writer.writeOf writer.writtenVerdict
-services-write-told p s =
-    told-writing _ (writer.bytesOf p) s
-    (told-first _ _ (told-if (ltb 32 (p .«device_services_count»)) wrongCount 0 refl)
+told-record : (p : ServiceList) → VerdictTells (writer.writtenVerdict p)
+unfolding writer.writtenVerdict
+told-record p =
+    told-first _ _ (told-if (ltb 32 (p .«device_services_count»)) wrongCount 0 refl)
     (told-first _ _ (told-each (writer.sizeVerdict p) (p .«device_services_count») (λ i. told-if (ltb 540 (writer.sizeOf p i)) wrongSize (services.pairPlace i) refl))
-    (told-if (ltb 4096 (writer.lengthOf p)) tooLong 0 refl)))
+    (told-if (ltb 4096 (writer.lengthOf p)) tooLong 0 refl))
+
+pub services-write-told : (p : ServiceList) (s : List ℕ) → WrittenTells (writer.writeOf p s .answer)
+unfolding writer.writeOf
+services-write-told p s = told-writing _ (writer.bytesOf p) s (told-record p)
+
+pub lists-write-told : (max : ℕ) (fields cids s : List ℕ) → WrittenTells (lists.writeAllOf max fields cids s .answer)
+unfolding lists.writeAllOf lists.listsVerdict
+lists-write-told max fields cids s =
+    told-writing _ (writer.bytesOf (lists.recordOf max fields cids)) s
+    (told-first _ _ (told-if (not (eqb (length fields % 7) 0)) wrongCount 0 refl)
+    (told-first _ _ (told-record (lists.recordOf max fields cids))
+    (told-if (not (eqb (lists.cidsBefore fields (lists.countOf fields)) (length cids))) contradiction 0 refl)))
 
 -- ---- readings and bars
 

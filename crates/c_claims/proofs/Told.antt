@@ -21,6 +21,7 @@ every-number-tells = record {
   device-services-listed = payloads.listed-told;
   device-services-all = payloads.all-told;
   device-services-write = payloads.services-write-told;
+  device-services-write-all = payloads.lists-write-told;
   rsrp = payloads.rsrp-told;
   snr = payloads.snr-told;
   bars = payloads.bars-told;

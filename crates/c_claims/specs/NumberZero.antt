@@ -20,6 +20,7 @@ use Rattle.services_query.specs.ServicesQuery as query
 use Rattle.services_query.specs.declared.ElementAnswer.{ElementAnswer}
 use Rattle.services_query.specs.declared.ListedAnswer.{ListedAnswer}
 use Rattle.services_query.specs.declared.all.AllAnswer.{AllAnswer}
+use Rattle.services_lists.specs.ServicesLists as lists
 use Rattle.services_writer.specs.ServicesWriter as writer
 use Rattle.services_writer.specs.declared.ServiceList.{ServiceList}
 use Rattle.signal_quality.specs.Decibels.{rsrpOf, snrOf}
@@ -138,6 +139,7 @@ pub record EveryNumberTells : Type 0 where
   pub device-services-listed : (s : List ℕ) (service : ServiceId) (cid : ℕ) → ListedTells (query.listedOf s service cid)
   pub device-services-all : (s fields cids : List ℕ) → AllTells (query.allOf s fields cids .answer)
   pub device-services-write : (p : ServiceList) (out : List ℕ) → WrittenTells (writer.writeOf p out .answer)
+  pub device-services-write-all : (max : ℕ) (fields cids out : List ℕ) → WrittenTells (lists.writeAllOf max fields cids out .answer)
   pub rsrp : (code : ℕ) → ReadingTells (rsrpOf code)
   pub snr : (code : ℕ) → ReadingTells (snrOf code)
   pub bars : (rssi : ℕ) → BarsTells (barsOf rssi)

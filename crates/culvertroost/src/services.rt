@@ -12,6 +12,7 @@ use c_structs::written_answer;
 use device_services::read;
 use protocol::service::ServiceId;
 use protocol::service::id_at;
+use services_lists::write_all;
 use services_query::all::all_elements;
 use services_query::cids_of;
 use services_query::element;
@@ -22,6 +23,7 @@ ghost use mathlib.Core.Path.{_≡_};
 ghost use Rattle.protocol.specs.Service.{idAt};
 ghost use Rattle.device_services.specs.DeviceServices.{readOf};
 ghost use Rattle.services_query.specs.ServicesQuery.{elementOf, cidsOf, listedOf, allOf};
+ghost use Rattle.services_lists.specs.ServicesLists.{writeAllOf};
 ghost use Rattle.services_writer.specs.ServicesWriter.{writeOf};
 ghost use Rattle.c_structs.specs.Answers.{writtenAnswer};
 ghost use Rattle.c_structs.specs.Services.{answerOf, elementInfo, listedInfo, allInfo};
@@ -91,6 +93,20 @@ pub extern "C" fn cvr_device_services_write(list: ServiceList, out: &mut [u8]) -
     ensures { λ _. ⌜ now (out .exit) ≡ writeOf list (now (out .entry)) .output ⌝ }
 {
     written_answer(write(list, out))
+}
+
+// Each element as seven numbers, and all CIDs, element by element: the writer with no record.
+#[no_mangle]
+pub extern "C" fn cvr_device_services_write_all(
+    max_dss_sessions: u32,
+    fields: &[u32],
+    cids: &[u32],
+    out: &mut [u8],
+) -> WrittenAnswer
+    ensures { λ r. ⌜ r ≡ writtenAnswer (writeAllOf «max_dss_sessions» (now (fields .entry)) (now (cids .entry)) (now (out .entry)) .answer) ⌝ }
+    ensures { λ _. ⌜ now (out .exit) ≡ writeAllOf «max_dss_sessions» (now (fields .entry)) (now (cids .entry)) (now (out .entry)) .output ⌝ }
+{
+    written_answer(write_all(max_dss_sessions, fields, cids, out))
 }
 
 // The id whose printed bytes come first, zero where there are none.

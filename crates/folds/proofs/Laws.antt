@@ -196,6 +196,12 @@ pub join-next : (f : ℕ → List ℕ) (i at : ℕ) (s : List ℕ) {s₁ s₂ : 
 unfolding joined
 join-next f i at s p q r = r ∙ rw (p, q, add-one i, sets-append (joined f i) (f i) s at)
 
+-- pieces that agree on each number agree on all
+pub join-same : (f g : ℕ → List ℕ) (n : ℕ) → ((i : ℕ) → i < n → f i ≡ g i) → joined f n ≡ joined g n
+unfolding joined
+join-same f g zero h = refl
+join-same f g (suc n) h = rw (join-same f g n (λ i k. h i (omega arith)), h n (omega arith))
+
 -- a piece stands behind those before it
 pub record Split (f : ℕ → List ℕ) (n i : ℕ) : Type 0 where
   pub rest : List ℕ
@@ -228,6 +234,12 @@ joined-sum f g (suc n) h = length-append (joined f n) (f n) ∙ rw (joined-sum f
 pub sum-next : (f : ℕ → ℕ) (i : ℕ) → sumOf f (i + 1) ≡ sumOf f i + f i
 unfolding sumOf
 sum-next f i = rw (add-one i)
+
+-- parts that agree on each number have one sum
+pub sum-same : (f g : ℕ → ℕ) (n : ℕ) → ((i : ℕ) → i < n → f i ≡ g i) → sumOf f n ≡ sumOf g n
+unfolding sumOf
+sum-same f g zero h = refl
+sum-same f g (suc n) h = rw (sum-same f g n (λ i k. h i (omega arith)), h n (omega arith))
 
 pub sum-le : (f : ℕ → ℕ) (n i : ℕ) → i ≤ n → sumOf f i ≤ sumOf f n
 unfolding sumOf

@@ -27,7 +27,7 @@ element-sized e vs p = record {
     cids = omega (arith, p .1 .1 .0);
   };
   cids = λ k. elem-fits-field w32 w32 (e .cids) (p .1 .1 .1 .0 .0) k (p .1 .1 .1 .0 .1 .1) tt .fits;
-  full = length-unmapped ℕ (e .cids) 128 (p .1 .1 .1 .0 .1 .0 .1);
+  full = λ h. omega (arith, length-unmapped ℕ (e .cids) 128 (p .1 .1 .1 .0 .1 .0 .1));
 }
 
 -- each element of an array

@@ -53,7 +53,7 @@ module _ (p : ServiceList) (z : OfWidth p) (ok : writtenVerdict p ≡ Fits) wher
   unfolding bytesOf headBytes
   body = right (headBytes p) _ 8 refl (whole (bytesOf p))
 
-  count-back : u32At (bytesOf p) 0 ≡ p .«device_services_count»
+  pub count-back : u32At (bytesOf p) 0 ≡ p .«device_services_count»
   unfolding u32At headBytes
   count-back = inside head 0 ∙ num-digits 4 (p .«device_services_count») [] (omega (arith, fits .few))
 
@@ -73,13 +73,13 @@ module _ (p : ServiceList) (z : OfWidth p) (ok : writtenVerdict p ≡ Fits) wher
     pair : Stands (bytesOf p) (pairPlace i) (pairBytes p i)
     pair = part (pairBytes p) (p .«device_services_count») i (8 * i) l (length-pairs p i) (left _ _ body)
 
-    element : Stands (bytesOf p) (startOf p i) (piece p i)
+    pub element : Stands (bytesOf p) (startOf p i) (piece p i)
     unfolding startOf
     element =
         part (piece p) (p .«device_services_count») i (sumOf (sizeOf p) i) l (length-pieces p i)
         (right (joined (pairBytes p) (p .«device_services_count»)) (joined (piece p) (p .«device_services_count»)) (8 * p .«device_services_count») (length-pairs p (p .«device_services_count»)) body)
 
-    start-back : offsetOf (bytesOf p) i ≡ startOf p i
+    pub start-back : offsetOf (bytesOf p) i ≡ startOf p i
     unfolding u32At rangeBytes
     start-back =
         ap (u32At (bytesOf p)) (sym (add-zero (pairPlace i))) ∙ inside pair 0
@@ -108,7 +108,7 @@ module _ (p : ServiceList) (z : OfWidth p) (ok : writtenVerdict p ≡ Fits) wher
           «cid_count» = (inside h 24 ∙ num-digits 4 (f .«cid_count») [] (b .cids)) j;
         }
 
-    cid-count-back : cidCountAt (bytesOf p) (startOf p i) ≡ elementOf p i .fields .«cid_count»
+    pub cid-count-back : cidCountAt (bytesOf p) (startOf p i) ≡ elementOf p i .fields .«cid_count»
     unfolding elementAt
     cid-count-back = λ j. fields-back j .«cid_count»
 
@@ -120,14 +120,14 @@ module _ (p : ServiceList) (z : OfWidth p) (ok : writtenVerdict p ≡ Fits) wher
         let h : Stands (bytesOf p) (startOf p i + 28) (cidBytes cids (f .«cid_count»)) = right (fieldBytes f) (cidBytes cids (f .«cid_count»)) 28 (length-fields f) element in
         word (getD cids k 0) (z .elements i l .cids k) (part (cidPiece cids) (f .«cid_count») k (4 * k) m (length-cids cids k) h)
 
-    cids-back : cidsAt (bytesOf p) (startOf p i) ≡ cidsIn (elementOf p i)
+    pub cids-back : cidsAt (bytesOf p) (startOf p i) ≡ cidsIn (elementOf p i)
     unfolding cidsAt
     cids-back =
         let c = elementOf p i .fields .«cid_count» in
         let cids = elementOf p i .cids in
         rw cid-count-back
         (list-same (cidAt (bytesOf p) (startOf p i)) (λ k. getD cids k 0) c cid-back
-        ∙ list-take cids c (omega (arith, size-small, z .elements i l .full)))
+        ∙ list-take cids c (z .elements i l .full (omega (arith, size-small))))
 
     element-fits : ElementFits (bytesOf p) (fixedPart (p .«device_services_count»)) i
     unfolding rangeAt startOf

@@ -1,1 +1,2 @@
 pub mod ServicesTrip
+pub mod ListsTrip

@@ -1,6 +1,6 @@
 -- What a record of a services list says, in the words of the reader's answers, and what it means that bytes return the record.
 -- In this order: the record asked; the bytes that return it; a record written and asked; the width of each number.
-use Prim.Native.Nat.{ℕ, _*_, _<_, _^_}
+use Prim.Native.Nat.{ℕ, _*_, _≤_, _<_, _^_}
 use mathlib.Core.Path.{_≡_}
 use mathlib.Core.Bool.{Bool, cond, _&&_}
 use mathlib.Core.List.{List}
@@ -69,7 +69,7 @@ asked (NotWritten r) any = IsRefused r
 unfoldable pub askedOf : ServiceList → ServiceId → ℕ → List ℕ → ListedAnswer
 askedOf p service cid s = asked (writeOf p s .answer) (anyOf (holdsIn p service cid) (p .«device_services_count»))
 
--- ---- each number is of its width, and each array of its length
+-- ---- each number is of its width, and the CIDs that count are there
 
 pub record FieldsOfWidth (f : DeviceService) : Type 0 where
   pub word0 : f .«device_service_id» .word0 < 2 ^ 32
@@ -83,7 +83,7 @@ pub record FieldsOfWidth (f : DeviceService) : Type 0 where
 pub record ElementOfWidth (e : ServiceElement) : Type 0 where
   pub fields : FieldsOfWidth (e .fields)
   pub cids : (k : ℕ) → getD (e .cids) k 0 < 2 ^ 32
-  pub full : length (e .cids) ≡ 128
+  pub full : e .fields .«cid_count» ≤ 128 → e .fields .«cid_count» ≤ length (e .cids)
 
 pub record OfWidth (p : ServiceList) : Type 0 where
   pub sessions : p .«max_dss_sessions» < 2 ^ 32

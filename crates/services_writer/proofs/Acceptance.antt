@@ -17,7 +17,7 @@ use Rattle.services_writer.specs.declared.ServiceList.{ServiceList}
 use Rattle.services_writer.specs.ServicesWriter.{elementOf, lengthOf, sizeOf, sizeVerdict, writtenVerdict, bytesOf, writeOf}
 use Rattle.services_writer.specs.Claims.{Writable, WrittenExactly}
 
-writable-said : (p : ServiceList) → writtenVerdict p ≡ Fits → Writable p
+pub writable-said : (p : ServiceList) → writtenVerdict p ≡ Fits → Writable p
 unfolding writtenVerdict
 writable-said p e =
     let rest = right-fits _ _ e in
@@ -27,7 +27,7 @@ writable-said p e =
       short = ltb-false 4096 (lengthOf p) (not-broken _ _ _ (right-fits _ _ rest));
     }
 
-said-writable : (p : ServiceList) → Writable p → writtenVerdict p ≡ Fits
+pub said-writable : (p : ServiceList) → Writable p → writtenVerdict p ≡ Fits
 unfolding writtenVerdict faultIf firstOf
 said-writable p w =
     let sizes : firstFault (sizeVerdict p) (p .«device_services_count») ≡ Fits =

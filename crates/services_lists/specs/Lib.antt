@@ -1,0 +1,2 @@
+pub mod ServicesLists
+pub mod Claims
