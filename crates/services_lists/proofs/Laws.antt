@@ -20,7 +20,7 @@ use Rattle.protocol.specs.declared.Verdict.the-variants.{Fits, Fault}
 use Rattle.protocol.proofs.Tests.{equal-kept}
 use Rattle.protocol.proofs.Verdicts.{left-fits, right-fits, not-broken}
 use Rattle.folds.specs.Folds.{firstFault, listOf, joined, sumOf}
-use Rattle.folds.proofs.Laws.{fits-next, fault-at, fault-same, join-same, list-at}
+use Rattle.folds.proofs.Laws.{fits-next, fault-at, fault-same, join-same, list-at, sum-within}
 use Rattle.pairs.specs.Pair.{range, rangeBytes}
 use Rattle.device_services.specs.DeviceServices.{pairPlace, fixedPart}
 use Rattle.services_writer.specs.declared.ServiceElement.{ServiceElement}
@@ -114,6 +114,15 @@ module _ (max : ℕ) (fields cids : List ℕ) where
   pub start-inside : (i : ℕ) {b : ℕ} → i < countOf fields → b ≡ startOf (recordOf max fields cids) i
       → b + (28 + 4 * cidsCounted fields i) ≤ lengthOf (recordOf max fields cids)
   start-inside i h e = rw (← size-said i h) (start-within (recordOf max fields cids) i e h)
+
+-- an element has room in an output of `room` bytes, and its CIDs stand in a list of `given`
+pub element-inside : (fields cids : List ℕ) (i : ℕ) {b n room : ℕ} → i < countOf fields → b ≡ startOf (recordOf 0 fields cids) i → n ≡ cidsCounted fields i
+    → lengthOf (recordOf 0 fields cids) ≤ room → b + 28 + 4 * n ≤ room
+element-inside fields cids i h e c r = omega (arith, start-inside 0 fields cids i h e, c, r)
+
+pub cids-inside : (fields : List ℕ) (count i : ℕ) {from n given : ℕ} → i < count → from ≡ cidsBefore fields i → n ≡ cidsCounted fields i
+    → cidsBefore fields count ≤ given → from + n ≤ given
+cids-inside fields count i h e c r = omega (arith, sum-within (cidsCounted fields) count i h, e, c, r)
 
 -- an element's numbers and CIDs stored one after another
 pub element-put : (max : ℕ) (fields cids s : List ℕ) (i at from n : ℕ) {s₁ s₂ : List ℕ} → i < countOf fields → from ≡ cidsBefore fields i

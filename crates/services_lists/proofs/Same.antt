@@ -1,15 +1,14 @@
 -- The lists that a record says are written as the record is: they say its elements.
 -- Assumes nothing.
 use mathlib.Core.Path.{_≡_, refl, sym, ap, _∙_}
-use mathlib.Core.Bool.{not}
-use mathlib.Core.List.{List, [], _++_}
-use Prim.Native.Nat.{ℕ, zero, suc, _+_, _*_, _%_, _≤_, _<_}
+use mathlib.Core.List.{List, _++_}
+use Prim.Native.Nat.{ℕ, _+_, _*_, _%_, _≤_, _<_}
 use native.Mathlib.Omega.{arith}
-use lib.Dec.{ltb, eqb}
+use lib.Dec.{ltb}
 use lib.ListN.{length, getD, drop}
 use lib.Seq.{getD-append-add, getD-drop}
 use Rattle.wire.specs.Numbers.{digits}
-use Rattle.protocol.specs.Refusal.{wrongSize, tooLong, wrongCount, contradiction}
+use Rattle.protocol.specs.Refusal.{wrongSize, tooLong, wrongCount}
 use Rattle.protocol.specs.Verdict.{faultIf, firstOf, writing}
 use Rattle.protocol.specs.declared.Verdict.{Verdict}
 use Rattle.protocol.specs.declared.Verdict.the-variants.{Fits, Fault}
@@ -18,9 +17,8 @@ use Rattle.folds.specs.Folds.{firstFault, joined, sumOf}
 use Rattle.folds.proofs.Laws.{fault-same, join-same, sum-same, split, length-joined, length-list, list-at, joined-sum}
 use Rattle.pairs.specs.Pair.{range, rangeBytes}
 use Rattle.device_services.specs.DeviceServices.{pairPlace, fixedPart}
-use Rattle.services_writer.specs.declared.ServiceElement.{ServiceElement}
 use Rattle.services_writer.specs.declared.ServiceList.{ServiceList}
-use Rattle.services_writer.specs.ServicesWriter.{elementOf, sizeOf, startOf, lengthOf, sizeVerdict, writtenVerdict, fieldBytes, cidPiece, cidBytes, elementBytes, headBytes, pairBytes, piece, bytesOf, writeOf}
+use Rattle.services_writer.specs.ServicesWriter.{elementOf, sizeOf, startOf, sizeVerdict, writtenVerdict, fieldBytes, cidPiece, cidBytes, elementBytes, headBytes, pairBytes, piece, bytesOf, writeOf}
 use Rattle.services_lists.specs.ServicesLists.{countOf, wordOf, cidsCounted, cidsBefore, elementSaid, recordOf, listsVerdict, writeAllOf}
 use Rattle.services_lists.specs.Claims.{numbersIn, cidsIn, fieldsSaid, cidsSaid, AllWritten}
 use Rattle.services_lists.proofs.Laws.{said, size-said}
@@ -37,9 +35,6 @@ fits-after Fits = refl
 fits-after (Fault r) = refl
 
 module _ (p : ServiceList) where
-  count : ℕ
-  count = p .«device_services_count»
-
   counted : ℕ → ℕ
   counted i = elementOf p i .fields .«cid_count»
 

@@ -52,7 +52,7 @@ pub fn write_all(max_dss_sessions: u32, fields: &[u32], cids: &[u32], out: &mut 
     }
 }
 
-// The lists judged, before the room is.
+// The lists judged, before the room is; the sessions are any number.
 fn judge(fields: &[u32], cids: &[u32]) -> Verdict
     ensures { λ r. ⌜ r ≡ listsVerdict 0 (now (fields .entry)) (now (cids .entry)) ⌝ }
 {

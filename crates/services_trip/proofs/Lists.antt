@@ -3,7 +3,7 @@
 use mathlib.Core.Path.{_≡_, refl, sym, ap, _∙_}
 use mathlib.Core.Bool.{false, not}
 use lib.Dec.{ltb}
-use mathlib.Core.List.{List, _++_}
+use mathlib.Core.List.{List}
 use Prim.Native.Nat.{ℕ, zero, suc, _+_, _*_, _%_, _≤_, _<_, _^_}
 use native.Mathlib.Omega.{arith}
 use borrow.Author.Tests.{le-ltb}
@@ -22,7 +22,7 @@ use Rattle.device_services.specs.DeviceServices.{offsetOf, cidCountAt, cidsAt, 
 use Rattle.services_query.specs.ServicesQuery.{wordsAt, allFields, cidsOfElement, allCids, allShown, allOf}
 use Rattle.services_writer.specs.declared.ServiceElement.{ServiceElement}
 use Rattle.services_writer.specs.declared.ServiceList.{ServiceList}
-use Rattle.services_writer.specs.ServicesWriter.{startOf, writtenVerdict, fieldBytes, cidPiece, cidBytes, elementBytes, piece, bytesOf}
+use Rattle.services_writer.specs.ServicesWriter.{startOf, writtenVerdict, fieldBytes, cidPiece, cidBytes, elementBytes, bytesOf}
 use Rattle.services_writer.proofs.Laws.{length-cids}
 use Rattle.services_lists.specs.ServicesLists.{countOf, cidsCounted, cidsBefore, elementSaid, recordOf, listsVerdict, writeAllOf}
 use Rattle.services_lists.proofs.Laws.{said, fields-said, Sound, sound}

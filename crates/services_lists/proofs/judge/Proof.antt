@@ -1,8 +1,7 @@
 -- The count is judged, then the sizes, then the total.
 use borrow.Author.Needs.{needs}
-use mathlib.Core.Path.{_≡_, refl, sym, ap, _∙_}
+use mathlib.Core.Path.{refl, sym, _∙_}
 use native.Mathlib.Omega.{arith}
-use lib.ListN.{length}
 use Rattle.protocol.specs.Verdict.{firstOf}
 use Rattle.services_lists.specs.ServicesLists.{countOf}
 use Rattle.services_lists.proofs.Laws.{judged, few-said, cids-few, total-fits, total-is, total-refused}
