@@ -134,6 +134,12 @@ module _ (p : ServiceList) where
     short = ltb-false 4096 (lengthOf p) (not-broken _ tooLong 0 (right-fits _ _ (right-fits _ _ e)));
   }
 
+  -- sizes that fit leave the length to be judged
+  pub sized-verdict : (n : ℕ) → p .«device_services_count» ≤ 32 → firstFault (sizeVerdict p) (p .«device_services_count») ≡ Fits → n ≡ lengthOf p
+      → writtenVerdict p ≡ faultIf (ltb 4096 n) tooLong 0
+  unfolding writtenVerdict firstOf faultIf
+  sized-verdict n few sizes e = rw (le-ltb 32 (p .«device_services_count») few, sizes, e)
+
   pub size-within : (n i : ℕ) → firstFault (sizeVerdict p) n ≡ Fits → i < n → sizeOf p i ≤ 540
   size-within n i e h = ltb-false 540 (sizeOf p i) (not-broken _ wrongSize (pairPlace i) (fits-each (sizeVerdict p) n e i h))
 

@@ -47,63 +47,35 @@ pub struct ServiceList {
     pub elements: [ServiceElement; 32],
 }
 
+// The verdict on the sizes, and where they fit the length of the payload.
+struct Sized {
+    verdict: Verdict,
+    length: usize,
+}
+
 pub fn write(list: ServiceList, out: &mut [u8]) -> Written
     ensures { λ r. ⌜ r ≡ writeOf list (now (out .entry)) .answer ⌝ }
     ensures { λ _. ⌜ now (out .exit) ≡ writeOf list (now (out .entry)) .output ⌝ }
 {
-    match judge(list) {
-        Verdict::Fits => write_judged(list, out),
-        Verdict::Fault(refusal) => Written::Refused(refusal),
-    }
-}
-
-// The record judged, before the room is.
-fn judge(list: ServiceList) -> Verdict
-    ensures { λ r. ⌜ r ≡ writtenVerdict list ⌝ }
-{
-    let count = list.device_services_count;
-    if MOST_SERVICES < count {
-        return Verdict::Fault(Refusal {
+    if MOST_SERVICES < list.device_services_count {
+        return Written::Refused(Refusal {
             number: WRONG_COUNT,
             place: DEVICE_SERVICES_COUNT,
         });
     }
-    match judge_sizes(list, count) {
-        Verdict::Fits => also(
-            Verdict::Fits,
-            MOST_INFORMATION < length_of(list),
-            TOO_LONG,
-            0,
-        ),
-        Verdict::Fault(refusal) => Verdict::Fault(refusal),
+    let sized = size_up(list);
+    let verdict = sized.verdict;
+    match verdict {
+        Verdict::Fits => write_sized(list, sized.length, out),
+        Verdict::Fault(refusal) => Written::Refused(refusal),
     }
 }
 
 // The sizes of the elements, up to the first over its limit.
-fn judge_sizes(list: ServiceList, count: u32) -> Verdict
-    requires { ⌜ count ≤ 32 ⌝ }
-    ensures { λ r. ⌜ r ≡ firstFault (sizeVerdict list) count ⌝ }
-{
-    let mut i: u32 = 0;
-    while i < count {
-        let k = i as usize;
-        let element = list.elements[k];
-        let fields = element.fields;
-        if (ELEMENT_LIMIT as usize) < ELEMENT_FIXED_PART as usize + 4 * fields.cid_count as usize {
-            return Verdict::Fault(Refusal {
-                number: WRONG_SIZE,
-                place: pair_place(i),
-            });
-        }
-        i += 1;
-    }
-    Verdict::Fits
-}
-
-// The length of the payload, where each size is within its limit.
-fn length_of(list: ServiceList) -> usize
-    requires { ⌜ (list .«device_services_count» ≤ 32) × (firstFault (sizeVerdict list) (list .«device_services_count») ≡ Fits) ⌝ }
-    ensures { λ r. ⌜ r ≡ lengthOf list ⌝ }
+fn size_up(list: ServiceList) -> Sized
+    requires { ⌜ list .«device_services_count» ≤ 32 ⌝ }
+    ensures { λ r. ⌜ r .verdict ≡ firstFault (sizeVerdict list) (list .«device_services_count») ⌝ }
+    ensures { λ r. ⌜ (r .verdict ≡ Fits → r .length ≡ lengthOf list) ⌝ }
 {
     let count = list.device_services_count;
     let mut end: usize = pair_place(count);
@@ -112,27 +84,41 @@ fn length_of(list: ServiceList) -> usize
         let k = i as usize;
         let element = list.elements[k];
         let fields = element.fields;
-        end += ELEMENT_FIXED_PART as usize + 4 * fields.cid_count as usize;
+        let size = ELEMENT_FIXED_PART as usize + 4 * fields.cid_count as usize;
+        if (ELEMENT_LIMIT as usize) < size {
+            let verdict = Verdict::Fault(Refusal {
+                number: WRONG_SIZE,
+                place: pair_place(i),
+            });
+            return Sized {
+                verdict,
+                length: end,
+            };
+        }
+        end += size;
         i += 1;
     }
-    end
+    let verdict = Verdict::Fits;
+    Sized {
+        verdict,
+        length: end,
+    }
 }
 
-// What fits: the room is judged, and the bytes are put.
-fn write_judged(list: ServiceList, out: &mut [u8]) -> Written
-    requires { ⌜ writtenVerdict list ≡ Fits ⌝ }
+// Sizes that fit: the length is judged, then the room, and the bytes are put.
+fn write_sized(list: ServiceList, n: usize, out: &mut [u8]) -> Written
+    requires { ⌜ (list .«device_services_count» ≤ 32) × (firstFault (sizeVerdict list) (list .«device_services_count») ≡ Fits) × (n ≡ lengthOf list) ⌝ }
     ensures { λ r. ⌜ r ≡ writeOf list (now (out .entry)) .answer ⌝ }
     ensures { λ _. ⌜ now (out .exit) ≡ writeOf list (now (out .entry)) .output ⌝ }
 {
-    let n = length_of(list);
-    if out.len() < n {
-        return Written::Refused(Refusal {
-            number: OUTPUT_TOO_SMALL,
-            place: n,
-        });
+    let short = also(Verdict::Fits, MOST_INFORMATION < n, TOO_LONG, 0);
+    match also(short, out.len() < n, OUTPUT_TOO_SMALL, n) {
+        Verdict::Fits => {
+            put(list, out);
+            Written::Length(n)
+        }
+        Verdict::Fault(refusal) => Written::Refused(refusal),
     }
-    put(list, out);
-    Written::Length(n)
 }
 
 // The payload's bytes.
@@ -142,13 +128,14 @@ fn put(list: ServiceList, out: &mut [u8])
 {
     put_u32(out, DEVICE_SERVICES_COUNT, list.device_services_count);
     put_u32(out, MAX_DSS_SESSIONS, list.max_dss_sessions);
-    put_pairs(list, out);
     put_elements(list, out);
 }
 
-fn put_pairs(list: ServiceList, out: &mut [u8])
+// The pairs, then the elements. Both loops stand in one function, since each that goes over the record
+// copies it.
+fn put_elements(list: ServiceList, out: &mut [u8])
     requires { ⌜ (list .«device_services_count» ≤ 32) × (lengthOf list ≤ 4096) ⌝ }
-    ensures { λ _. ⌜ now (out .exit) ≡ sets (now (out .entry)) 8 (joined (pairBytes list) (list .«device_services_count»)) ⌝ }
+    ensures { λ _. ⌜ now (out .exit) ≡ sets (sets (now (out .entry)) 8 (joined (pairBytes list) (list .«device_services_count»))) (fixedPart (list .«device_services_count»)) (joined (piece list) (list .«device_services_count»)) ⌝ }
 {
     let count = list.device_services_count;
     let mut start: u32 = pair_place(count) as u32;
@@ -166,22 +153,15 @@ fn put_pairs(list: ServiceList, out: &mut [u8])
         start += size;
         i += 1;
     }
-}
-
-fn put_elements(list: ServiceList, out: &mut [u8])
-    requires { ⌜ (list .«device_services_count» ≤ 32) × (lengthOf list ≤ 4096) ⌝ }
-    ensures { λ _. ⌜ now (out .exit) ≡ sets (now (out .entry)) (fixedPart (list .«device_services_count»)) (joined (piece list) (list .«device_services_count»)) ⌝ }
-{
-    let count = list.device_services_count;
-    let mut start: u32 = pair_place(count) as u32;
-    let mut i: u32 = 0;
-    while i < count {
-        let k = i as usize;
+    let mut at: u32 = pair_place(count) as u32;
+    let mut j: u32 = 0;
+    while j < count {
+        let k = j as usize;
         let element = list.elements[k];
         let fields = element.fields;
-        put_element(out, start, element);
-        start += ELEMENT_FIXED_PART + 4 * fields.cid_count;
-        i += 1;
+        put_element(out, at, element);
+        at += ELEMENT_FIXED_PART + 4 * fields.cid_count;
+        j += 1;
     }
 }
 

@@ -2,7 +2,7 @@
 -- Assumes nothing.
 use mathlib.Core.Path.{_≡_, refl, sym, ap, _∙_}
 use mathlib.Core.Logic.{_⊎_, inl, inr, ⊎-map, ⊎-elim}
-use mathlib.Core.Bool.{Bool, cond, _||_}
+use mathlib.Core.Bool.{Bool, true, false, cond, _||_}
 use mathlib.Core.List.{List, [], _∷_, _++_, append-assoc, append-nil}
 use Prim.Native.Nat.{ℕ, zero, suc, _+_, _*_, _-_, _≤_, _<_}
 use native.Mathlib.Numerals.{add-one}
@@ -10,7 +10,7 @@ use native.Mathlib.Omega.{arith}
 use borrow.Author.Tests.{eqb-true, eq-eqb, ne-eqb}
 use lib.Dec.{eqb}
 use lib.ListN.{length, set, length-append}
-use lib.Seq.{sets, set-at}
+use lib.Seq.{sets, length-sets, set-at}
 use Rattle.wire.specs.Numbers.{digits}
 use Rattle.wire.proofs.Laws.{sets-then}
 use Rattle.protocol.specs.Refusal.{wrongSize, contradiction}
@@ -20,7 +20,7 @@ use Rattle.protocol.specs.declared.Verdict.the-variants.{Fits, Fault}
 use Rattle.protocol.specs.declared.Version.the-variants.{V2}
 use Rattle.protocol.specs.declared.Written.{Written}
 use Rattle.protocol.proofs.Verdicts.{left-fits, right-fits, not-broken, open-length}
-use Rattle.folds.specs.Folds.{listOf}
+use Rattle.folds.specs.Folds.{listOf, joined}
 use Rattle.folds.proofs.Laws.{fits-next, fault-at, any-next, fault-same, any-same, length-list, length-joined}
 use Rattle.pairs.specs.Pair.{rangeAt, placed, rangeBytes}
 use Rattle.lists.specs.Lists.{listVerdict}
@@ -158,24 +158,45 @@ read-refused s r e = rw e
 
 -- ---- what a writer stores and answers
 
--- the pair of no list
-pub list-none : (n : ℕ) (f : ℕ → RsrpSnr) (s : List ℕ) {t : List ℕ} → n ≡ 0 → t ≡ sets s 20 (rangeBytes (placed 28 (sizeOf n))) → t ≡ sets s 20 (listBytes n f)
-unfolding listBytes
-list-none n f s e p =
-    let pair = rangeBytes (placed 28 (sizeOf n)) in
-    let none : cond (eqb n 0) [] (digits 4 n ++ entriesBytes n f) ≡ [] = rw (eq-eqb n 0 e) in
-    p ∙ ap (sets s 20) (sym (append-nil pair) ∙ ap (λ (l : List ℕ). pair ++ l) (sym none))
+some-of : (n : ℕ) (xs : List ℕ) → (n ≡ 0 → ⊥) → cond (eqb n 0) [] xs ≡ xs
+some-of n xs h = rw (ne-eqb n 0 h)
 
--- the pair, the count and the entries, one after another
-pub list-some : (n : ℕ) (f : ℕ → RsrpSnr) (s : List ℕ) {s₁ s₂ s₃ : List ℕ} → (n ≡ 0 → ⊥) → s₁ ≡ sets s 20 (rangeBytes (placed 28 (sizeOf n)))
-    → s₂ ≡ sets s₁ 28 (digits 4 n) → s₃ ≡ sets s₂ 32 (entriesBytes n f) → s₃ ≡ sets s 20 (listBytes n f)
-unfolding listBytes rangeBytes
-list-some n f s {s₁} h p q r =
-    let pair = rangeBytes (placed 28 (sizeOf n)) in
-    let list = digits 4 n ++ entriesBytes n f in
-    let some : cond (eqb n 0) [] list ≡ list = rw (ne-eqb n 0 h) in
-    sets-then pair list 20 8 s refl p (sets-then (digits 4 n) (entriesBytes n f) 28 4 s₁ refl q r)
-    ∙ ap (λ (l : List ℕ). sets s 20 (pair ++ l)) (sym some)
+pub some-count : (n : ℕ) → (n ≡ 0 → ⊥) → cond (eqb n 0) [] (digits 4 n) ≡ digits 4 n
+some-count n h = some-of n (digits 4 n) h
+
+pub no-count : (n : ℕ) → n ≡ 0 → cond (eqb n 0) [] (digits 4 n) ≡ []
+no-count n e = rw (eq-eqb n 0 e)
+
+-- the pair and the count, and then the entries
+list-stored : (n : ℕ) (f : ℕ → RsrpSnr) (s : List ℕ) {s₁ s₂ : List ℕ} → s₁ ≡ sets s 20 (rangeBytes (placed 28 (sizeOf n)) ++ cond (eqb n 0) [] (digits 4 n))
+    → s₂ ≡ sets s₁ 32 (entriesBytes n f) → s₂ ≡ sets s 20 (listBytes n f)
+unfolding listBytes rangeBytes entriesBytes joined
+list-stored zero f s p q = q ∙ p
+list-stored (suc n) f s {s₁} p q =
+    let pair = rangeBytes (placed 28 (sizeOf (suc n))) in
+    let count = digits 4 (suc n) in
+    let entries = entriesBytes (suc n) f in
+    let some : suc n ≡ 0 → ⊥ = λ e. omega (arith, e) in
+    let start : s₁ ≡ sets s 20 (pair ++ count) = p ∙ ap (λ (l : List ℕ). sets s 20 (pair ++ l)) (some-count (suc n) some) in
+    sets-then (pair ++ count) entries 20 12 s refl start q
+    ∙ ap (sets s 20) (append-assoc pair count entries ∙ ap (λ (l : List ℕ). pair ++ l) (sym (some-of (suc n) (count ++ entries) some)))
+
+pub list-ended : (n j : ℕ) (f : ℕ → RsrpSnr) (s : List ℕ) {s₁ s₂ : List ℕ} → j ≡ n
+    → s₁ ≡ sets s 20 (rangeBytes (placed 28 (sizeOf n)) ++ cond (eqb n 0) [] (digits 4 n)) → s₂ ≡ sets s₁ 32 (entriesBytes j f) → s₂ ≡ sets s 20 (listBytes n f)
+list-ended n j f s {s₁} e p q = list-stored n f s p (q ∙ ap (λ (k : ℕ). sets s₁ 32 (entriesBytes k f)) e)
+
+-- the stores leave the length
+pub same-through : (s a b d : List ℕ) {s₁ s₂ s₃ : List ℕ} → s₁ ≡ sets s 0 a → s₂ ≡ sets s₁ 20 b → s₃ ≡ sets s₂ 32 d → length s₃ ≡ length s
+same-through s a b d {s₁} {s₂} p q r = ap length r ∙ length-sets s₂ 32 d ∙ ap length q ∙ length-sets s₁ 20 b ∙ ap length p ∙ length-sets s 0 a
+
+-- an RSSI beside what is known
+pub stray-none : (rssi : ℕ) (b : Bool) → rssi ≡ 99 → false ≡ contradicts rssi b
+stray-none rssi true e = rw (eq-eqb rssi 99 e)
+stray-none rssi false e = refl
+
+pub stray-some : (rssi : ℕ) (b : Bool) → (rssi ≡ 99 → ⊥) → b ≡ contradicts rssi b
+stray-some rssi true h = rw (ne-eqb rssi 99 h)
+stray-some rssi false h = refl
 
 -- by the form of the record
 pub in-form : (p : SignalState) (es : List RsrpSnr) (s : List ℕ) (g : SignalForm) {r : Written} {t : List ℕ} → p .form ≡ g

@@ -98,7 +98,7 @@ const LAST_RSSI: u32 = 31;
 
 const LAST_ERROR_RATE: u32 = 7;
 
-const NUMBER_UNKNOWN: u32 = 99;
+pub const NUMBER_UNKNOWN: u32 = 99;
 
 const RSRP_UNKNOWN: u32 = 127;
 
@@ -280,7 +280,7 @@ fn is_unmarked(last: u32, x: u32) -> bool
     last < x
 }
 
-// The same of the entries as they stand in a payload.
+// The entries of the list at `offset`, and last what contradicts.
 fn judge_body_at(s: &[u8], rssi: u32, offset: u32, n: u32) -> Verdict
     requires { ⌜ offset + 4 + 20 * n ≤ length (now s) ⌝ }
     ensures { λ r. ⌜ r ≡ bodyVerdict rssi offset (entryAt (now (s .entry)) offset) n ⌝ }
@@ -328,7 +328,7 @@ pub fn is_known(entry: RsrpSnr) -> bool
     entry.snr != SNR_UNKNOWN
 }
 
-pub fn or(a: bool, b: bool) -> bool
+fn or(a: bool, b: bool) -> bool
     ensures { λ r. ⌜ r ≡ (a || b) ⌝ }
 {
     if a {
@@ -338,7 +338,7 @@ pub fn or(a: bool, b: bool) -> bool
 }
 
 // Whether there is an RSSI beside an RSRP or an SNR.
-pub fn is_contradiction(rssi: u32, known: bool) -> bool
+fn is_contradiction(rssi: u32, known: bool) -> bool
     ensures { λ r. ⌜ r ≡ contradicts rssi known ⌝ }
 {
     if known {

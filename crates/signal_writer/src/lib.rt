@@ -16,6 +16,7 @@ use signal_state::ERROR_RATE_THRESHOLD;
 use signal_state::FIXED_PART_V2;
 use signal_state::LENGTH_V1;
 use signal_state::LIST_LIMIT;
+use signal_state::NUMBER_UNKNOWN;
 use signal_state::RSRP_SNR;
 use signal_state::RSSI;
 use signal_state::RSSI_THRESHOLD;
@@ -24,19 +25,22 @@ use signal_state::SIGNAL_STRENGTH_INTERVAL;
 use signal_state::SignalForm;
 use signal_state::SignalState;
 use signal_state::entry_place;
-use signal_state::is_contradiction;
 use signal_state::is_known;
 use signal_state::judge_entry;
 use signal_state::judge_numbers;
-use signal_state::or;
 use wire::put_u32;
 ghost use mathlib.Core.Path.{_≡_};
+ghost use mathlib.Core.Bool.{cond};
+ghost use mathlib.Core.List.{[], _++_};
 ghost use Prim.Native.Nat.{_+_, _*_, _≤_};
+ghost use lib.Dec.{eqb};
 ghost use lib.ListN.{length};
 ghost use lib.Seq.{sets};
+ghost use Rattle.wire.specs.Numbers.{digits};
 ghost use Rattle.protocol.specs.Verdict.{judge, writing};
 ghost use Rattle.protocol.specs.declared.Verdict.the-variants.{Fits};
-ghost use Rattle.signal_state.specs.SignalState.{entryPlace, numberRules, entryIn, bodyVerdict, sizeOf, limitVerdict, listedVerdict, numberBytes, entryBytes, entriesBytes, listBytes, listedBytes, writeOf};
+ghost use Rattle.pairs.specs.Pair.{placed, rangeBytes};
+ghost use Rattle.signal_state.specs.SignalState.{entryPlace, numberRules, entryIn, anyKnown, contradicts, sizeOf, limitVerdict, listedVerdict, numberBytes, entryBytes, listedBytes, writeOf};
 
 // Writes the record at its form's version; at 2.00 the first `count` entries with it.
 pub fn write(info: SignalState, entries: [RsrpSnr; 16], out: &mut [u8]) -> Written
@@ -48,31 +52,6 @@ pub fn write(info: SignalState, entries: [RsrpSnr; 16], out: &mut [u8]) -> Writt
         SignalForm::V1 => write_numbers(info, out),
         SignalForm::V2 { count } => write_listed(info, count, entries, out),
     }
-}
-
-// The entries of the list at `offset`, and last what contradicts.
-fn judge_body(rssi: u32, offset: u32, entries: [RsrpSnr; 16], n: u32) -> Verdict
-    requires { ⌜ n ≤ 16 ⌝ }
-    ensures { λ r. ⌜ r ≡ bodyVerdict rssi offset (entryIn entries) n ⌝ }
-{
-    let mut known = false;
-    let mut i: u32 = 0;
-    while i < n {
-        let at = i as usize;
-        let entry = entries[at];
-        let verdict = judge_entry(offset, i, entry);
-        if let Verdict::Fault(refusal) = verdict {
-            return Verdict::Fault(refusal);
-        }
-        known = or(known, is_known(entry));
-        i += 1;
-    }
-    also(
-        Verdict::Fits,
-        is_contradiction(rssi, known),
-        CONTRADICTION,
-        RSSI,
-    )
 }
 
 // 1.00.
@@ -109,21 +88,65 @@ fn judge_limit(info: SignalState, count: u32) -> Verdict
     also(numbers, unfit, WRONG_SIZE, RSRP_SNR)
 }
 
+// The entries are judged and then put in one function, since each that goes over them copies them.
 fn write_entries(info: SignalState, count: u32, entries: [RsrpSnr; 16], out: &mut [u8]) -> Written
     requires { ⌜ limitVerdict info count ≡ Fits ⌝ }
     ensures { λ r. ⌜ r ≡ writing (listedVerdict info count (entryIn entries)) (listedBytes info count (entryIn entries)) (now (out .entry)) .answer ⌝ }
     ensures { λ _. ⌜ now (out .exit) ≡ writing (listedVerdict info count (entryIn entries)) (listedBytes info count (entryIn entries)) (now (out .entry)) .output ⌝ }
 {
     let n = FIXED_PART_V2 as usize + size_of(count);
-    let body = judge_body(info.rssi, FIXED_PART_V2, entries, count);
-    match also(body, out.len() < n, OUTPUT_TOO_SMALL, n) {
-        Verdict::Fits => {
-            put_numbers(info, &mut out[..LENGTH_V1]);
-            put_list(entries, count, out);
-            Written::Length(n)
+    let mut i: u32 = 0;
+    while i < count {
+        let at = i as usize;
+        let entry = entries[at];
+        let verdict = judge_entry(FIXED_PART_V2, i, entry);
+        if let Verdict::Fault(refusal) = verdict {
+            return Written::Refused(refusal);
         }
-        Verdict::Fault(refusal) => Written::Refused(refusal),
+        i += 1;
     }
+    let stray = is_stray(info.rssi, entries, count);
+    let body = also(Verdict::Fits, stray, CONTRADICTION, RSSI);
+    if let Verdict::Fault(refusal) = also(body, out.len() < n, OUTPUT_TOO_SMALL, n) {
+        return Written::Refused(refusal);
+    }
+    put_numbers(info, &mut out[..LENGTH_V1]);
+    put_start(count, out);
+    let mut j: u32 = 0;
+    while j < count {
+        let at = j as usize;
+        let entry = entries[at];
+        put_entry(entry, j, out);
+        j += 1;
+    }
+    Written::Length(n)
+}
+
+// Whether an RSSI stands beside an RSRP or an SNR of the first n entries.
+fn is_stray(rssi: u32, entries: [RsrpSnr; 16], n: u32) -> bool
+    requires { ⌜ n ≤ 16 ⌝ }
+    ensures { λ r. ⌜ r ≡ contradicts rssi (anyKnown (entryIn entries) n) ⌝ }
+{
+    if rssi == NUMBER_UNKNOWN {
+        return false;
+    }
+    any_known(entries, n)
+}
+
+fn any_known(entries: [RsrpSnr; 16], n: u32) -> bool
+    requires { ⌜ n ≤ 16 ⌝ }
+    ensures { λ r. ⌜ r ≡ anyKnown (entryIn entries) n ⌝ }
+{
+    let mut i: u32 = 0;
+    while i < n {
+        let at = i as usize;
+        let entry = entries[at];
+        if is_known(entry) {
+            return true;
+        }
+        i += 1;
+    }
+    false
 }
 
 // The size of a list of so many entries.
@@ -146,10 +169,10 @@ fn put_numbers(info: SignalState, out: &mut [u8])
     put_u32(out, ERROR_RATE_THRESHOLD, info.error_rate_threshold);
 }
 
-// The pair, and the list straight after it.
-fn put_list(entries: [RsrpSnr; 16], count: u32, out: &mut [u8])
-    requires { ⌜ (count ≤ 16) × (28 + sizeOf count ≤ length (now out)) ⌝ }
-    ensures { λ _. ⌜ now (out .exit) ≡ sets (now (out .entry)) 20 (listBytes count (entryIn entries)) ⌝ }
+// The pair, and the count of the list straight after it.
+fn put_start(count: u32, out: &mut [u8])
+    requires { ⌜ count ≤ 16 ⌝ }
+    ensures { λ _. ⌜ now (out .exit) ≡ sets (now (out .entry)) 20 (rangeBytes (placed 28 (sizeOf count)) ++ cond (eqb count 0) [] (digits 4 count)) ⌝ }
 {
     let pair = place_at(FIXED_PART_V2, size_of(count) as u32);
     put_range(out, RSRP_SNR, pair);
@@ -157,20 +180,6 @@ fn put_list(entries: [RsrpSnr; 16], count: u32, out: &mut [u8])
         return;
     }
     put_u32(out, FIXED_PART_V2 as usize, count);
-    put_entries(entries, count, out);
-}
-
-fn put_entries(entries: [RsrpSnr; 16], n: u32, out: &mut [u8])
-    requires { ⌜ (n ≤ 16) × (32 + 20 * n ≤ length (now out)) ⌝ }
-    ensures { λ _. ⌜ now (out .exit) ≡ sets (now (out .entry)) 32 (entriesBytes n (entryIn entries)) ⌝ }
-{
-    let mut i: u32 = 0;
-    while i < n {
-        let at = i as usize;
-        let entry = entries[at];
-        put_entry(entry, i, out);
-        i += 1;
-    }
 }
 
 // Entry i into its part of the output, so that its stores need no test of their own.

@@ -1,17 +1,25 @@
--- The record is judged first; what fits is written.
+-- The count is judged, then the sizes; what fits is written.
 use borrow.Author.Needs.{needs}
 use mathlib.Core.Path.{refl, sym, _∙_}
-use Rattle.protocol.specs.Verdict.{firstOf, given, withRoom, writing}
-use Rattle.services_writer.specs.ServicesWriter.{writeOf}
+use borrow.Author.Tests.{lt-ltb, le-ltb}
+use Rattle.protocol.specs.Verdict.{faultIf, firstOf, given, withRoom, writing}
+use Rattle.services_writer.specs.ServicesWriter.{writtenVerdict, writeOf}
 use Rattle.services_writer.proofs.write.Statement.{statement}
 use Rattle.services_writer.proofs.write.Tie as tie
 
-write-judged-requires : tie.Need-write-judged-requires
-write-judged-requires c κs = sym (c .before .before .before .judge .ensures) ∙ c .before .enum-told .given .1
+returns : tie.Need-returns
+unfolding writeOf writing withRoom given writtenVerdict firstOf faultIf
+returns c = rw (lt-ltb _ _ (c .if1 .taken)) (refl, refl)
 
-returns-2 : tie.Need-returns-2
-unfolding writeOf writing withRoom given firstOf
-returns-2 c = rw (← c .before .before .before .judge .ensures, c .before .refusal .given .1) (refl, refl)
+size-up-requires : tie.Need-size-up-requires
+size-up-requires c κs = c .if1 .left
+
+write-sized-requires : tie.Need-write-sized-requires
+write-sized-requires c κs = let f = sym (c .before .before .before .size-up .ensures .0) ∙ c .before .enum-told .given .1 in (c .before .before .before .before .if1 .left, f, c .before .before .before .size-up .ensures .1 (c .before .enum-told .given .1))
+
+returns-3 : tie.Need-returns-3
+unfolding writeOf writing withRoom given writtenVerdict firstOf faultIf
+returns-3 c = rw (le-ltb _ _ (c .before .before .before .before .if1 .left), ← c .before .before .before .size-up .ensures .0, c .before .verdict .given .1) (refl, refl)
 
 pub write-spec : {M : Type 1} → statement M
-write-spec = tie.close (tie.spec (λ c. search needs) (λ c. search needs) write-judged-requires (λ c. search needs) (λ c. search needs) (λ c. search needs) returns-2)
+write-spec = tie.close (tie.spec returns size-up-requires (λ c. search needs) write-sized-requires (λ c. search needs) (λ c. search needs) (λ c. search needs) returns-3)
