@@ -34,9 +34,9 @@
  * Memory. The library allocates nothing, keeps nothing between calls and never faults. What lasts
  * between calls lies in memory that you lend: bytes of any alignment, without pointers inside, that
  * may be copied. Several assemblies, hosts and modems don't disturb each other; calls on different
- * memory may run in parallel. Of other libraries it wants memcpy and memset. A call takes less than
- * 5 KB of stack, but cvr_device_services_write some 36 KB, half of it the list that is passed;
- * cvr_device_services_write_all writes the same from two lists.
+ * memory may run in parallel. Of other libraries it wants memcpy, memmove and memset. A call takes
+ * less than 5 KB of stack, but cvr_device_services_write some 36 KB, half of it the list that is
+ * passed; cvr_device_services_write_all writes the same from two lists.
  *
  * What a caller owes:
  *   - a pointer is valid for the length that comes after it (a number of bytes, or of uint32_t where
