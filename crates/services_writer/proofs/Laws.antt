@@ -2,13 +2,13 @@
 -- Assumes nothing.
 use mathlib.Core.Path.{_≡_, refl, sym, ap, _∙_}
 use mathlib.Core.Bool.{true}
-use mathlib.Core.List.{List, _++_}
-use Prim.Native.Nat.{ℕ, _+_, _*_, _≤_, _<_}
+use mathlib.Core.List.{List, [], _∷_, _++_}
+use Prim.Native.Nat.{ℕ, suc, _+_, _*_, _≤_, _<_}
 use native.Mathlib.Omega.{arith}
 use borrow.Author.Tests.{ltb-false, lt-ltb, le-ltb}
 use lib.Dec.{ltb}
-use lib.ListN.{length, length-append, getD}
-use lib.Seq.{sets}
+use lib.ListN.{length, length-append, getD, set}
+use lib.Seq.{sets, length-sets, set-comm}
 use Rattle.wire.specs.Numbers.{digits}
 use Rattle.wire.proofs.Laws.{sets-then}
 use Rattle.protocol.specs.Refusal.{refusal, tooLong, wrongSize, wrongCount}
@@ -63,6 +63,18 @@ pub cid-next : (cids s : List ℕ) (at k : ℕ) {s₁ s₂ : List ℕ} {v : ℕ}
 cid-next cids s at k {s₁} p q r =
     join-next (cidPiece cids) k at s p (ap (λ (n : ℕ). at + n) (sym (length-cids cids k))) (r ∙ ap (λ (v : ℕ). sets s₁ (at + 4 * k) (digits 4 v)) q)
 
+-- ---- stores before others
+
+set-before : (xs s : List ℕ) (at j v : ℕ) → j < at → set (sets s at xs) j v ≡ sets (set s j v) at xs
+set-before [] s at j v h = refl
+set-before (x ∷ xs) s at j v h =
+    set-before xs (set s at x) (suc at) j v (omega arith) ∙ ap (λ (l : List ℕ). sets l (suc at) xs) (set-comm s at j x v (λ e. omega (arith, e)))
+
+sets-before : (ys xs s : List ℕ) (at b : ℕ) → b + length ys ≤ at → sets (sets s at xs) b ys ≡ sets (sets s b ys) at xs
+sets-before [] xs s at b h = refl
+sets-before (y ∷ ys) xs s at b h =
+    ap (λ (l : List ℕ). sets l (suc b) ys) (set-before xs s at b y (omega arith)) ∙ sets-before ys xs (set s b y) at (suc b) (omega arith)
+
 -- ---- the payload
 
 module _ (p : ServiceList) where
@@ -107,6 +119,22 @@ module _ (p : ServiceList) where
       join-next (piece p) i (fixedPart (p .«device_services_count»)) s e
       (q ∙ ap (λ (n : ℕ). fixedPart (p .«device_services_count») + n) (sym (length-pieces i))) t
 
+  -- one pair and its element more: the pair stands before all elements
+  pub listed-next : (i : ℕ) (s : List ℕ) {s₁ s₂ : List ℕ} {b : ℕ} → i < p .«device_services_count»
+      → s₁ ≡ sets (sets s 8 (joined (pairBytes p) i)) (fixedPart (p .«device_services_count»)) (joined (piece p) i) → b ≡ startOf p i
+      → s₂ ≡ sets (sets s₁ (pairPlace i) (rangeBytes (range b (sizeOf p i)))) b (piece p i)
+      → s₂ ≡ sets (sets s 8 (joined (pairBytes p) (i + 1))) (fixedPart (p .«device_services_count»)) (joined (piece p) (i + 1))
+  unfolding rangeBytes
+  listed-next i s {s₁} {s₂} {b} less e q t =
+      let pair = rangeBytes (range b (sizeOf p i)) in
+      let all = joined (piece p) i in
+      let from = fixedPart (p .«device_services_count») in
+      let o = sets s 8 (joined (pairBytes p) i) in
+      let more : sets o (pairPlace i) pair ≡ sets s 8 (joined (pairBytes p) (i + 1)) = pair-next i s refl q refl refl in
+      let y : sets s₁ (pairPlace i) pair ≡ sets (sets s 8 (joined (pairBytes p) (i + 1))) from all =
+      ap (λ (l : List ℕ). sets l (pairPlace i) pair) e ∙ sets-before pair all o from (pairPlace i) (omega arith) ∙ ap (λ (l : List ℕ). sets l from all) more in
+      piece-next i (sets s 8 (joined (pairBytes p) (i + 1))) y q t
+
   -- the parts stored one after another
   pub laid : (s : List ℕ) {s₁ s₂ s₃ s₄ : List ℕ} → s₁ ≡ sets s 0 (digits 4 (p .«device_services_count»)) → s₂ ≡ sets s₁ 4 (digits 4 (p .«max_dss_sessions»))
       → s₃ ≡ sets s₂ 8 (joined (pairBytes p) (p .«device_services_count»))
@@ -118,6 +146,20 @@ module _ (p : ServiceList) where
       sets-then (headBytes p) (a ++ b) 0 8 s refl
       (sets-then (digits 4 count) (digits 4 (p .«max_dss_sessions»)) 0 4 s refl e q)
       (sets-then a b 8 (8 * count) s₂ (length-pairs count) r t)
+
+  -- the head, and then the pairs and elements as far as they are listed
+  pub listed-length : (i : ℕ) (s : List ℕ) {s₁ s₂ : List ℕ} → s₁ ≡ sets (sets s 0 (digits 4 (p .«device_services_count»))) 4 (digits 4 (p .«max_dss_sessions»))
+      → s₂ ≡ sets (sets s₁ 8 (joined (pairBytes p) i)) (fixedPart (p .«device_services_count»)) (joined (piece p) i) → length s₂ ≡ length s
+  listed-length i s {s₁} e q =
+      let a = digits 4 (p .«device_services_count») in
+      ap length q ∙ length-sets (sets s₁ 8 (joined (pairBytes p) i)) (fixedPart (p .«device_services_count»)) (joined (piece p) i)
+      ∙ length-sets s₁ 8 (joined (pairBytes p) i) ∙ ap length e ∙ length-sets (sets s 0 a) 4 (digits 4 (p .«max_dss_sessions»)) ∙ length-sets s 0 a
+
+  pub all-laid : (i : ℕ) (s : List ℕ) {s₁ s₂ : List ℕ} → i ≡ p .«device_services_count»
+      → s₁ ≡ sets (sets s 0 (digits 4 (p .«device_services_count»))) 4 (digits 4 (p .«max_dss_sessions»))
+      → s₂ ≡ sets (sets s₁ 8 (joined (pairBytes p) i)) (fixedPart (p .«device_services_count»)) (joined (piece p) i) → s₂ ≡ sets s 0 (bytesOf p)
+  all-laid i s {s₁} n e q =
+      laid s refl e refl (q ∙ ap (λ (k : ℕ). sets (sets s₁ 8 (joined (pairBytes p) k)) (fixedPart (p .«device_services_count»)) (joined (piece p) k)) n)
 
   -- ---- a record that fits
 

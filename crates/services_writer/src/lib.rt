@@ -24,13 +24,16 @@ use protocol::also;
 use protocol::service::put_id;
 use wire::put_u32;
 ghost use mathlib.Core.Path.{_≡_};
-ghost use Prim.Native.Nat.{_≤_};
-ghost use lib.ListN.{length, getD};
+ghost use Prim.Native.Nat.{_+_, _*_, _≤_};
+ghost use lib.Dec.{ltb};
+ghost use lib.ListN.{getD};
 ghost use lib.Seq.{sets};
-ghost use Rattle.folds.specs.Folds.{firstFault, joined};
-ghost use Rattle.protocol.specs.declared.Verdict.the-variants.{Fits};
-ghost use Rattle.device_services.specs.DeviceServices.{fixedPart};
-ghost use Rattle.services_writer.specs.ServicesWriter.{lengthOf, sizeVerdict, writtenVerdict, fieldBytes, cidBytes, elementBytes, pairBytes, piece, bytesOf, writeOf};
+ghost use Rattle.wire.specs.Numbers.{digits};
+ghost use Rattle.protocol.specs.Refusal.{outputTooSmall, tooLong};
+ghost use Rattle.protocol.specs.Verdict.{faultIf, firstOf};
+ghost use Rattle.pairs.specs.Pair.{range, rangeBytes};
+ghost use Rattle.device_services.specs.DeviceServices.{pairPlace};
+ghost use Rattle.services_writer.specs.ServicesWriter.{fieldBytes, cidBytes, elementBytes, writeOf};
 
 // An element with its CIDs, of which the first `cid_count` count.
 #[repr(C)]
@@ -47,12 +50,6 @@ pub struct ServiceList {
     pub elements: [ServiceElement; 32],
 }
 
-// The verdict on the sizes, and where they fit the length of the payload.
-struct Sized {
-    verdict: Verdict,
-    length: usize,
-}
-
 pub fn write(list: ServiceList, out: &mut [u8]) -> Written
     ensures { λ r. ⌜ r ≡ writeOf list (now (out .entry)) .answer ⌝ }
     ensures { λ _. ⌜ now (out .exit) ≡ writeOf list (now (out .entry)) .output ⌝ }
@@ -63,19 +60,15 @@ pub fn write(list: ServiceList, out: &mut [u8]) -> Written
             place: DEVICE_SERVICES_COUNT,
         });
     }
-    let sized = size_up(list);
-    let verdict = sized.verdict;
-    match verdict {
-        Verdict::Fits => write_sized(list, sized.length, out),
-        Verdict::Fault(refusal) => Written::Refused(refusal),
-    }
+    write_listed(list, out)
 }
 
-// The sizes of the elements, up to the first over its limit.
-fn size_up(list: ServiceList) -> Sized
+// A count that fits: the sizes are judged, then the length and the room, and the bytes are put. All
+// stands in one function, since each that goes over the record copies it.
+fn write_listed(list: ServiceList, out: &mut [u8]) -> Written
     requires { ⌜ list .«device_services_count» ≤ 32 ⌝ }
-    ensures { λ r. ⌜ r .verdict ≡ firstFault (sizeVerdict list) (list .«device_services_count») ⌝ }
-    ensures { λ r. ⌜ (r .verdict ≡ Fits → r .length ≡ lengthOf list) ⌝ }
+    ensures { λ r. ⌜ r ≡ writeOf list (now (out .entry)) .answer ⌝ }
+    ensures { λ _. ⌜ now (out .exit) ≡ writeOf list (now (out .entry)) .output ⌝ }
 {
     let count = list.device_services_count;
     let mut end: usize = pair_place(count);
@@ -86,83 +79,60 @@ fn size_up(list: ServiceList) -> Sized
         let fields = element.fields;
         let size = ELEMENT_FIXED_PART as usize + 4 * fields.cid_count as usize;
         if (ELEMENT_LIMIT as usize) < size {
-            let verdict = Verdict::Fault(Refusal {
+            return Written::Refused(Refusal {
                 number: WRONG_SIZE,
                 place: pair_place(i),
             });
-            return Sized {
-                verdict,
-                length: end,
-            };
         }
         end += size;
         i += 1;
     }
-    let verdict = Verdict::Fits;
-    Sized {
-        verdict,
-        length: end,
+    if let Verdict::Fault(refusal) = judge_end(end, out.len()) {
+        return Written::Refused(refusal);
     }
-}
-
-// Sizes that fit: the length is judged, then the room, and the bytes are put.
-fn write_sized(list: ServiceList, n: usize, out: &mut [u8]) -> Written
-    requires { ⌜ (list .«device_services_count» ≤ 32) × (firstFault (sizeVerdict list) (list .«device_services_count») ≡ Fits) × (n ≡ lengthOf list) ⌝ }
-    ensures { λ r. ⌜ r ≡ writeOf list (now (out .entry)) .answer ⌝ }
-    ensures { λ _. ⌜ now (out .exit) ≡ writeOf list (now (out .entry)) .output ⌝ }
-{
-    let short = also(Verdict::Fits, MOST_INFORMATION < n, TOO_LONG, 0);
-    match also(short, out.len() < n, OUTPUT_TOO_SMALL, n) {
-        Verdict::Fits => {
-            put(list, out);
-            Written::Length(n)
-        }
-        Verdict::Fault(refusal) => Written::Refused(refusal),
-    }
-}
-
-// The payload's bytes.
-fn put(list: ServiceList, out: &mut [u8])
-    requires { ⌜ (list .«device_services_count» ≤ 32) × (lengthOf list ≤ 4096) ⌝ }
-    ensures { λ _. ⌜ now (out .exit) ≡ sets (now (out .entry)) 0 (bytesOf list) ⌝ }
-{
-    put_u32(out, DEVICE_SERVICES_COUNT, list.device_services_count);
-    put_u32(out, MAX_DSS_SESSIONS, list.max_dss_sessions);
-    put_elements(list, out);
-}
-
-// The pairs, then the elements. Both loops stand in one function, since each that goes over the record
-// copies it.
-fn put_elements(list: ServiceList, out: &mut [u8])
-    requires { ⌜ (list .«device_services_count» ≤ 32) × (lengthOf list ≤ 4096) ⌝ }
-    ensures { λ _. ⌜ now (out .exit) ≡ sets (sets (now (out .entry)) 8 (joined (pairBytes list) (list .«device_services_count»))) (fixedPart (list .«device_services_count»)) (joined (piece list) (list .«device_services_count»)) ⌝ }
-{
-    let count = list.device_services_count;
+    put_head(count, list.max_dss_sessions, out);
     let mut start: u32 = pair_place(count) as u32;
-    let mut i: u32 = 0;
-    while i < count {
-        let k = i as usize;
-        let element = list.elements[k];
-        let fields = element.fields;
-        let size = ELEMENT_FIXED_PART + 4 * fields.cid_count;
-        let pair = Range {
-            start,
-            length: size,
-        };
-        put_range(out, pair_place(i), pair);
-        start += size;
-        i += 1;
-    }
-    let mut at: u32 = pair_place(count) as u32;
     let mut j: u32 = 0;
     while j < count {
         let k = j as usize;
         let element = list.elements[k];
-        let fields = element.fields;
-        put_element(out, at, element);
-        at += ELEMENT_FIXED_PART + 4 * fields.cid_count;
+        start = put_listed(out, j, start, element);
         j += 1;
     }
+    Written::Length(end)
+}
+
+// The verdict on the length of the payload, and then on the room for it.
+fn judge_end(n: usize, room: usize) -> Verdict
+    ensures { λ r. ⌜ r ≡ firstOf (faultIf (ltb 4096 n) tooLong 0) (faultIf (ltb room n) outputTooSmall n) ⌝ }
+{
+    let short = also(Verdict::Fits, MOST_INFORMATION < n, TOO_LONG, 0);
+    also(short, room < n, OUTPUT_TOO_SMALL, n)
+}
+
+// What stands before the pairs.
+fn put_head(count: u32, sessions: u32, out: &mut [u8])
+    ensures { λ _. ⌜ now (out .exit) ≡ sets (sets (now (out .entry)) 0 (digits 4 count)) 4 (digits 4 sessions) ⌝ }
+{
+    put_u32(out, DEVICE_SERVICES_COUNT, count);
+    put_u32(out, MAX_DSS_SESSIONS, sessions);
+}
+
+// The pair and the bytes of an element that starts at `start`; where the next one does.
+fn put_listed(out: &mut [u8], number: u32, start: u32, element: ServiceElement) -> u32
+    requires { ⌜ start + (28 + 4 * element .fields .«cid_count») ≤ 4096 ⌝ }
+    ensures { λ r. ⌜ r ≡ start + (28 + 4 * element .fields .«cid_count») ⌝ }
+    ensures { λ _. ⌜ now (out .exit) ≡ sets (sets (now (out .entry)) (pairPlace number) (rangeBytes (range start (28 + 4 * element .fields .«cid_count»)))) start (elementBytes element) ⌝ }
+{
+    let fields = element.fields;
+    let size = ELEMENT_FIXED_PART + 4 * fields.cid_count;
+    let pair = Range {
+        start,
+        length: size,
+    };
+    put_range(out, pair_place(number), pair);
+    put_element(out, start, element);
+    start + size
 }
 
 fn put_element(out: &mut [u8], at: u32, element: ServiceElement)
