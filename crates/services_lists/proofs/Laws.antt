@@ -1,11 +1,11 @@
 -- The record that two lists say: its elements, sizes, places and bytes in the lists' numbers, and what lists that fit have.
 -- Assumes nothing.
 use mathlib.Core.Path.{_≡_, refl, sym, ap, _∙_}
-use mathlib.Core.Bool.{not}
+use mathlib.Core.Bool.{Bool, true, false, not}
 use mathlib.Core.List.{List, [], append-nil}
-use Prim.Native.Nat.{ℕ, zero, suc, _+_, _*_, _%_, _-_, _≤_, _<_}
+use Prim.Native.Nat.{ℕ, zero, suc, _+_, _*_, _/_, _%_, _-_, _≤_, _<_}
 use native.Mathlib.Omega.{arith}
-use borrow.Author.Tests.{ltb-false, lt-ltb, le-ltb}
+use borrow.Author.Tests.{ltb-false, lt-ltb, le-ltb, eqb-true}
 use lib.Dec.{ltb, eqb}
 use lib.ListN.{length, getD, take, drop, length-drop}
 use lib.Seq.{sets, getD-take, getD-drop, length-take-le}
@@ -18,7 +18,7 @@ use Rattle.protocol.specs.declared.Refusal.{Refusal}
 use Rattle.protocol.specs.declared.Verdict.{Verdict}
 use Rattle.protocol.specs.declared.Verdict.the-variants.{Fits, Fault}
 use Rattle.protocol.proofs.Tests.{equal-kept}
-use Rattle.protocol.proofs.Verdicts.{left-fits, right-fits, not-broken}
+use Rattle.protocol.proofs.Verdicts.{left-fits, right-fits, not-broken, last-fits}
 use Rattle.folds.specs.Folds.{firstFault, listOf, joined, sumOf}
 use Rattle.folds.proofs.Laws.{fits-next, fault-at, fault-same, join-same, list-at, sum-within}
 use Rattle.pairs.specs.Pair.{range, rangeBytes}
@@ -204,6 +204,21 @@ arranged Fits Fits Fits l c = refl
 -- a count that is not refused
 pub few-said : (v : Verdict) (n : ℕ) → firstOf v (faultIf (ltb 32 n) wrongCount 0) ≡ Fits → n ≤ 32
 few-said v n e = ltb-false 32 n (not-broken _ wrongCount 0 (right-fits v _ e))
+
+-- more numbers than those of 32 elements are too many elements, or none that are whole
+count-by : (n : ℕ) (b : Bool) → eqb (n % 7) 0 ≡ b → 224 < n
+    → firstOf (firstOf Fits (faultIf (not b) wrongCount 0)) (faultIf (ltb 32 (n / 7)) wrongCount 0) ≡ Fault (refusal wrongCount 0)
+unfolding firstOf faultIf
+count-by n true e h = rw (lt-ltb 32 (n / 7) (omega (arith, eqb-true (n % 7) 0 e)))
+count-by n false e h = refl
+
+pub count-many : (n : ℕ) → 224 < n
+    → firstOf (firstOf Fits (faultIf (not (eqb (n % 7) 0)) wrongCount 0)) (faultIf (ltb 32 (n / 7)) wrongCount 0) ≡ Fault (refusal wrongCount 0)
+count-many n h = count-by n (eqb (n % 7) 0) refl h
+
+pub count-few : (v : Verdict) (n : ℕ) → n ≤ 224 → firstOf v (faultIf (ltb 32 (n / 7)) wrongCount 0) ≡ v
+unfolding faultIf
+count-few v n h = rw (le-ltb 32 (n / 7) (omega arith)) (last-fits v)
 
 pub judged : (fields cids : List ℕ) → listsVerdict 0 fields cids
     ≡ firstOf (firstOf (firstOf Fits (faultIf (not (eqb (length fields % 7) 0)) wrongCount 0)) (faultIf (ltb 32 (countOf fields)) wrongCount 0))

@@ -4,7 +4,6 @@ use device_services::DEVICE_SERVICES_COUNT;
 use device_services::ELEMENT_FIXED_PART;
 use device_services::ELEMENT_LIMIT;
 use device_services::MAX_DSS_SESSIONS;
-use device_services::MOST_SERVICES;
 use device_services::pair_place;
 use pairs::Range;
 use pairs::put_range;
@@ -20,10 +19,14 @@ use protocol::Written;
 use protocol::also;
 use wire::put_u32;
 ghost use mathlib.Core.Path.{_≡_};
-ghost use Prim.Native.Nat.{_+_, _*_, _≤_, _<_};
+ghost use mathlib.Core.Bool.{not};
+ghost use Prim.Native.Nat.{_+_, _*_, _/_, _%_, _≤_, _<_};
+ghost use lib.Dec.{ltb, eqb};
 ghost use lib.ListN.{length};
 ghost use lib.Seq.{sets};
 ghost use Rattle.folds.specs.Folds.{firstFault, joined};
+ghost use Rattle.protocol.specs.Refusal.{wrongCount};
+ghost use Rattle.protocol.specs.Verdict.{firstOf, faultIf};
 ghost use Rattle.protocol.specs.declared.Verdict.the-variants.{Fits};
 ghost use Rattle.device_services.specs.DeviceServices.{fixedPart};
 ghost use Rattle.services_writer.specs.ServicesWriter.{lengthOf, sizeVerdict, cidBytes, pairBytes, piece};
@@ -32,6 +35,9 @@ ghost use Rattle.services_lists.specs.ServicesLists.{countOf, cidsCounte
 // The numbers of an element besides its CIDs: the four of its id, its two numbers and its count of
 // CIDs, which is the last.
 const FIELD_WORDS: usize = 7;
+
+// The numbers of 32 elements.
+const MOST_FIELDS: usize = 224;
 
 const COUNT_WORD: usize = 6;
 
@@ -56,26 +62,33 @@ pub fn write_all(max_dss_sessions: u32, fields: &[u32], cids: &[u32], out: &mut 
 fn judge(fields: &[u32], cids: &[u32]) -> Verdict
     ensures { λ r. ⌜ r ≡ listsVerdict 0 (now (fields .entry)) (now (cids .entry)) ⌝ }
 {
-    let count = fields.len() / FIELD_WORDS;
-    let whole = also(
-        Verdict::Fits,
-        fields.len() % FIELD_WORDS != 0,
-        WRONG_COUNT,
-        DEVICE_SERVICES_COUNT,
-    );
-    let few = also(
-        whole,
-        (MOST_SERVICES as usize) < count,
-        WRONG_COUNT,
-        DEVICE_SERVICES_COUNT,
-    );
-    if let Verdict::Fault(refusal) = few {
+    if let Verdict::Fault(refusal) = judge_count(fields.len()) {
         return Verdict::Fault(refusal);
     }
-    match total_cids(fields, count as u32) {
-        Totalled::Cids(total) => judge_total(count as u32, total, cids.len()),
+    let count = fields.len() as u32 / 7;
+    match total_cids(fields, count) {
+        Totalled::Cids(total) => judge_total(count, total, cids.len()),
         Totalled::Refused(refusal) => Verdict::Fault(refusal),
     }
+}
+
+// Whether n numbers are whole elements, and not too many. Both are refused alike, so that no number of
+// more than 32 bits is divided.
+fn judge_count(n: usize) -> Verdict
+    ensures { λ r. ⌜ r ≡ firstOf (firstOf Fits (faultIf (not (eqb (n % 7) 0)) wrongCount 0)) (faultIf (ltb 32 (n / 7)) wrongCount 0) ⌝ }
+{
+    if MOST_FIELDS < n {
+        return Verdict::Fault(Refusal {
+            number: WRONG_COUNT,
+            place: DEVICE_SERVICES_COUNT,
+        });
+    }
+    also(
+        Verdict::Fits,
+        n as u32 % 7 != 0,
+        WRONG_COUNT,
+        DEVICE_SERVICES_COUNT,
+    )
 }
 
 // The CIDs of all elements, where each size is within its limit.
@@ -133,7 +146,7 @@ fn write_judged(max_dss_sessions: u32, fields: &[u32], cids: &[u32], out: &mut [
     ensures { λ r. ⌜ r ≡ writeAllOf «max_dss_sessions» (now (fields .entry)) (now (cids .entry)) (now (out .entry)) .answer ⌝ }
     ensures { λ _. ⌜ now (out .exit) ≡ writeAllOf «max_dss_sessions» (now (fields .entry)) (now (cids .entry)) (now (out .entry)) .output ⌝ }
 {
-    let count = (fields.len() / FIELD_WORDS) as u32;
+    let count = fields.len() as u32 / 7;
     let n = length_of(count, cids.len());
     if out.len() < n {
         return Written::Refused(Refusal {
