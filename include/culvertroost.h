@@ -79,15 +79,16 @@
 extern "C" {
 #endif
 
-/* This library's own version. A call or a struct that changes raises the first two. */
-#define CVR_LIBRARY_VERSION "0.2.0"
+/* This library's own version. A call, a struct or a number that changes raises the first two. */
+#define CVR_LIBRARY_VERSION "0.3.0"
 #define CVR_LIBRARY_VERSION_MAJOR 0
-#define CVR_LIBRARY_VERSION_MINOR 2
+#define CVR_LIBRARY_VERSION_MINOR 3
 #define CVR_LIBRARY_VERSION_PATCH 0
 
 /* ---- refusals ---------------------------------------------------------------------------------- */
 
-/* The number of a refusal. Its place is the field that is wrong, where no other is named. */
+/* The number of a refusal. Its place is the field that is wrong, where no other is named.
+ * docs/refusals.md has an example of each, and what usually causes it. */
 enum cvr_refusal_number {
     CVR_NO_REFUSAL = 0,
     /* Fewer bytes than the header or the fixed part. Place: the length given. */
@@ -101,8 +102,8 @@ enum cvr_refusal_number {
     CVR_WRONG_FRAGMENT = 4,
     /* Over CVR_MOST_INFORMATION bytes. Place: a message's information length field; else 0. */
     CVR_TOO_LONG = 5,
-    /* An offset in the fixed part, or not a multiple of 4; or an offset, but size 0. */
-    CVR_WRONG_OFFSET = 6,
+    /* An offset inside the fixed part. Place: the offset field. */
+    CVR_OFFSET_IN_FIXED_PART = 6,
     /* Offset and size reach beyond the payload. Place: the offset field. */
     CVR_PAST_END = 7,
     /* A size over its limit, odd for a text, or unfit for its list. Place: the offset field. */
@@ -122,17 +123,24 @@ enum cvr_refusal_number {
     /* The count of a list is outside its limits. */
     CVR_WRONG_COUNT = 15,
     /* A transfer size outside its limits. Place: 4 for a fragment, else 0. */
-    CVR_WRONG_TRANSFER_SIZE = 16
+    CVR_WRONG_TRANSFER_SIZE = 16,
+    /* An offset that is not a multiple of 4. Place: the offset field. */
+    CVR_MISALIGNED_OFFSET = 17,
+    /* An offset other than 0 beside size 0. Place: the offset field. */
+    CVR_OFFSET_WITH_ZERO_SIZE = 18
 };
+
+/* The faults of an offset/size pair are judged at its offset field, in this order: WRONG_SIZE (over its
+ * limit, odd for a text), OFFSET_WITH_ZERO_SIZE, OFFSET_IN_FIXED_PART, MISALIGNED_OFFSET, PAST_END. */
 
 /* The name of a refusal's number, for a log. */
 static inline const char *cvr_refusal_name(uint32_t number)
 {
     static const char *const names[] = {
         "NO_REFUSAL", "TOO_SHORT", "WRONG_LENGTH", "UNKNOWN", "WRONG_FRAGMENT", "TOO_LONG",
-        "WRONG_OFFSET", "PAST_END", "WRONG_SIZE", "OUTSIDE_TABLE", "CONTRADICTION",
+        "OFFSET_IN_FIXED_PART", "PAST_END", "WRONG_SIZE", "OUTSIDE_TABLE", "CONTRADICTION",
         "OUTPUT_TOO_SMALL", "WRONG_VERSION", "ABOVE_HOST", "VERSION_NOT_LISTED", "WRONG_COUNT",
-        "WRONG_TRANSFER_SIZE"
+        "WRONG_TRANSFER_SIZE", "MISALIGNED_OFFSET", "OFFSET_WITH_ZERO_SIZE"
     };
     return number < sizeof names / sizeof names[0] ? names[number] : "?";
 }
@@ -392,9 +400,9 @@ typedef struct cvr_registration_answer {
 } cvr_registration_answer;
 
 /* Reads a payload with 48 fixed bytes at 1.00, 52 at 2.00. The ranges of the texts lie inside it.
- * Refuses: WRONG_VERSION; TOO_SHORT; TOO_LONG at 0; OUTSIDE_TABLE at 4, 8, 12, 16; for each text, at
- * 20, 28, 36: WRONG_SIZE, WRONG_OFFSET, PAST_END; OUTSIDE_TABLE at 44, 48; CONTRADICTION at 12 (a
- * class, though not registered). */
+ * Refuses: WRONG_VERSION; TOO_SHORT; TOO_LONG at 0; OUTSIDE_TABLE at 4, 8, 12, 16; for each text the
+ * faults of a pair, at 20, 28, 36; OUTSIDE_TABLE at 44, 48; CONTRADICTION at 12 (a class, though not
+ * registered). */
 cvr_registration_answer cvr_registration_read(uint16_t version, const uint8_t *payload, size_t length);
 
 /* Writes the record and the three texts, each a pointer and its length in bytes:
@@ -458,7 +466,7 @@ typedef struct cvr_signal_state_answer {
 
 /* Reads a payload of exactly 20 bytes at 1.00, or with 28 fixed bytes at 2.00.
  * Refuses: WRONG_VERSION; TOO_SHORT; at 1.00 WRONG_LENGTH, at 2.00 TOO_LONG at 0; OUTSIDE_TABLE at 0,
- * 4; of the list, at 20: WRONG_SIZE (over 324), WRONG_OFFSET, PAST_END, WRONG_SIZE (under 4);
+ * 4; of the list, at 20: the faults of a pair (the limit is 324), WRONG_SIZE (under 4);
  * WRONG_COUNT at the count; WRONG_SIZE at 20 (not the count's); OUTSIDE_TABLE at the first wrong field
  * of an entry; CONTRADICTION at 0 (an RSSI beside known entries). */
 cvr_signal_state_answer cvr_signal_state_read(uint16_t version, const uint8_t *payload, size_t length);
@@ -565,7 +573,7 @@ typedef struct cvr_service_list {
 
 /* Each of these five judges the whole payload first.
  * Refuses: TOO_SHORT (under 8); WRONG_COUNT at 0; TOO_SHORT (pairs missing); TOO_LONG at 0; for each
- * element, at its offset field: WRONG_SIZE (over 540), WRONG_OFFSET, PAST_END, WRONG_SIZE (under 28);
+ * element, at its offset field: the faults of a pair (the limit is 540), WRONG_SIZE (under 28);
  * WRONG_COUNT at its CID count; WRONG_SIZE at its offset field (not the count's). */
 
 /* Shows the list's head. */

@@ -1,6 +1,6 @@
 #!/bin/sh
-# The static library as its users see it: the header and what its tables say, null pointers, the C
-# example, an install, the Rust example, and the comparison with the second program.
+# The static library as its users see it: the header and what its tables say, null pointers, the page of
+# refusals, the C example, an install, the Rust example, and the comparison with the second program.
 set -u
 cd "$(dirname "$0")/.." || exit 2
 name=library
@@ -125,6 +125,7 @@ step 'example in the header' header_example
 step 'what is exported' exported
 step 'null pointers' null
 step 'the tables of the header' tried tables
+step 'the page of refusals' tests/refusals.sh
 step 'C example' plain
 step 'C example under valgrind' under_valgrind
 step 'C example with sanitizers' sanitized

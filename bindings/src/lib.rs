@@ -1,7 +1,8 @@
 //! The control messages of MBIM with extensions 2.0, for hosts and for modems: a safe wrapper of the
 //! static library. Nothing here allocates, and no input makes it panic.
 //!
-//! A function gives its answer or a [`Refusal`]: a number and a place. A refused call writes nothing.
+//! A function gives its answer or a [`Refusal`]: a number of [`refusals`] and a place. A refused call
+//! writes nothing.
 //! Versions are BCD numbers, [`VERSION_1_00`] or [`VERSION_2_00`]; other numbers are refused. A
 //! record's member that only the other version has is 0 when read, and a writer doesn't look at it.
 
@@ -12,6 +13,7 @@ pub mod c;
 mod ends;
 mod messages;
 mod payloads;
+pub mod refusals;
 
 pub use c::{
     DeviceService, DeviceServices, MessageHeader, PacketService, Refusal, Registration, RsrpSnr,
@@ -70,35 +72,15 @@ impl ServiceId {
     }
 }
 
-/// The names of a refusal's numbers; 0 is none.
-const NAMES: [&str; 17] = [
-    "NO_REFUSAL",
-    "TOO_SHORT",
-    "WRONG_LENGTH",
-    "UNKNOWN",
-    "WRONG_FRAGMENT",
-    "TOO_LONG",
-    "WRONG_OFFSET",
-    "PAST_END",
-    "WRONG_SIZE",
-    "OUTSIDE_TABLE",
-    "CONTRADICTION",
-    "OUTPUT_TOO_SMALL",
-    "WRONG_VERSION",
-    "ABOVE_HOST",
-    "VERSION_NOT_LISTED",
-    "WRONG_COUNT",
-    "WRONG_TRANSFER_SIZE",
-];
-
 impl Refusal {
+    /// The name of its number in [`refusals`].
     pub fn name(&self) -> &'static str {
-        NAMES.get(self.number as usize).copied().unwrap_or("?")
+        refusals::name(self.number)
     }
 
     /// What an answer holds beside no refusal.
     fn or<T>(self, answer: T) -> Result<T, Refusal> {
-        if self.number == 0 {
+        if self.number == refusals::NO_REFUSAL {
             return Ok(answer);
         }
         Err(self)

@@ -185,15 +185,13 @@ impl Refusable for Refusal {
     }
 }
 
-const LAST_NUMBER: u32 = 16;
-
 /// The answer, if it is none of a refusal.
 pub fn accepted<T: Refusable>(answer: T) -> Result<T, Stop> {
     let refusal = answer.refusal();
     match refusal {
         Refusal { number: 0, place: 0 } => Ok(answer),
         Refusal { number: 0, .. } => Err(Stop::Wrong("a place without a refusal")),
-        _ if refusal.number > LAST_NUMBER => Err(Stop::Wrong("no number of a refusal")),
+        _ if refusal.name() == "?" => Err(Stop::Wrong("no number of a refusal")),
         _ if answer != T::refused(refusal) => Err(Stop::Wrong("members beside a refusal")),
         _ => Err(Stop::Refused(refusal)),
     }

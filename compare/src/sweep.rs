@@ -67,8 +67,9 @@ pub fn all(sides: &mut Sides) {
     made(sides);
 }
 
-/// Writes with each number of the record changed, and reads the payload with each word changed.
-fn record(sides: &mut Sides, write: u32, read: u32, record: &[u64], input: &[u8]) {
+/// Writes with each number of the record changed, and reads the payload with each word changed. Gives
+/// the payload.
+fn record(sides: &mut Sides, write: u32, read: u32, record: &[u64], input: &[u8]) -> Vec<u8> {
     let good = [&[ROOM], record].concat();
     changed_numbers(sides, write, &good, 1, input);
     let payload = sides.ask(write, &good, input).output;
@@ -76,6 +77,7 @@ fn record(sides: &mut Sides, write: u32, read: u32, record: &[u64], input: &[u8]
         changed_bytes(sides, read, &[version], &payload);
     }
     rooms(sides, write, record, input, payload.len());
+    payload
 }
 
 /// Asks with every room up to one more than is needed.
@@ -112,6 +114,26 @@ fn changed_bytes(sides: &mut Sides, question: u32, arguments: &[u64], good: &[u8
     }
 }
 
+/// Asks with offset and size of each pair changed together.
+fn changed_pairs(
+    sides: &mut Sides,
+    question: u32,
+    arguments: &[u64],
+    good: &[u8],
+    places: &[usize],
+) {
+    for place in places {
+        for offset in numbers() {
+            for size in [0, 4, 11, 24, 28, 541] {
+                let mut input = good.to_vec();
+                put(&mut input, *place, offset);
+                put(&mut input, place + 4, size);
+                sides.ask(question, arguments, &input);
+            }
+        }
+    }
+}
+
 fn packet(sides: &mut Sides, version: u64) {
     let good = [version, 0, 2, 0x20, 0x40, 1, 50_000_000, 150_000_000];
     record(sides, q::PACKET_WRITE, q::PACKET_READ, &good, &[]);
@@ -119,14 +141,16 @@ fn packet(sides: &mut Sides, version: u64) {
 
 fn registration(sides: &mut Sides, version: u64) {
     let good = [version, 0, 3, 1, 0x20, 1, 0, 0x20, 10, 4, 126];
-    record(sides, q::REGISTRATION_WRITE, q::REGISTRATION_READ, &good, &[0x30; 150]);
+    let payload = record(sides, q::REGISTRATION_WRITE, q::REGISTRATION_READ, &good, &[0x30; 150]);
+    changed_pairs(sides, q::REGISTRATION_READ, &[version], &payload, &[20, 28, 36]);
     let unregistered = [version, 0, 2, 1, 0, 1, 0, 0x20, 0, 0, 0];
     record(sides, q::REGISTRATION_WRITE, q::REGISTRATION_READ, &unregistered, &[]);
 }
 
 fn signal(sides: &mut Sides, version: u64) {
     let known = [version, 99, 7, 5, 0, 0, 2, 60, 87, 0, 0, 0x20, 0, 128, 0, 0, 0x40];
-    record(sides, q::SIGNAL_WRITE, q::SIGNAL_READ, &known, &[]);
+    let payload = record(sides, q::SIGNAL_WRITE, q::SIGNAL_READ, &known, &[]);
+    changed_pairs(sides, q::SIGNAL_READ, &[version], &payload, &[20]);
     let quiet = [version, 31, 99, 5, 0, 0, 1, 127, 128, 0, 0, 0x80];
     record(sides, q::SIGNAL_WRITE, q::SIGNAL_READ, &quiet, &[]);
     record(sides, q::SIGNAL_WRITE, q::SIGNAL_READ, &[version, 31, 99, 5, 0, 0, 0], &[]);
@@ -148,6 +172,7 @@ fn services(sides: &mut Sides) {
     changed_numbers(sides, q::SERVICES_WRITE, &good, 1, &ids);
     let payload = sides.ask(q::SERVICES_WRITE, &good, &ids).output;
     changed_bytes(sides, q::SERVICES_READ, &[], &payload);
+    changed_pairs(sides, q::SERVICES_READ, &[], &payload, &[8, 16, 24]);
     for room in 0..4 {
         changed_numbers(sides, q::ELEMENT, &[room, 1], 1, &payload);
     }

@@ -378,13 +378,28 @@ mod tests {
         let payload = written(&[of(A, &[1]), of(B, &[2, 3])]);
         let read = |payload: &[u8]| read(payload).map(|services| services.count());
         assert_eq!(read(&with(&payload, 20, 541)), Err(Refusal::new(8, 16)));
-        assert_eq!(read(&with(&payload, 20, 0)), Err(Refusal::new(6, 16)));
+        assert_eq!(read(&with(&payload, 20, 0)), Err(Refusal::new(18, 16)));
         assert_eq!(read(&with(&payload, 16, 20)), Err(Refusal::new(6, 16)));
         assert_eq!(read(&with(&payload, 16, 0xFFFF_FFFC)), Err(Refusal::new(7, 16)));
         assert_eq!(read(&with(&payload, 20, 27)), Err(Refusal::new(8, 16)));
         assert_eq!(read(&with(&payload, 24 + 24, 129)), Err(Refusal::new(15, 48)));
         assert_eq!(read(&with(&payload, 24 + 24, 2)), Err(Refusal::new(8, 8)));
         assert_eq!(read(&with(&payload, 12, 31)), Err(Refusal::new(8, 8)));
+    }
+
+    #[test]
+    fn offset_faults_are_told_apart_wherever_the_list_is_read() {
+        let payload = written(&[of(A, &[1]), of(B, &[2, 3])]);
+        let faults = [(52, 0, 18), (3, 0, 18), (23, 28, 6), (57, 27, 17), (u32::MAX, 28, 17)];
+        for (offset, size, number) in faults {
+            let payload = with(&with(&payload, 16, offset), 20, size);
+            let refusal = Refusal::new(number, 16);
+            assert_eq!(read(&payload), Err(refusal));
+            assert_eq!(element(&payload, 0, &mut []), Err(refusal));
+            assert_eq!(first_of_service(&payload, &A, &mut []), Err(refusal));
+            assert_eq!(all(&payload, &mut [], &mut []), Err(refusal));
+            assert_eq!(listed(&payload, &A, 1), Err(refusal));
+        }
     }
 
     #[test]

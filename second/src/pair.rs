@@ -2,7 +2,10 @@
 //! The rules of a pair stand here once for texts and lists of every payload.
 
 use crate::bytes::word;
-use crate::refusal::{require, Refusal, BEYOND_PAYLOAD, OFFSET_WRONG, SIZE_WRONG};
+use crate::refusal::{
+    require, Refusal, BEYOND_PAYLOAD, OFFSET_IN_FIXED_PART, OFFSET_MISALIGNED,
+    OFFSET_WITH_ZERO_SIZE, SIZE_WRONG,
+};
 
 /// A range of the payload, measured from the payload's start.
 #[derive(Clone, Copy, Debug, Default, PartialEq, Eq)]
@@ -47,14 +50,15 @@ pub fn judge_list(pair: Range, field: usize, limit: u32, bounds: Bounds) -> Resu
     judge_offset(pair, field, bounds)
 }
 
+/// The offset's rules: zero size, fixed part, alignment, and the range's end.
 #[inline(always)]
 fn judge_offset(pair: Range, field: usize, bounds: Bounds) -> Result<(), Refusal> {
     if pair.size == 0 {
-        return require(pair.offset == 0, OFFSET_WRONG, field);
+        return require(pair.offset == 0, OFFSET_WITH_ZERO_SIZE, field);
     }
     let offset = u64::from(pair.offset);
-    let stands_well = offset >= bounds.fixed as u64 && offset.is_multiple_of(4);
-    require(stands_well, OFFSET_WRONG, field)?;
+    require(offset >= bounds.fixed as u64, OFFSET_IN_FIXED_PART, field)?;
+    require(offset.is_multiple_of(4), OFFSET_MISALIGNED, field)?;
     let end = offset + u64::from(pair.size);
     require(end <= bounds.length as u64, BEYOND_PAYLOAD, field)
 }
@@ -76,16 +80,31 @@ mod tests {
 
     #[test]
     fn size_zero_wants_offset_zero() {
-        assert_eq!(text(52, 0), Err(Refusal::new(6, 20)));
+        for offset in [3, 4, 48, 52, 53, 0xFFFF_FFFC, u32::MAX] {
+            assert_eq!(text(offset, 0), Err(Refusal::new(18, 20)));
+        }
         assert_eq!(text(0, 0), Ok(()));
+    }
+
+    #[test]
+    fn the_fixed_part_comes_before_alignment() {
+        for offset in [0, 5, 48, 51] {
+            assert_eq!(text(offset, 10), Err(Refusal::new(6, 20)));
+        }
+        for offset in [53, 54, 55] {
+            assert_eq!(text(offset, 2), Err(Refusal::new(17, 20)));
+        }
     }
 
     #[test]
     fn size_comes_before_offset_and_offset_before_end() {
         assert_eq!(text(1, 13), Err(Refusal::new(8, 20)));
         assert_eq!(text(52, 14), Err(Refusal::new(8, 20)));
+        assert_eq!(text(53, 13), Err(Refusal::new(8, 20)));
         assert_eq!(text(48, 10), Err(Refusal::new(6, 20)));
-        assert_eq!(text(0xFFFF_FFFF, 10), Err(Refusal::new(6, 20)));
+        assert_eq!(text(53, 10), Err(Refusal::new(17, 20)));
+        assert_eq!(text(57, 10), Err(Refusal::new(17, 20)));
+        assert_eq!(text(0xFFFF_FFFF, 10), Err(Refusal::new(17, 20)));
         assert_eq!(text(56, 10), Err(Refusal::new(7, 20)));
         assert_eq!(text(52, 12), Ok(()));
     }

@@ -1,4 +1,5 @@
-//! A refusal: a number of the scope's table and a place, and nothing else.
+//! A refusal: a number and a place, and nothing else. The numbers are those of the scope's
+//! table and of the change requests.
 
 /// Fewer bytes than the header or fixed part.
 pub const TOO_SHORT: u32 = 1;
@@ -10,8 +11,8 @@ pub const UNKNOWN_KIND: u32 = 3;
 pub const FRAGMENT_WRONG: u32 = 4;
 /// Over 4,096 information bytes.
 pub const INFORMATION_TOO_LONG: u32 = 5;
-/// Offset not 0 with size 0, in the fixed part, or not a multiple of 4.
-pub const OFFSET_WRONG: u32 = 6;
+/// Offset in the fixed part.
+pub const OFFSET_IN_FIXED_PART: u32 = 6;
 /// Offset plus size beyond the payload.
 pub const BEYOND_PAYLOAD: u32 = 7;
 /// Size over its limit, odd for text, or unfit for its list.
@@ -32,6 +33,10 @@ pub const VERSION_NOT_LISTED: u32 = 14;
 pub const COUNT_OVER_LIMIT: u32 = 15;
 /// Transfer size outside 64 to 4,096.
 pub const TRANSFER_SIZE: u32 = 16;
+/// Offset not a multiple of 4.
+pub const OFFSET_MISALIGNED: u32 = 17;
+/// Offset not 0 with size 0.
+pub const OFFSET_WITH_ZERO_SIZE: u32 = 18;
 
 /// A refusal: the number of its rule and a byte offset.
 #[derive(Clone, Copy, Debug, PartialEq, Eq)]

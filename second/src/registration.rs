@@ -272,7 +272,18 @@ mod tests {
         let far = with(with(payload.clone(), 20, 0xFFFF_FFFC), 24, 8);
         assert_eq!(read(Version::V2, &far), Err(Refusal::new(7, 20)));
         let empty = with(payload, 24, 0);
-        assert_eq!(read(Version::V2, &empty), Err(Refusal::new(6, 20)));
+        assert_eq!(read(Version::V2, &empty), Err(Refusal::new(18, 20)));
+    }
+
+    #[test]
+    fn each_pair_tells_its_offset_faults_apart() {
+        let good = written(&record(Some(0)));
+        for field in [20, 28, 36] {
+            for (offset, size, number) in [(3, 0, 18), (53, 0, 18), (51, 2, 6), (53, 2, 17)] {
+                let payload = with(with(good.clone(), field, offset), field + 4, size);
+                assert_eq!(read(Version::V2, &payload), Err(Refusal::new(number, field)));
+            }
+        }
     }
 
     #[test]

@@ -303,12 +303,16 @@ mod tests {
         let read = |payload: &[u8]| read(Version::V2, payload).map(|_| ());
         assert_eq!(read(&with(&payload, 24, 325)), Err(Refusal::new(8, 20)));
         assert_eq!(read(&with(&payload, 20, 24)), Err(Refusal::new(6, 20)));
+        assert_eq!(read(&with(&payload, 20, 27)), Err(Refusal::new(6, 20)));
+        assert_eq!(read(&with(&payload, 20, 29)), Err(Refusal::new(17, 20)));
+        assert_eq!(read(&with(&with(&payload, 20, 29), 24, 3)), Err(Refusal::new(17, 20)));
         assert_eq!(read(&with(&payload, 24, 45)), Err(Refusal::new(7, 20)));
         assert_eq!(read(&with(&payload, 24, 3)), Err(Refusal::new(8, 20)));
         assert_eq!(read(&with(&with(&payload, 24, 4), 28, 0)), Err(Refusal::new(15, 28)));
         assert_eq!(read(&with(&payload, 28, 17)), Err(Refusal::new(15, 28)));
         assert_eq!(read(&with(&payload, 28, 1)), Err(Refusal::new(8, 20)));
-        assert_eq!(read(&with(&payload, 24, 0)), Err(Refusal::new(6, 20)));
+        assert_eq!(read(&with(&payload, 24, 0)), Err(Refusal::new(18, 20)));
+        assert_eq!(read(&with(&with(&payload, 20, 3), 24, 0)), Err(Refusal::new(18, 20)));
         assert_eq!(read(&with(&payload, 32, 128)), Err(Refusal::new(9, 32)));
         assert_eq!(read(&with(&payload, 36, 129)), Err(Refusal::new(9, 36)));
         assert_eq!(read(&with(&payload, 48, 0)), Err(Refusal::new(9, 48)));

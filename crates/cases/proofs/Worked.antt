@@ -13,10 +13,10 @@ use Rattle.registration.specs.Registration.{recordAt as registrationAt, textsAt
 use Rattle.signal_quality.specs.Decibels.{exactly, coded, rsrpOf, snrOf}
 use Rattle.folds.specs.Folds.{firstFault, anyOf, listOf}
 use Rattle.signal_state.specs.SignalState.{stateAt, numberRules, listRules, entryAt, entriesVerdict, anyKnown, bodyVerdict, headOf, verdictAt, readOf as signalRead}
-use Rattle.device_services.specs.DeviceServices.{headAt, lengthVerdict, verdictOf as servicesVerdict, readOf as servicesRead}
+use Rattle.device_services.specs.DeviceServices.{headAt, lengthVerdict, elementVerdict, verdictOf as servicesVerdict, readOf as servicesRead}
 use Rattle.message.specs.Message.{wholeBy, wholeOf, headerBy, headerOf, fragmentBy, fragmentOf}
 use Rattle.cases.specs.Cases.{AllHold, cases, AsWorked}
 
 pub as-worked : AsWorked
-unfolding cases odd ofBits u16At u32At u64At over fitted faultIf firstOf judgeFrom exactLength openLength given withRoom writing classBits sumOfBits maskOf isBit packetAt laterRules formRules packetRules packetVerdict packetRead versionAt versionRules versionVerdict versionRead versionBytes versionWrite rangeAt pairRules pairVerdict rangeBytes registrationAt textsAt frontRules textsVerdict backRules registrationRead sizeRules writtenVerdict laidTexts frontBytes textsBytes backBytes fixedBytes registrationBytes registrationWrite exactly coded rsrpOf snrOf firstFault anyOf listOf stateAt numberRules listRules entryAt entriesVerdict anyKnown bodyVerdict headOf verdictAt signalRead headAt lengthVerdict servicesVerdict servicesRead wholeBy wholeOf headerBy headerOf fragmentBy fragmentOf
-as-worked = (refl, (refl, (refl, (refl, (refl, (refl, (refl, (refl, (refl, (refl, (refl, (refl, (refl, (refl, (refl, (refl, (refl, (refl, (refl, (refl, (refl, (refl, (refl, (refl, (refl, (refl, (refl, tt)))))))))))))))))))))))))))
+unfolding cases odd ofBits u16At u32At u64At over fitted faultIf firstOf judgeFrom exactLength openLength given withRoom writing classBits sumOfBits maskOf isBit packetAt laterRules formRules packetRules packetVerdict packetRead versionAt versionRules versionVerdict versionRead versionBytes versionWrite rangeAt pairRules pairVerdict rangeBytes registrationAt textsAt frontRules textsVerdict backRules registrationRead sizeRules writtenVerdict laidTexts frontBytes textsBytes backBytes fixedBytes registrationBytes registrationWrite exactly coded rsrpOf snrOf firstFault anyOf listOf stateAt numberRules listRules entryAt entriesVerdict anyKnown bodyVerdict headOf verdictAt signalRead headAt lengthVerdict elementVerdict servicesVerdict servicesRead wholeBy wholeOf headerBy headerOf fragmentBy fragmentOf
+as-worked = (refl, (refl, (refl, (refl, (refl, (refl, (refl, (refl, (refl, (refl, (refl, (refl, (refl, (refl, (refl, (refl, (refl, (refl, (refl, (refl, (refl, (refl, (refl, (refl, (refl, (refl, (refl, (refl, (refl, (refl, (refl, (refl, tt))))))))))))))))))))))))))))))))

@@ -1,11 +1,11 @@
--- The cases of document 01 that are marked P ("Cases worked out"), in its order, as one list.
+-- The cases of document 01 that are marked P ("Cases worked out"), in its order, as one list, with what order 1 of document 02 made of them.
 -- In this order: what a case says; the bytes that the cases are about; the cases.
 use Prim.Native.Nat.{ℕ}
 use mathlib.Core.Path.{_≡_}
 use mathlib.Core.List.{List, [], _∷_, _++_}
 use lib.ListN.{take, drop, replicate}
 use lib.Ieee.{binary32, ofBits}
-use Rattle.protocol.specs.Refusal.{refusal, tooShort, wrongLength, wrongOffset, pastEnd, outsideTable}
+use Rattle.protocol.specs.Refusal.{refusal, tooShort, wrongLength, offsetInFixedPart, pastEnd, outsideTable, misalignedOffset, offsetWithZeroSize}
 use Rattle.protocol.specs.Verdict.{Writing}
 use Rattle.protocol.specs.declared.Verdict.{Verdict}
 use Rattle.protocol.specs.declared.Verdict.the-variants.{Fault}
@@ -17,7 +17,7 @@ use Rattle.packet_service.specs.declared.PacketForm.the-variants.{V2 as Form2}
 use Rattle.packet_service.specs.declared.PacketService.{PacketService}
 use Rattle.packet_service.specs.declared.PacketServiceRead.{PacketServiceRead}
 use Rattle.packet_service.specs.declared.PacketServiceRead.the-variants.{Info as PacketInfo, Refused as PacketRefused}
-use Rattle.pairs.specs.Pair.{range, verdictOf}
+use Rattle.pairs.specs.Pair.{range, verdictOf, rangeBytes}
 use Rattle.pairs.specs.declared.Range.{Range}
 use Rattle.pairs.specs.declared.PairKind.the-variants.{Text}
 use Rattle.registration.specs.Registration.{texts, readOf as registrationRead, bytesOf as registrationBytes, writeOf as registrationWrite}
@@ -142,8 +142,16 @@ homeWritten =
     ∷ 0x30 ∷ 0x00 ∷ 0x30 ∷ 0x00 ∷ 0x31 ∷ 0x00 ∷ 0x30 ∷ 0x00 ∷ 0x31 ∷ 0x00 ∷ 0x00 ∷ 0x00 ∷ []
 
 -- the pair of ProviderId replaced
-abbrev pub withPair : List ℕ → List ℕ
-withPair pair = take 20 homeWritten ++ (pair ++ drop 28 homeWritten)
+abbrev pub withPair : Range → List ℕ
+withPair pair = take 20 homeWritten ++ (rangeBytes pair ++ drop 28 homeWritten)
+
+-- a services list of one element, and nothing behind its pair
+abbrev pub oneElement : Range → List ℕ
+oneElement pair = 1 ∷ 0 ∷ 0 ∷ 0 ∷ 0 ∷ 0 ∷ 0 ∷ 0 ∷ rangeBytes pair
+
+-- a signal state at 2.00 that knows nothing, and nothing behind its pair
+abbrev pub noSignal : Range → List ℕ
+noSignal pair = 99 ∷ 0 ∷ 0 ∷ 0 ∷ 99 ∷ 0 ∷ 0 ∷ 0 ∷ (replicate 12 0 ++ rangeBytes pair)
 
 -- ---- the cases
 
@@ -157,9 +165,19 @@ cases =
     ∷ registrationShown V1 (homeBytes (RegistrationForm2 0) 0x20) (RegistrationInfo (home RegistrationForm1 0x20) (texts (range 52 10) (range 0 0) (range 0 0)))
     ∷ registrationShown V1 (homeBytes (RegistrationForm2 0) 0x60) (RegistrationRefused (refusal outsideTable 12))
     ∷ registrationWritten (home RegistrationForm1 0x20) providerId 60 (record { answer = Length 60; output = homeBytes RegistrationForm1 0x20 })
-    ∷ registrationShown V2 (homeBytes RegistrationForm1 0x20) (RegistrationRefused (refusal wrongOffset 20))
+    ∷ registrationShown V2 (homeBytes RegistrationForm1 0x20) (RegistrationRefused (refusal offsetInFixedPart 20))
+    -- of the pair alone, and as a whole payload
     ∷ pairJudged 52 12 20 64 (range 0xFFFFFFFC 8) (Fault (refusal pastEnd 20))
-    ∷ pairJudged 52 12 20 64 (range 52 0) (Fault (refusal wrongOffset 20))
+    ∷ registrationShown V2 (withPair (range 0xFFFFFFFC 8)) (RegistrationRefused (refusal pastEnd 20))
+    -- 6 in document 01; order 1: "The case of size 0 with offset 52 in 01 becomes 18"
+    ∷ pairJudged 52 12 20 64 (range 52 0) (Fault (refusal offsetWithZeroSize 20))
+    ∷ registrationShown V2 (withPair (range 52 0)) (RegistrationRefused (refusal offsetWithZeroSize 20))
+    -- order 1: "zero size first, then fixed part, then alignment", and then 7; the list comes after
+    ∷ registrationShown V2 (withPair (range 3 0)) (RegistrationRefused (refusal offsetWithZeroSize 20))
+    ∷ registrationShown V2 (withPair (range 51 10)) (RegistrationRefused (refusal offsetInFixedPart 20))
+    ∷ registrationShown V2 (withPair (range 54 12)) (RegistrationRefused (refusal misalignedOffset 20))
+    ∷ signalShown V2 (noSignal (range 30 24)) (signalRefused (refusal misalignedOffset 20))
+    ∷ servicesShown (oneElement (range 52 0)) (ServicesRefused (refusal offsetWithZeroSize 8))
     ∷ versionShown [] (VersionRefused (refusal tooShort 0))
     ∷ packetShown V1 [] (PacketRefused (refusal tooShort 0))
     ∷ packetShown V2 [] (PacketRefused (refusal tooShort 0))
@@ -170,8 +188,6 @@ cases =
     ∷ servicesShown [] (ServicesRefused (refusal tooShort 0))
     ∷ wholeJudged [] (whole.Refused (refusal tooShort 0))
     ∷ fragmentJudged [] (fragment.Refused (refusal tooShort 0))
-    ∷ registrationShown V2 (withPair (0xFC ∷ 0xFF ∷ 0xFF ∷ 0xFF ∷ 8 ∷ 0 ∷ 0 ∷ 0 ∷ [])) (RegistrationRefused (refusal pastEnd 20))
-    ∷ registrationShown V2 (withPair (52 ∷ 0 ∷ 0 ∷ 0 ∷ 0 ∷ 0 ∷ 0 ∷ 0 ∷ [])) (RegistrationRefused (refusal wrongOffset 20))
     -- −156 and −31 dBm, −23 and 40 dB, by their bit patterns
     ∷ rsrpRead 1 (Read (Dbm (ofBits binary32 0xC31C0000)))
     ∷ rsrpRead 126 (Read (Dbm (ofBits binary32 0xC1F80000)))

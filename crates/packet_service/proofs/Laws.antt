@@ -1,15 +1,12 @@
--- The length of the bytes, and what follows a refusal.
+-- The length of the bytes.
 -- Assumes nothing.
 use mathlib.Core.Path.{_≡_, refl}
-use mathlib.Core.List.{List, [], _∷_, _++_}
+use mathlib.Core.List.{_++_}
 use lib.ListN.{length}
 use Rattle.packet_service.specs.declared.PacketForm.{PacketForm}
 use Rattle.packet_service.specs.declared.PacketForm.the-variants.{V1 as Form1, V2 as Form2}
 use Rattle.packet_service.specs.declared.PacketService.{PacketService}
 use Rattle.packet_service.specs.PacketService.{lengthOf, versionIn, versionOf, classIn, sharedBytes, rangeBytes, bytesOf}
-use Rattle.protocol.specs.Verdict.{Rule, judgeFrom, firstOf}
-use Rattle.protocol.specs.declared.Refusal.{Refusal}
-use Rattle.protocol.specs.declared.Verdict.the-variants.{Fault}
 
 -- the bytes are as many as the form has
 pub length-bytes : (p : PacketService) → length (bytesOf p) ≡ lengthOf (versionOf p)
@@ -19,9 +16,3 @@ length-bytes p = by-form (p .form)
     by-form : (f : PacketForm) → length (sharedBytes p (classIn f) ++ rangeBytes f) ≡ lengthOf (versionIn f)
     by-form (Form1 class) = refl
     by-form (Form2 class range) = refl
-
--- no rule changes a refusal
-pub fault-stays : (r : Refusal) (rs : List Rule) → judgeFrom (Fault r) rs ≡ Fault r
-unfolding judgeFrom firstOf
-fault-stays r [] = refl
-fault-stays r (x ∷ rs) = fault-stays r rs

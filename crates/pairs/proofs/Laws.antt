@@ -1,28 +1,28 @@
--- A pair is accepted exactly where it is absent or lies behind the fixed part, aligned and inside the payload; a pair that a writer
--- places is accepted; the bytes put there are read back. Fixed part, limit and kind are parameters.
+-- A pair is accepted exactly where it is absent or lies behind the fixed part, aligned and inside the payload; each fault of an offset
+-- has its number; a pair that a writer places is accepted; the bytes put there are read back. Fixed part, limit and kind are parameters.
 -- Assumes nothing.
 use mathlib.Core.Path.{_≡_, refl, sym, ap, _∙_}
 use mathlib.Core.Logic.{_↔_, _⊎_, inl, inr}
-use mathlib.Core.Bool.{Bool, true, false, cond}
+use mathlib.Core.Bool.{Bool, true, false, not, cond, _&&_, _||_}
 use mathlib.Core.List.{List, [], _∷_, _++_}
 use Prim.Native.Nat.{ℕ, zero, suc, _+_, _%_, _≤_, _<_}
 use native.Mathlib.Omega.{arith}
-use borrow.Author.Tests.{le-ltb, lt-ltb, ltb-false, eq-eqb, ne-eqb, eqb-true, eqb-false}
+use borrow.Author.Tests.{le-ltb, lt-ltb, ltb-true, ltb-false, eq-eqb, ne-eqb, eqb-true, eqb-false}
 use lib.Dec.{ltb, eqb}
 use lib.ListN.{length, take, drop}
 use Rattle.wire.specs.Output.{fitted}
 use Rattle.wire.specs.Numbers.{num, u32At}
 use Rattle.wire.proofs.Laws.{text-at, num-skip, num-digits}
-use Rattle.protocol.specs.Refusal.{refusal, wrongOffset}
-use Rattle.protocol.specs.Verdict.{Kept, judge, judgeFrom, faultIf, firstOf}
+use Rattle.protocol.specs.Refusal.{refusal, offsetInFixedPart, pastEnd, wrongSize, misalignedOffset, offsetWithZeroSize}
+use Rattle.protocol.specs.Verdict.{Rule, rule, Kept, judge, judgeFrom, faultIf, firstOf}
 use Rattle.protocol.specs.declared.Verdict.the-variants.{Fits, Fault}
-use Rattle.protocol.proofs.Tests.{or-none, none-or, equal-kept, kept-equal}
-use Rattle.protocol.proofs.Verdicts.{fits-kept, kept-fits}
+use Rattle.protocol.proofs.Tests.{and-both, or-none, none-or, not-said, equal-kept, kept-equal}
+use Rattle.protocol.proofs.Verdicts.{fits-kept, kept-fits, Decides, decides-here, fault-decided}
 use Rattle.pairs.specs.declared.Range.{Range}
 use Rattle.pairs.specs.declared.PairKind.{PairKind}
 use Rattle.pairs.specs.declared.PairKind.the-variants.{Text, List as ListKind}
-use Rattle.pairs.specs.Pair.{range, rangeAt, rangeBytes, partOf, oddFor, unfit, rules, verdictOf, padded, placed}
-use Rattle.pairs.specs.Claims.{Absent, Inside, Even, SizeFits, PairFits, RangeOfWidth, shownIn, FitsExactly}
+use Rattle.pairs.specs.Pair.{range, rangeAt, rangeBytes, partOf, ifSized, oddFor, unfit, offsetWithoutSize, insideFixedPart, misaligned, rules, verdictOf, padded, placed}
+use Rattle.pairs.specs.Claims.{Absent, Inside, Even, SizeFits, PairFits, OffsetWithZeroSize, OffsetInFixedPart, MisalignedOffset, RefusedBy, inOneNumber, RangeOfWidth, shownIn, FitsExactly, ZeroSizeExactly, FixedPartExactly, MisalignedExactly, OnlyNumbersMoved}
 
 -- ---- sizes
 
@@ -90,6 +90,120 @@ module _ (kind : PairKind) (fixed limit place n : ℕ) (p : Range) where
 pub fits-exactly : FitsExactly
 fits-exactly kind fixed limit place n p = (fits-said kind fixed limit place n p, said-fits kind fixed limit place n p)
 
+-- ---- a pair is refused by 18, 6 and 17 exactly where its offset has that fault
+
+module _ (kind : PairKind) (fixed limit place n : ℕ) (p : Range) where
+  decided : (number : ℕ) → RefusedBy number kind fixed limit place n p → Decides number (rules kind fixed limit place n p)
+  unfolding verdictOf
+  decided number e = fault-decided (rules kind fixed limit place n p) number place e
+
+  -- a rule that is broken only where there are bytes
+  sized : (t : Bool) → ifSized (p .length) t ≡ true → (eqb (p .length) 0 ≡ false) × (t ≡ true)
+  sized t e =
+      let b = and-both (not (eqb (p .length) 0)) t e in
+      (not-said (eqb (p .length) 0) (b .0), b .1)
+
+  some-there : eqb (p .length) 0 ≡ false → 0 < p .length
+  some-there e = let h : p .length ≡ 0 → ⊥ = eqb-false (p .length) 0 e in omega arith
+
+  zero-size-said : RefusedBy offsetWithZeroSize kind fixed limit place n p → OffsetWithZeroSize kind limit p
+  unfolding rules
+  zero-size-said e =
+      let k = decided offsetWithZeroSize e in
+      let b = and-both (eqb (p .length) 0) (not (eqb (p .start) 0)) (decides-here (offsetWithoutSize p) (λ m. m .1 .1 .1) (k .1)) in
+      record {
+        size = size-said kind limit (p .length) (k .0);
+        empty = eqb-true (p .length) 0 (b .0);
+        somewhere = eqb-false (p .start) 0 (not-said (eqb (p .start) 0) (b .1));
+      }
+
+  said-zero-size : OffsetWithZeroSize kind limit p → RefusedBy offsetWithZeroSize kind fixed limit place n p
+  unfolding verdictOf rules judgeFrom faultIf firstOf
+  said-zero-size f = rw (said-size kind limit (p .length) (f .size), eq-eqb (p .length) 0 (f .empty), ne-eqb (p .start) 0 (f .somewhere))
+
+  fixed-part-said : RefusedBy offsetInFixedPart kind fixed limit place n p → OffsetInFixedPart kind fixed limit p
+  unfolding rules
+  fixed-part-said e =
+      let k = decided offsetInFixedPart e in
+      let b = sized (ltb (p .start) fixed) (decides-here (insideFixedPart fixed p) (λ m. m .1 .1) (k .1 .1)) in
+      record {
+        size = size-said kind limit (p .length) (k .0);
+        some = some-there (b .0);
+        inside = ltb-true (p .start) fixed (b .1);
+      }
+
+  said-fixed-part : OffsetInFixedPart kind fixed limit p → RefusedBy offsetInFixedPart kind fixed limit place n p
+  unfolding verdictOf rules judgeFrom faultIf firstOf
+  said-fixed-part f =
+      rw (said-size kind limit (p .length) (f .size), ne-eqb (p .length) 0 (λ z. omega (arith, f .some)), lt-ltb (p .start) fixed (f .inside))
+
+  misaligned-said : RefusedBy misalignedOffset kind fixed limit place n p → MisalignedOffset kind fixed limit p
+  unfolding rules
+  misaligned-said e =
+      let k = decided misalignedOffset e in
+      let b = sized (not (eqb (p .start % 4) 0)) (decides-here (misaligned p) (λ m. m .1) (k .1 .1 .1)) in
+      let z : eqb (p .length) 0 ≡ false = b .0 in
+      let behind : ltb (p .start) fixed ≡ false = rw z at (k .1 .1 .0) in
+      record {
+        size = size-said kind limit (p .length) (k .0);
+        some = some-there z;
+        behind = ltb-false (p .start) fixed behind;
+        misaligned = eqb-false (p .start % 4) 0 (not-said (eqb (p .start % 4) 0) (b .1));
+      }
+
+  said-misaligned : MisalignedOffset kind fixed limit p → RefusedBy misalignedOffset kind fixed limit place n p
+  unfolding verdictOf rules judgeFrom faultIf firstOf
+  said-misaligned f =
+      rw (
+        said-size kind limit (p .length) (f .size),
+        ne-eqb (p .length) 0 (λ z. omega (arith, f .some)),
+        le-ltb (p .start) fixed (f .behind),
+        ne-eqb (p .start % 4) 0 (f .misaligned),
+      )
+
+pub zero-size-exactly : ZeroSizeExactly
+zero-size-exactly kind fixed limit place n p = (zero-size-said kind fixed limit place n p, said-zero-size kind fixed limit place n p)
+
+pub fixed-part-exactly : FixedPartExactly
+fixed-part-exactly kind fixed limit place n p = (fixed-part-said kind fixed limit place n p, said-fixed-part kind fixed limit place n p)
+
+pub misaligned-exactly : MisalignedExactly
+misaligned-exactly kind fixed limit place n p = (misaligned-said kind fixed limit place n p, said-misaligned kind fixed limit place n p)
+
+-- ---- with one number for the three, a pair is judged as document 01 says
+
+-- the rules by what is tested: as they are, and as 01 has them
+abbrev apart : ℕ → (over empty nowhere inside aligned past : Bool) → List Rule
+apart place over empty nowhere inside aligned past =
+    rule over wrongSize place
+    ∷ rule (empty && not nowhere) offsetWithZeroSize place
+    ∷ rule (not empty && inside) offsetInFixedPart place
+    ∷ rule (not empty && not aligned) misalignedOffset place
+    ∷ rule (not empty && past) pastEnd place
+    ∷ []
+
+abbrev together : ℕ → (over empty nowhere inside aligned past : Bool) → List Rule
+together place over empty nowhere inside aligned past =
+    rule over wrongSize place
+    ∷ rule (cond empty (not nowhere) (inside || not aligned)) 6 place
+    ∷ rule (not empty && past) pastEnd place
+    ∷ []
+
+in-one : (place : ℕ) (u z w i a e : Bool) → inOneNumber (judge (apart place u z w i a e)) ≡ judge (together place u z w i a e)
+unfolding judgeFrom faultIf firstOf
+in-one place true z w i a e = refl
+in-one place false true true i a e = refl
+in-one place false true false i a e = refl
+in-one place false false w true a e = refl
+in-one place false false w false false e = refl
+in-one place false false w false true true = refl
+in-one place false false w false true false = refl
+
+pub only-numbers-moved : OnlyNumbersMoved
+unfolding verdictOf rules
+only-numbers-moved kind fixed limit place n p =
+    in-one place (unfit kind limit (p .length)) (eqb (p .length) 0) (eqb (p .start) 0) (ltb (p .start) fixed) (eqb (p .start % 4) 0) (ltb n (p .start + p .length))
+
 -- an absent pair fits
 pub absent-fits : (kind : PairKind) (fixed limit place n : ℕ) → verdictOf kind fixed limit place n (range 0 0) ≡ Fits
 absent-fits kind fixed limit place n =
@@ -109,9 +223,10 @@ module _ (kind : PairKind) (fixed limit place n base : ℕ) where
 
   -- and refused as one in the fixed part where that reaches further
   pub placed-inside : (size : ℕ) → unfit kind limit size ≡ false → (size ≡ 0 → ⊥) → base < fixed
-      → verdictOf kind fixed limit place n (placed base size) ≡ Fault (refusal wrongOffset place)
-  unfolding verdictOf rules judgeFrom faultIf firstOf
-  placed-inside size u h l = rw (u, ne-eqb size 0 h, lt-ltb base fixed l)
+      → verdictOf kind fixed limit place n (placed base size) ≡ Fault (refusal offsetInFixedPart place)
+  placed-inside size u h l =
+      let some : 0 < size = omega (arith, h) in
+      rw (ne-eqb size 0 h) (said-fixed-part kind fixed limit place n (range base size) (record { size = size-said kind limit size u; some = some; inside = l }))
 
 -- its numbers fit their fields
 pub placed-sized : (base size : ℕ) → base ≤ 4096 → size ≤ 4096 → RangeOfWidth (placed base size)

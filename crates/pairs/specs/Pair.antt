@@ -1,4 +1,5 @@
--- One offset/size pair of a payload (document 01, numbers 6, 7 and 8 of the table): "each pair judged 8 (limit, odd), 6, 7".
+-- One offset/size pair of a payload (document 01, numbers 6, 7 and 8 of the table; document 02, order 1, numbers 17 and 18).
+-- 01: "each pair judged 8 (limit, odd), 6, 7"; 02, where 6 stood: "zero size first, then fixed part, then alignment".
 -- The fixed part, the limit and the kind are parameters. In this order: a pair and its place; the rules; where a writer puts a pair.
 use Prim.Native.Nat.{ℕ, _+_, _*_, _/_, _%_}
 use mathlib.Core.Bool.{Bool, false, not, cond, _&&_, _||_}
@@ -6,7 +7,7 @@ use mathlib.Core.List.{List, [], _∷_, _++_}
 use lib.Dec.{ltb, eqb}
 use lib.ListN.{length, take, drop}
 use Rattle.wire.specs.Numbers.{u32At, digits}
-use Rattle.protocol.specs.Refusal.{wrongOffset, pastEnd, wrongSize}
+use Rattle.protocol.specs.Refusal.{offsetInFixedPart, pastEnd, wrongSize, misalignedOffset, offsetWithZeroSize}
 use Rattle.protocol.specs.Verdict.{Rule, rule, judge}
 use Rattle.protocol.specs.declared.Verdict.{Verdict}
 use Rattle.pairs.specs.declared.Range.{Range}
@@ -39,15 +40,15 @@ oddFor ListKind size = false
 abbrev pub unfit : PairKind → ℕ → ℕ → Bool
 unfit kind limit size = ltb limit size || oddFor kind size
 
--- number 6, in three: an offset though the size is 0
+-- number 18: an offset though the size is 0
 abbrev pub offsetWithoutSize : Range → Bool
 offsetWithoutSize p = eqb (p .length) 0 && not (eqb (p .start) 0)
 
--- a size, and the offset in the fixed part
+-- number 6: a size, and the offset in the fixed part
 abbrev pub insideFixedPart : ℕ → Range → Bool
 insideFixedPart fixed p = ifSized (p .length) (ltb (p .start) fixed)
 
--- a size, and the offset not a multiple of 4
+-- number 17: a size, and the offset not a multiple of 4
 abbrev pub misaligned : Range → Bool
 misaligned p = ifSized (p .length) (not (eqb (p .start % 4) 0))
 
@@ -58,9 +59,9 @@ beyondPayload n p = ifSized (p .length) (ltb n (p .start + p .length))
 unfoldable pub rules : PairKind → ℕ → ℕ → ℕ → ℕ → Range → List Rule
 rules kind fixed limit place n p =
     rule (unfit kind limit (p .length)) wrongSize place
-    ∷ rule (offsetWithoutSize p) wrongOffset place
-    ∷ rule (insideFixedPart fixed p) wrongOffset place
-    ∷ rule (misaligned p) wrongOffset place
+    ∷ rule (offsetWithoutSize p) offsetWithZeroSize place
+    ∷ rule (insideFixedPart fixed p) offsetInFixedPart place
+    ∷ rule (misaligned p) misalignedOffset place
     ∷ rule (beyondPayload n p) pastEnd place
     ∷ []
 

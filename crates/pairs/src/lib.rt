@@ -1,9 +1,11 @@
 // One offset/size pair of a payload: judged as a reader meets it, and placed as a writer puts it.
 // The texts of a record are judged in crate `texts`, a list behind a pair in `lists`.
+use protocol::MISALIGNED_OFFSET;
+use protocol::OFFSET_IN_FIXED_PART;
+use protocol::OFFSET_WITH_ZERO_SIZE;
 use protocol::PAST_END;
 use protocol::Refusal;
 use protocol::Verdict;
-use protocol::WRONG_OFFSET;
 use protocol::WRONG_SIZE;
 use protocol::also;
 use wire::put_u32;
@@ -100,10 +102,15 @@ pub fn judge(
         });
     }
     if size == 0 {
-        return also(Verdict::Fits, pair.start != 0, WRONG_OFFSET, place);
+        return also(Verdict::Fits, pair.start != 0, OFFSET_WITH_ZERO_SIZE, place);
     }
-    let outside = also(Verdict::Fits, pair.start < fixed, WRONG_OFFSET, place);
-    let aligned = also(outside, pair.start % 4 != 0, WRONG_OFFSET, place);
+    let outside = also(
+        Verdict::Fits,
+        pair.start < fixed,
+        OFFSET_IN_FIXED_PART,
+        place,
+    );
+    let aligned = also(outside, pair.start % 4 != 0, MISALIGNED_OFFSET, place);
     also(aligned, length < end, PAST_END, place)
 }
 

@@ -47,6 +47,10 @@ not-kept false e = let z : _≡_ {A = ℕ} 0 1 = cc in absurd (omega arith)
 pub kept-not : (a : Bool) → a ≡ true → not a ≡ false
 kept-not a e = rw e
 
+pub not-said : (a : Bool) → not a ≡ true → a ≡ false
+not-said true e = let z : _≡_ {A = ℕ} 0 1 = cc in absurd (omega arith)
+not-said false e = refl
+
 -- a number that has to be another is
 pub equal-kept : (a b : ℕ) → not (eqb a b) ≡ false → a ≡ b
 equal-kept a b e = eqb-true a b (not-kept (eqb a b) e)

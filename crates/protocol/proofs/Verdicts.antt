@@ -1,12 +1,13 @@
 -- Laws of verdicts and of what a writer answers and leaves.
 -- Assumes nothing.
 use mathlib.Core.Path.{_≡_, refl, sym, ap, _∙_}
+use mathlib.Core.Logic.{_⊎_, inl, inr}
 use mathlib.Core.Bool.{Bool, true, false}
 use mathlib.Core.List.{List, [], _∷_}
 use Prim.Native.Nat.{ℕ, _≤_, _<_}
 use native.Mathlib.Omega.{arith}
-use borrow.Author.Tests.{ltb-false, lt-ltb, le-ltb}
-use lib.Dec.{ltb}
+use borrow.Author.Tests.{ltb-false, lt-ltb, le-ltb, eqb-false}
+use lib.Dec.{ltb, eqb}
 use lib.ListN.{length, take}
 use lib.Seq.{sets}
 use Rattle.wire.proofs.Laws.{sets-over, take-over}
@@ -56,6 +57,45 @@ pub kept-fits : (rs : List Rule) → Kept rs → judge rs ≡ Fits
 unfolding judgeFrom faultIf firstOf
 kept-fits [] k = refl
 kept-fits (r ∷ rs) k = rw (k .0) (kept-fits rs (k .1))
+
+-- no rule changes a refusal
+pub fault-stays : (r : Refusal) (rs : List Rule) → judgeFrom (Fault r) rs ≡ Fault r
+unfolding judgeFrom firstOf
+fault-stays r [] = refl
+fault-stays r (x ∷ rs) = fault-stays r rs
+
+-- ---- the number of a refusal tells which rule was the first one broken
+
+-- a rule that has the number (`same`) may be the one, any other is kept
+abbrev pub DecidesHere : (same broken : Bool) → Type 0 → Type 0
+DecidesHere true b later = (b ≡ true) ⊎ ((b ≡ false) × later)
+DecidesHere false b later = (b ≡ false) × later
+
+abbrev pub Decides : ℕ → List Rule → Type 0
+Decides n [] = ⊥
+Decides n (r ∷ rs) = DecidesHere (eqb (r .number) n) (r .broken) (Decides n rs)
+
+-- where no later rule has the number, it is this one
+pub decides-here : (b : Bool) {later : Type 0} → (later → ⊥) → DecidesHere true b later → b ≡ true
+decides-here b none (inl e) = e
+decides-here b none (inr k) = absurd (none (k .1))
+
+here-decided : (r : Rule) (rs : List Rule) (n p : ℕ) (b same : Bool) → r .broken ≡ b → eqb (r .number) n ≡ same
+    → (judge rs ≡ Fault (refusal n p) → Decides n rs)
+    → judgeFrom (faultIf b (r .number) (r .place)) rs ≡ Fault (refusal n p) → DecidesHere same (r .broken) (Decides n rs)
+unfolding faultIf
+here-decided r rs n p true true e s later f = inl e
+here-decided r rs n p true false e s later f =
+    let g : Fault (refusal (r .number) (r .place)) ≡ Fault (refusal n p) = sym (fault-stays (refusal (r .number) (r .place)) rs) ∙ f in
+    let q : refusal (r .number) (r .place) ≡ refusal n p = cc in
+    absurd (eqb-false (r .number) n s (ap (λ (x : Refusal). x .number) q))
+here-decided r rs n p false true e s later f = inr (e, later f)
+here-decided r rs n p false false e s later f = (e, later f)
+
+pub fault-decided : (rs : List Rule) (n p : ℕ) → judge rs ≡ Fault (refusal n p) → Decides n rs
+unfolding judgeFrom firstOf
+fault-decided [] n p e = let z : _≡_ {A = ℕ} 0 1 = cc in absurd (omega arith)
+fault-decided (r ∷ rs) n p e = here-decided r rs n p (r .broken) (eqb (r .number) n) refl refl (fault-decided rs n p) e
 
 -- a verdict and rules after it fit exactly where both do
 pub then-kept : (v : Verdict) (rs : List Rule) → firstOf v (judge rs) ≡ Fits → (v ≡ Fits) × Kept rs

@@ -1,5 +1,5 @@
 -- Refusals (document 01, "Numbers given back"): "a number and a place, and nothing else".
--- The names of the table's numbers, in its order; the code has the same names.
+-- The names of the table's numbers, in its order, and of those that document 02 adds; the code has the same names.
 use Prim.Native.Nat.{ℕ}
 use Rattle.protocol.specs.declared.Refusal.{Refusal}
 
@@ -26,9 +26,9 @@ wrongFragment = 4
 abbrev pub tooLong : ℕ
 tooLong = 5
 
--- with size 0: offset not 0; else offset in the fixed part or not a multiple of 4
-abbrev pub wrongOffset : ℕ
-wrongOffset = 6
+-- an offset inside the fixed part, and only that (02, order 1; in 01 also 17 and 18)
+abbrev pub offsetInFixedPart : ℕ
+offsetInFixedPart = 6
 
 -- offset + size beyond the payload, as whole numbers
 abbrev pub pastEnd : ℕ
@@ -69,3 +69,13 @@ wrongCount = 15
 -- transfer size outside 64 to 4,096
 abbrev pub wrongTransferSize : ℕ
 wrongTransferSize = 16
+
+-- ---- added by document 02
+
+-- order 1: an offset that is not a multiple of 4
+abbrev pub misalignedOffset : ℕ
+misalignedOffset = 17
+
+-- order 1: an offset other than 0 beside size 0
+abbrev pub offsetWithZeroSize : ℕ
+offsetWithZeroSize = 18

@@ -20,7 +20,7 @@ pub struct Refusal {
     pub place: usize,
 }
 
-// The numbers of 01's table.
+// The numbers of 01's table, and those that 02 adds to it.
 pub const TOO_SHORT: u32 = 1;
 
 pub const WRONG_LENGTH: u32 = 2;
@@ -31,7 +31,7 @@ pub const WRONG_FRAGMENT: u32 = 4;
 
 pub const TOO_LONG: u32 = 5;
 
-pub const WRONG_OFFSET: u32 = 6;
+pub const OFFSET_IN_FIXED_PART: u32 = 6;
 
 pub const PAST_END: u32 = 7;
 
@@ -52,6 +52,10 @@ pub const VERSION_NOT_LISTED: u32 = 14;
 pub const WRONG_COUNT: u32 = 15;
 
 pub const WRONG_TRANSFER_SIZE: u32 = 16;
+
+pub const MISALIGNED_OFFSET: u32 = 17;
+
+pub const OFFSET_WITH_ZERO_SIZE: u32 = 18;
 
 // The most information bytes of a message.
 pub const MOST_INFORMATION: usize = 4096;

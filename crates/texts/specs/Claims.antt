@@ -5,7 +5,7 @@ use mathlib.Core.Logic.{_↔_}
 use mathlib.Core.Bool.{cond}
 use mathlib.Core.List.{List, [], _∷_}
 use lib.Dec.{eqb}
-use Rattle.protocol.specs.Refusal.{refusal, wrongOffset}
+use Rattle.protocol.specs.Refusal.{refusal, offsetInFixedPart}
 use Rattle.protocol.specs.declared.Refusal.{Refusal}
 use Rattle.protocol.specs.declared.Verdict.the-variants.{Fits}
 use Rattle.pairs.specs.declared.Range.{Range}
@@ -44,7 +44,7 @@ RangesOfWidth (p ∷ ps) = RangeOfWidth p × RangesOfWidth ps
 abbrev pub firstInside : Refusal → List (List ℕ) → List ℕ → Refusal
 firstInside r [] ks = r
 firstInside r (x ∷ xs) [] = r
-firstInside r (x ∷ xs) (k ∷ ks) = cond (eqb k 0) (firstInside r xs ks) (refusal wrongOffset (placeOf x))
+firstInside r (x ∷ xs) (k ∷ ks) = cond (eqb k 0) (firstInside r xs ks) (refusal offsetInFixedPart (placeOf x))
 
 -- ---- what is proved (proofs/Rows)
 

@@ -251,6 +251,21 @@ mod tests {
     }
 
     #[test]
+    fn a_list_with_an_offset_fault_changes_nothing() {
+        for (offset, size, number) in [(13, 32, 6), (17, 32, 17), (16, 0, 18)] {
+            let mut list = list(&[15]);
+            list[8] = offset;
+            list[12] = size;
+            let refused = ReplyAnswer::Refused(Refusal::new(number, 8));
+            for before in [opened(0x0200, 0x0200), opened(0x0100, 0x0200), awaiting(0x0100)] {
+                let mut host = before;
+                assert_eq!(host.services_reply(0, &list), refused);
+                assert_eq!(host, before);
+            }
+        }
+    }
+
+    #[test]
     fn replies_that_nobody_awaits_change_nothing() {
         let closed = Host::make(0x0200).unwrap();
         let mut settled = awaiting(0x0100);

@@ -230,6 +230,12 @@ mod tests {
         assert_eq!(Modem::make(0x0200, 0x0100, &[]), Err(Refusal::new(1, 0)));
         let bad = [33, 0, 0, 0, 0, 0, 0, 0];
         assert_eq!(Modem::make(0x0200, 0x0100, &bad), Err(Refusal::new(15, 0)));
+        for (offset, size, number) in [(13, 32, 6), (17, 32, 17), (16, 0, 18)] {
+            let mut bad = list(&[15]);
+            bad[8] = offset;
+            bad[12] = size;
+            assert_eq!(Modem::make(0x0200, 0x0100, &bad), Err(Refusal::new(number, 8)));
+        }
         let modem = |cids: &[u32]| Modem::make(0x0200, 0x0200, &list(cids)).unwrap();
         assert!(modem(&[14, 15]).lists_version());
         assert!(!modem(&[14, 16]).lists_version());

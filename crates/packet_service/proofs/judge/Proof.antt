@@ -3,8 +3,8 @@ use borrow.Author.Needs.{needs}
 use mathlib.Core.Path.{sym}
 use borrow.Author.Tests.{lt-ltb, le-ltb}
 use Rattle.protocol.specs.Verdict.{faultIf, firstOf, judgeFrom}
+use Rattle.protocol.proofs.Verdicts.{fault-stays}
 use Rattle.packet_service.specs.PacketService.{formRules, rules, verdictOf}
-use Rattle.packet_service.proofs.Laws.{fault-stays}
 use Rattle.packet_service.proofs.judge.Statement.{statement}
 use Rattle.packet_service.proofs.judge.Tie as tie
 

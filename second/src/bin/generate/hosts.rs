@@ -1,6 +1,6 @@
 //! Samples of the host's end of the handshake.
 
-use crate::damage::{resized, with_word, words};
+use crate::damage::{resized, with_word, with_words, words};
 use crate::random::Random;
 use crate::samples::Samples;
 use second::flat::question::{
@@ -39,6 +39,7 @@ pub fn all(samples: &mut Samples) {
     for stage in 0..4 {
         messages_at(samples, stage);
     }
+    offsets(samples);
     walk(samples);
 }
 
@@ -83,6 +84,16 @@ fn lists() -> Vec<Vec<u8>> {
         twice,
         good,
     ]
+}
+
+/// Lists whose pair has a fault of its offset, alone and with others.
+pub fn offset_faults() -> Vec<Vec<u8>> {
+    let good = list(EXTENSIONS, &[15]);
+    let in_fixed_part = [(12, 32), (13, 32)];
+    let misaligned = [(17, 28), (17, 32), (u32::MAX, 32)];
+    let with_zero_size = [(16, 0), (3, 0)];
+    let pairs = in_fixed_part.into_iter().chain(misaligned).chain(with_zero_size);
+    pairs.map(|(offset, size)| with_words(&good, &[(8, offset), (12, size)])).collect()
 }
 
 /// Replies to VERSION: status and payload.
@@ -177,6 +188,24 @@ fn messages_at(samples: &mut Samples, stage: u64) {
         receive(samples, BASIC_CONNECT, [COMMAND_DONE.into(), transaction, 16, 0], &good);
         show(samples);
         receive(samples, EXTENSIONS, [COMMAND_DONE.into(), transaction, 15, 0], &[0, 1, 0, 2]);
+        show(samples);
+    }
+}
+
+/// Lists with an offset's fault at every stage, and at a host below the advertised version.
+fn offsets(samples: &mut Samples) {
+    for stage in 0..4 {
+        at_stage(samples, stage);
+        offsets_at(samples);
+    }
+    samples.ask(MAKE_HOST, &[0x0100], &[]);
+    samples.ask(HOST_OPEN, &[0x0200], &[]);
+    offsets_at(samples);
+}
+
+fn offsets_at(samples: &mut Samples) {
+    for list in offset_faults() {
+        services_reply(samples, 0, &list);
         show(samples);
     }
 }

@@ -1,7 +1,7 @@
 //! Samples of the modem's end of the handshake.
 
 use crate::damage::{resized, with_word, words};
-use crate::hosts::list;
+use crate::hosts::{list, offset_faults};
 use crate::random::Random;
 use crate::samples::Samples;
 use second::flat::question::{MAKE_MODEM, MODEM_CLOSE, MODEM_OPEN, MODEM_RECEIVE, SHOW_MODEM};
@@ -104,12 +104,11 @@ fn lists(samples: &mut Samples) {
         resized(&good, 4097),
         with_word(&good, 0, 33),
         with_word(&good, 0, 2),
-        with_word(&good, 8, 17),
         with_word(&good, 12, 28),
         with_word(&good, 12, 541),
         with_word(&good, 40, 129),
     ];
-    for services in &lists {
+    for services in lists.iter().chain(&offset_faults()) {
         for (native, advertised) in MODEMS {
             make(samples, (0x0200, 0x0200, false));
             samples.ask(MAKE_MODEM, &[native, advertised, MODEM_SIZE], services);

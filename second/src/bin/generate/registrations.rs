@@ -100,7 +100,7 @@ fn tables(samples: &mut Samples, version: u64, fixed: usize) {
     }
 }
 
-/// One pair: sizes and offsets at and around every limit.
+/// One pair: sizes and offsets at and around every limit; several faults at once.
 fn pair(samples: &mut Samples, version: u64, fixed: usize, field: usize, limit: usize) {
     let length = fixed + 132;
     let zeros = resized(&[], length);
@@ -117,8 +117,21 @@ fn pair(samples: &mut Samples, version: u64, fixed: usize, field: usize, limit: 
             samples.ask(REGISTRATION_READ, &[version], &payload);
         }
     }
-    let far = with_words(&zeros, &[(field, 0xFFFF_FFFC), (field + 4, 8)]);
-    samples.ask(REGISTRATION_READ, &[version], &far);
+    let faults = [
+        (0xFFFF_FFFC, 8),
+        (fixed + 1, 2),
+        (fixed + 3, 2),
+        (3, 0),
+        (fixed + 1, 0),
+        (3, 2),
+        (fixed - 1, limit),
+        (length + 1, 2),
+        (fixed + 1, limit + 1),
+    ];
+    for (offset, size) in faults {
+        let payload = with_words(&zeros, &[(field, offset), (field + 4, size)]);
+        samples.ask(REGISTRATION_READ, &[version], &payload);
+    }
 }
 
 /// Ranges that overlap, leave gaps, stand in another order; two faults at once.
@@ -137,6 +150,9 @@ fn ranges(samples: &mut Samples, version: u64, fixed: u32) {
         [(fixed - 4, 4), (3, 3), (3, 3)],
         [(fixed, 4), (fixed - 4, 4), (3, 3)],
         [(fixed, 4), (fixed, 26), (fixed, 1)],
+        [(fixed + 1, 4), (fixed, 0), (3, 2)],
+        [(fixed, 4), (fixed, 0), (fixed + 1, 2)],
+        [(fixed, 4), (3, 2), (fixed, 0)],
     ];
     for [id, name, roaming] in layouts {
         let pairs =

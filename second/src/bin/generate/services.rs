@@ -19,6 +19,7 @@ pub fn all(samples: &mut Samples) {
     lengths(samples, SERVICES_READ, &[], &good, ends);
     counts(samples);
     pairs(samples, &good);
+    offsets(samples, &good);
     elements(samples, &good);
     chosen(samples, &good);
     long_lists(samples);
@@ -88,9 +89,28 @@ fn pairs(samples: &mut Samples, good: &[u8]) {
         let payload = with_words(&long, &[(16, 68), (20, size), (68 + 24, 129)]);
         samples.ask(SERVICES_READ, &[], &payload);
     }
-    for (first, third) in [((8, 33), (24, 33)), ((12, 541), (28, 541)), ((12, 0), (28, 3))] {
+    let offsets = [((8, 33), (24, 33)), ((8, 28), (28, 0))];
+    let sizes = [((12, 541), (28, 541)), ((12, 0), (28, 3))];
+    for (first, third) in offsets.into_iter().chain(sizes) {
         samples.ask(SERVICES_READ, &[], &with_words(good, &[first, third]));
         samples.ask(SERVICES_READ, &[], &with_words(good, &[third]));
+    }
+}
+
+/// Faults of the second pair's offset, alone and several at once: whatever is asked, the
+/// whole list is judged first.
+fn offsets(samples: &mut Samples, good: &[u8]) {
+    let in_fixed_part = [(28, 28), (31, 28), (3, 27)];
+    let misaligned = [(69, 28), (129, 28), (u32::MAX, 28), (u32::MAX, 541)];
+    let with_zero_size = [(52, 0), (3, 0), (28, 0), (69, 0)];
+    let pairs = in_fixed_part.into_iter().chain(misaligned).chain(with_zero_size);
+    for (offset, size) in pairs {
+        let payload = with_words(good, &[(16, offset), (20, size)]);
+        samples.ask(SERVICES_READ, &[], &payload);
+        samples.ask(ELEMENT, &[0, 0], &payload);
+        let input = [&EXTENSIONS[..], &payload].concat();
+        samples.ask(SERVICE_CIDS, &[0], &input);
+        samples.ask(LISTED, &[14], &input);
     }
 }
 

@@ -69,6 +69,13 @@ fn pairs(samples: &mut Samples) {
             samples.ask(SIGNAL_READ, &[V2], &payload);
         }
     }
+    // Several faults at once; a size of 3 is unfit for any list.
+    let past = length as u32 + 1;
+    let faults = [(3, 0), (27, 0), (3, 24), (27, 24), (24, 3), (29, 3), (past, 24), (29, 325)];
+    for (offset, size) in faults {
+        let payload = with_words(&one, &[(20, offset), (24, size)]);
+        samples.ask(SIGNAL_READ, &[V2], &payload);
+    }
     moved(samples);
 }
 
@@ -103,8 +110,9 @@ fn entries(samples: &mut Samples, good: &[u8]) {
     for bit in 0..32 {
         set_word(samples, SIGNAL_READ, &[V2], good, 48, &[1 << bit]);
     }
-    let faults =
-        [(0, 31), (0, 32), (4, 8), (20, 24), (24, 325), (24, 3), (28, 17), (36, 129), (48, 0)];
+    let pair = [(20, 24), (20, 29), (24, 0), (24, 325), (24, 3)];
+    let others = [(0, 31), (0, 32), (4, 8), (28, 17), (36, 129), (48, 0)];
+    let faults = [&pair[..], &others].concat();
     two_faults(samples, SIGNAL_READ, &[V2], good, &faults);
     for (first, second) in [((32, 128), (52, 128)), ((36, 129), (32, 128)), ((48, 0), (52, 128))] {
         samples.ask(SIGNAL_READ, &[V2], &with_words(good, &[first, second]));
