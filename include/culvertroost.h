@@ -80,9 +80,9 @@ extern "C" {
 #endif
 
 /* This library's own version. A call, a struct or a number that changes raises the first two. */
-#define CVR_LIBRARY_VERSION "0.3.0"
+#define CVR_LIBRARY_VERSION "0.4.0"
 #define CVR_LIBRARY_VERSION_MAJOR 0
-#define CVR_LIBRARY_VERSION_MINOR 3
+#define CVR_LIBRARY_VERSION_MINOR 4
 #define CVR_LIBRARY_VERSION_PATCH 0
 
 /* ---- refusals ---------------------------------------------------------------------------------- */
@@ -243,6 +243,8 @@ enum cvr_kind {
 #define CVR_DATA_CLASS_CUSTOM UINT32_C(0x80000000)
 #define CVR_DATA_CLASSES_1_00 UINT32_C(0x807F003F) /* all of a version */
 #define CVR_DATA_CLASSES_2_00 UINT32_C(0x807F00FF)
+/* HSPA, as a packet service tells it: the one pair of bits that its class may have, at both versions. */
+#define CVR_DATA_CLASS_HSPA (CVR_DATA_CLASS_HSDPA | CVR_DATA_CLASS_HSUPA)
 
 /* A service id: its 16 bytes in printed order, as four little-endian words. */
 typedef struct cvr_service {
@@ -310,7 +312,7 @@ typedef struct cvr_packet_service {
     uint16_t version;
     uint32_t nw_error;                     /* any number */
     uint32_t packet_service_state;         /* enum cvr_packet_service_state */
-    uint32_t highest_available_data_class; /* 1.00 only: at most one class bit */
+    uint32_t highest_available_data_class; /* 1.00 only: 0, one class bit, or CVR_DATA_CLASS_HSPA */
     uint32_t current_data_class;           /* 2.00 only: the same, and 0 unless attached */
     uint32_t frequency_range;              /* 2.00 only: enum cvr_frequency_range, 0 unless the class is
                                               CVR_DATA_CLASS_5G_NSA or _5G_SA */
@@ -443,7 +445,7 @@ typedef struct cvr_rsrp_snr {
     uint32_t snr;            /* code 0 to 127 or unknown: see cvr_snr */
     uint32_t rsrp_threshold; /* any number, as the next */
     uint32_t snr_threshold;
-    uint32_t system_type;    /* exactly one class bit of 2.00 */
+    uint32_t system_type;    /* exactly one class bit of 2.00, so never CVR_DATA_CLASS_HSPA */
 } cvr_rsrp_snr;
 
 typedef struct cvr_signal_state {

@@ -1,6 +1,6 @@
 /*
- * The tables of the header, row by row: what each end answers at each stage, and where lent memory is
- * refused. An 'any' of the header is tried at every stage.
+ * The tables of the header, row by row: which data classes may stand where, what each end answers at
+ * each stage, and where lent memory is refused. An 'any' of the header is tried at every stage.
  */
 #include "culvertroost.h"
 
@@ -62,6 +62,74 @@ static cvr_message_header header(uint32_t type, const cvr_service *service, uint
     message.cid = cid;
     message.word = word;
     return message;
+}
+
+/* ---- the data classes: one bit and two, in each field that holds classes */
+
+static cvr_refusal packet_class(uint16_t version, uint32_t class)
+{
+    cvr_packet_service info;
+    cvr_packet_service_answer read;
+    uint8_t out[32];
+    cvr_written written;
+    memset(&info, 0, sizeof info);
+    info.version = version;
+    info.packet_service_state = CVR_PACKET_SERVICE_STATE_ATTACHED;
+    info.highest_available_data_class = info.current_data_class = class;
+    written = cvr_packet_service_write(info, out, sizeof out);
+    if (written.refusal.number)
+        return written.refusal;
+    read = cvr_packet_service_read(version, out, written.length);
+    check("class", version, "what is read",
+          read.info.highest_available_data_class + read.info.current_data_class, class);
+    return read.refusal;
+}
+
+static cvr_refusal registration_classes(uint16_t version, uint32_t available, uint32_t preferred)
+{
+    cvr_registration info;
+    uint8_t out[52];
+    memset(&info, 0, sizeof info);
+    info.version = version;
+    info.register_state = CVR_REGISTER_STATE_HOME;
+    info.available_data_class = available;
+    info.preferred_data_class = preferred;
+    return cvr_registration_write(info, NULL, 0, NULL, 0, NULL, 0, out, sizeof out).refusal;
+}
+
+static cvr_refusal system_type(uint32_t class)
+{
+    static cvr_signal_state info;
+    uint8_t out[52];
+    info.version = V2;
+    info.rssi = 99;
+    info.count = 1;
+    info.entries[0].system_type = class;
+    return cvr_signal_state_write(info, out, sizeof out).refusal;
+}
+
+static void class_row(int row, const char *what, cvr_refusal refusal, int taken, uint64_t place)
+{
+    check(what, row, "the refusal", refusal.number, taken ? CVR_NO_REFUSAL : CVR_OUTSIDE_TABLE);
+    check(what, row, "the place", refusal.place, taken ? 0 : place);
+}
+
+static void class_table(void)
+{
+    int i, j;
+    for (i = 0; i < 32; i++)
+        for (j = i; j < 32; j++) {
+            uint32_t class = UINT32_C(1) << i | UINT32_C(1) << j;
+            int earlier = (class & CVR_DATA_CLASSES_1_00) == class;
+            int later = (class & CVR_DATA_CLASSES_2_00) == class;
+            int packet = i == j || class == CVR_DATA_CLASS_HSPA;
+            class_row(i * 32 + j, "class at 1.00", packet_class(V1, class), packet && earlier, 8);
+            class_row(i * 32 + j, "class at 2.00", packet_class(V2, class), packet && later, 8);
+            class_row(i * 32 + j, "available at 1.00", registration_classes(V1, class, 0), earlier, 12);
+            class_row(i * 32 + j, "available at 2.00", registration_classes(V2, class, 0), later, 12);
+            class_row(i * 32 + j, "preferred", registration_classes(V2, 0, class), later, 48);
+            class_row(i * 32 + j, "system type", system_type(class), i == j && later, 48);
+        }
 }
 
 /* ---- the host's table */
@@ -329,6 +397,7 @@ static void assembly_table(void)
 int main(void)
 {
     write_payloads();
+    class_table();
     host_table();
     modem_table();
     memory_table();

@@ -56,6 +56,10 @@ pub const SIGNAL_STATE: u32 = 11;
 pub const DEVICE_SERVICES: u32 = 16;
 pub const VERSION: u32 = 15;
 
+/// HSPA as a packet service tells it: HSDPA (8h) and HSUPA (10h), the one pair of class bits that its
+/// class may have.
+pub const DATA_CLASS_HSPA: u32 = 0x18;
+
 pub const BASIC_CONNECT: ServiceId =
     ServiceId::from_words(0x33CC89A2, 0x4F8BBBBC, 0x3E13B0B6, 0xDFE6AAC2);
 pub const EXTENSIONS: ServiceId =

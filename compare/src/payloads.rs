@@ -4,10 +4,13 @@
 use crate::damage;
 use crate::random::Random;
 use crate::sides::Sides;
+use culvertroost::DATA_CLASS_HSPA;
+use second::data_class::HSPA;
 use second::flat::question as q;
 
-/// Single class bits, 0, and what is no class.
-const CLASSES: [u32; 8] = [0x20, 0x40, 0x80, 0x20, 0x40, 0x8000_0000, 0, 1];
+/// Classes of a packet service: single bits, none, and HSPA, the same to both sides.
+const CLASSES: [u32; 9] = [0x20, 0x40, 0x80, 0x20, 0x40, 0x8000_0000, 0, 1, HSPA];
+const _: () = assert!(DATA_CLASS_HSPA == HSPA);
 const MASKS: [u32; 7] = [0, 0x20, 0x60, 0xE0, 0x3F, 0x807F_003F, 0x807F_00FF];
 const ANY: [u32; 6] = [0, 1, 5, 0x0102_0304, 0x8000_0000, u32::MAX];
 

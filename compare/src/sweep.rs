@@ -52,6 +52,7 @@ pub fn all(sides: &mut Sides) {
         packet(sides, version);
         registration(sides, version);
         signal(sides, version);
+        class_pairs(sides, version);
     }
     version_info(sides);
     services(sides);
@@ -137,6 +138,34 @@ fn changed_pairs(
 fn packet(sides: &mut Sides, version: u64) {
     let good = [version, 0, 2, 0x20, 0x40, 1, 50_000_000, 150_000_000];
     record(sides, q::PACKET_WRITE, q::PACKET_READ, &good, &[]);
+}
+
+/// Every pair of bits in each field that holds data classes; a packet service also beside each state
+/// and a frequency range, where contradictions show.
+fn class_pairs(sides: &mut Sides, version: u64) {
+    let packet = sides.ask(q::PACKET_WRITE, &[ROOM, version, 0, 2, 8, 8, 0, 5, 6], &[]).output;
+    let home = [ROOM, version, 0, 3, 1, 8, 1, 0, 8, 0, 0, 0];
+    let home = sides.ask(q::REGISTRATION_WRITE, &home, &[]).output;
+    let quiet = [ROOM, version, 99, 99, 5, 0, 0, 1, 127, 128, 0, 0, 8];
+    let signal = sides.ask(q::SIGNAL_WRITE, &quiet, &[]).output;
+    for class in (0..32).flat_map(|high| (0..high).map(move |low| 1 << low | 1 << high)) {
+        for (state, range) in (0..5).flat_map(|state| [(state, 0), (state, 1)]) {
+            let arguments = [ROOM, version, 0, state, class, class, range, 5, 6];
+            sides.ask(q::PACKET_WRITE, &arguments, &[]);
+        }
+        let changed = |payload: &[u8], place| {
+            let mut payload = payload.to_vec();
+            put(&mut payload, place, class as u32);
+            payload
+        };
+        sides.ask(q::PACKET_READ, &[version], &changed(&packet, 8));
+        for place in (12..home.len()).step_by(36) {
+            sides.ask(q::REGISTRATION_READ, &[version], &changed(&home, place));
+        }
+        if signal.len() > 48 {
+            sides.ask(q::SIGNAL_READ, &[version], &changed(&signal, 48));
+        }
+    }
 }
 
 fn registration(sides: &mut Sides, version: u64) {

@@ -95,7 +95,7 @@ fn judge(record: &PacketService) -> Result<(), Refusal> {
     let (version, class, frequency_range) = parts(record);
     let state = record.packet_service_state;
     require(state <= PACKET_SERVICE_STATE_MAX, OUTSIDE_TABLE, PACKET_SERVICE_STATE)?;
-    require(data_class::is_at_most_one(version, class), OUTSIDE_TABLE, DATA_CLASS)?;
+    require(data_class::is_packet_class(version, class), OUTSIDE_TABLE, DATA_CLASS)?;
     require(frequency_range <= FREQUENCY_RANGE_MAX, OUTSIDE_TABLE, FREQUENCY_RANGE)?;
     if version == Version::V1 {
         return Ok(());
@@ -119,6 +119,7 @@ fn parts(record: &PacketService) -> (Version, u32, u32) {
 #[cfg(test)]
 mod tests {
     use super::*;
+    use crate::data_class::HSPA;
 
     const CASE: [u8; 32] = [
         0, 0, 0, 0, 2, 0, 0, 0, 0x40, 0, 0, 0, 0x80, 0xF0, 0xFA, 0x02, 0, 0, 0, 0, 0x80, 0xD1,
@@ -131,6 +132,34 @@ mod tests {
             payload[*place] = *value;
         }
         payload
+    }
+
+    fn record(version: Version, state: u32, class: u32, frequency_range: u32) -> PacketService {
+        PacketService {
+            nw_error: 7,
+            packet_service_state: state,
+            uplink_speed: 1,
+            downlink_speed: 1 << 40,
+            form: match version {
+                Version::V1 => Form::V1 { highest_available_data_class: class },
+                Version::V2 => Form::V2 { current_data_class: class, frequency_range },
+            },
+        }
+    }
+
+    /// What reader and writer both answer; what is written must be read as the record.
+    fn judged(version: Version, state: u32, class: u32, range: u32) -> Result<(), Refusal> {
+        let fields = [7, state, class, 1, 0, 0, 1 << 8, range];
+        let payload = fields.map(u32::to_le_bytes).concat();
+        let (record, length) = (record(version, state, class, range), length(version));
+        let mut out = [7; 34];
+        let written = write(&record, &mut out);
+        assert_eq!(read(version, &payload[..length]), written.map(|_| record));
+        let end = written.unwrap_or(0);
+        assert_eq!(out[..end], payload[..end]);
+        assert!(out[end..].iter().all(|byte| *byte == 7));
+        assert!(written.is_err() || end == length);
+        written.map(|_| ())
     }
 
     #[test]
@@ -187,5 +216,55 @@ mod tests {
         assert_eq!(out[..28], payload[..28]);
         assert_eq!(out[28..], [7, 7]);
         assert_eq!(write(&record, &mut out[..27]), Err(Refusal::new(11, 28)));
+    }
+
+    #[test]
+    fn hspa_at_1_00_stands_in_every_state() {
+        for state in 0..=4 {
+            assert_eq!(judged(Version::V1, state, HSPA, 0), Ok(()));
+        }
+        assert_eq!(judged(Version::V1, 5, HSPA, 0), Err(Refusal::new(9, 4)));
+    }
+
+    #[test]
+    fn hspa_at_2_00_wants_attached_and_no_range() {
+        let judged = |state, range| judged(Version::V2, state, HSPA, range);
+        assert_eq!(judged(2, 0), Ok(()));
+        for state in [0, 1, 3, 4] {
+            assert_eq!(judged(state, 0), Err(Refusal::new(10, 8)));
+            assert_eq!(judged(state, 1), Err(Refusal::new(10, 8)));
+            assert_eq!(judged(state, 4), Err(Refusal::new(9, 28)));
+        }
+        for range in 1..=3 {
+            assert_eq!(judged(2, range), Err(Refusal::new(10, 28)));
+        }
+        assert_eq!(judged(2, 4), Err(Refusal::new(9, 28)));
+        assert_eq!(judged(5, 4), Err(Refusal::new(9, 4)));
+    }
+
+    #[test]
+    fn hspa_with_another_bit_and_its_neighbours_are_outside_the_table() {
+        let two = [0x28, 0x30, 0x9, 0x48, 0x1800, 0x18_0000, 0x1800_0000];
+        let three = [0x38, 0x19, 0x58, 0x98, 0x118, 0x1018, 0x1_0018, 0x8000_0018];
+        for version in [Version::V1, Version::V2] {
+            for class in two.into_iter().chain(three).chain([u32::MAX]) {
+                assert_eq!(judged(version, 2, class, 0), Err(Refusal::new(9, 8)));
+                assert_eq!(judged(version, 1, class, 4), Err(Refusal::new(9, 8)));
+            }
+        }
+    }
+
+    #[test]
+    fn of_all_pairs_of_bits_only_hspa_is_taken() {
+        for version in [Version::V1, Version::V2] {
+            for high in 0..32 {
+                for low in 0..high {
+                    let class = 1 << high | 1 << low;
+                    let refusal = Refusal::new(9, 8);
+                    let expected = if class == 0x18 { Ok(()) } else { Err(refusal) };
+                    assert_eq!(judged(version, 2, class, 0), expected);
+                }
+            }
+        }
     }
 }

@@ -308,6 +308,22 @@ mod tests {
     }
 
     #[test]
+    fn classes_of_several_bits_are_taken() {
+        for class in [data_class::HSPA, 0x28] {
+            let first = Registration { available_data_class: class, ..record(None) };
+            let shown = read(Version::V1, &written(&first)).unwrap();
+            assert_eq!(shown.available_data_class, class);
+            for (available, preferred) in [(class, 0), (0, class), (class, class)] {
+                let second =
+                    Registration { available_data_class: available, ..record(Some(preferred)) };
+                let shown = read(Version::V2, &written(&second)).unwrap();
+                assert_eq!(shown.available_data_class, available);
+                assert_eq!(shown.preferred_data_class, Some(preferred));
+            }
+        }
+    }
+
+    #[test]
     fn a_class_without_registration_contradicts_last() {
         let mut searching = record(Some(0));
         searching.register_state = 2;

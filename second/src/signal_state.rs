@@ -321,6 +321,24 @@ mod tests {
     }
 
     #[test]
+    fn the_system_type_has_one_bit_so_hspa_is_refused() {
+        let good = [known(1, 1), known(127, 128)];
+        let payload = written(&record(99, Some(&good)));
+        for (number, place) in [(0, 48), (1, 68)] {
+            for class in [data_class::HSPA, 0x28] {
+                let refusal = Refusal::new(9, place);
+                assert_eq!(read(Version::V2, &with(&payload, place, class)), Err(refusal));
+                let mut entries = good;
+                entries[number].system_type = class;
+                assert_eq!(write(&record(99, Some(&entries)), &mut []), Err(refusal));
+            }
+            for class in [data_class::HSDPA, data_class::HSUPA] {
+                assert!(read(Version::V2, &with(&payload, place, class)).is_ok());
+            }
+        }
+    }
+
+    #[test]
     fn unknown_codes_leave_rssi_free() {
         let unknown = [known(127, 128)];
         assert!(read(Version::V2, &written(&record(17, Some(&unknown)))).is_ok());

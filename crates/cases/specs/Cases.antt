@@ -1,19 +1,21 @@
--- The cases of document 01 that are marked P ("Cases worked out"), in its order, as one list, with what order 1 of document 02 made of them.
+-- The cases of document 01 that are marked P ("Cases worked out"), in its order, as one list, with what order 1 of document 02 made of them
+-- and the cases of order 4.
 -- In this order: what a case says; the bytes that the cases are about; the cases.
 use Prim.Native.Nat.{ℕ}
 use mathlib.Core.Path.{_≡_}
 use mathlib.Core.List.{List, [], _∷_, _++_}
 use lib.ListN.{take, drop, replicate}
 use lib.Ieee.{binary32, ofBits}
-use Rattle.protocol.specs.Refusal.{refusal, tooShort, wrongLength, offsetInFixedPart, pastEnd, outsideTable, misalignedOffset, offsetWithZeroSize}
+use Rattle.protocol.specs.Refusal.{refusal, tooShort, wrongLength, offsetInFixedPart, pastEnd, outsideTable, contradiction, misalignedOffset, offsetWithZeroSize}
 use Rattle.protocol.specs.Verdict.{Writing}
 use Rattle.protocol.specs.declared.Verdict.{Verdict}
 use Rattle.protocol.specs.declared.Verdict.the-variants.{Fault}
 use Rattle.protocol.specs.declared.Version.{Version}
 use Rattle.protocol.specs.declared.Version.the-variants.{V1, V2}
 use Rattle.protocol.specs.declared.Written.the-variants.{Length}
-use Rattle.packet_service.specs.PacketService.{readOf as packetRead}
-use Rattle.packet_service.specs.declared.PacketForm.the-variants.{V2 as Form2}
+use Rattle.packet_service.specs.PacketService.{readOf as packetRead, bytesOf as packetBytes, writeOf as packetWrite}
+use Rattle.packet_service.specs.declared.PacketForm.{PacketForm}
+use Rattle.packet_service.specs.declared.PacketForm.the-variants.{V1 as Form1, V2 as Form2}
 use Rattle.packet_service.specs.declared.PacketService.{PacketService}
 use Rattle.packet_service.specs.declared.PacketServiceRead.{PacketServiceRead}
 use Rattle.packet_service.specs.declared.PacketServiceRead.the-variants.{Info as PacketInfo, Refused as PacketRefused}
@@ -54,6 +56,8 @@ pub data Case : Type 0 where
   versionShown : List ℕ → VersionInfoRead → Case
   -- the PACKET_SERVICE reader of a version answers
   packetShown : Version → List ℕ → PacketServiceRead → Case
+  -- the PACKET_SERVICE writer leaves in an output of so many zeros
+  packetWritten : PacketService → ℕ → Writing → Case
   -- the REGISTER_STATE writer, given a record with a ProviderId and no other text, leaves in an output of so many zeros
   registrationWritten : Registration → List ℕ → ℕ → Writing → Case
   -- the REGISTER_STATE reader of a version answers
@@ -73,6 +77,7 @@ abbrev pub Holds : Case → Type 0
 Holds (versionWritten i s w) = versionWrite i s ≡ w
 Holds (versionShown s a) = versionRead s ≡ a
 Holds (packetShown v s a) = packetRead v s ≡ a
+Holds (packetWritten p n w) = packetWrite p (replicate n 0) ≡ w
 Holds (registrationWritten p id n w) = registrationWrite p id [] [] (replicate n 0) ≡ w
 Holds (registrationShown v s a) = registrationRead v s ≡ a
 Holds (pairJudged fixed limit place n p v) = verdictOf Text fixed limit place n p ≡ v
@@ -103,15 +108,19 @@ attachedBytes =
     ∷ 0x80 ∷ 0xF0 ∷ 0xFA ∷ 0x02 ∷ 0x00 ∷ 0x00 ∷ 0x00 ∷ 0x00
     ∷ 0x80 ∷ 0xD1 ∷ 0xF0 ∷ 0x08 ∷ 0x00 ∷ 0x00 ∷ 0x00 ∷ 0x00 ∷ 0x01 ∷ 0x00 ∷ 0x00 ∷ 0x00 ∷ []
 
--- "attached, 50,000,000 up, 150,000,000 down"
-abbrev pub attached : PacketService
-attached = record {
+-- 50,000,000 up, 150,000,000 down
+abbrev pub serving : ℕ → PacketForm → PacketService
+serving state form = record {
   «nw_error» = 0;
-  «packet_service_state» = 2;
+  «packet_service_state» = state;
   «uplink_speed» = 50000000;
   «downlink_speed» = 150000000;
-  form = Form2 0x40 1;
+  form = form;
 }
+
+-- "attached, 50,000,000 up, 150,000,000 down"
+abbrev pub attached : PacketService
+attached = serving 2 (Form2 0x40 1)
 
 -- "00101" in UTF-16
 abbrev pub providerId : List ℕ
@@ -153,6 +162,12 @@ oneElement pair = 1 ∷ 0 ∷ 0 ∷ 0 ∷ 0 ∷ 0 ∷ 0 ∷ 0 ∷ rangeBytes pai
 abbrev pub noSignal : Range → List ℕ
 noSignal pair = 99 ∷ 0 ∷ 0 ∷ 0 ∷ 99 ∷ 0 ∷ 0 ∷ 0 ∷ (replicate 12 0 ++ rangeBytes pair)
 
+-- a signal state at 2.00 with one entry that knows nothing but its SystemType
+abbrev pub oneSignal : ℕ → List ℕ
+oneSignal system =
+    99 ∷ 0 ∷ 0 ∷ 0 ∷ 99 ∷ 0 ∷ 0 ∷ 0
+    ∷ (replicate 12 0 ++ (rangeBytes (range 28 24) ++ (1 ∷ 0 ∷ 0 ∷ 0 ∷ 127 ∷ 0 ∷ 0 ∷ 0 ∷ 128 ∷ 0 ∷ 0 ∷ 0 ∷ (replicate 8 0 ++ (system ∷ 0 ∷ 0 ∷ 0 ∷ [])))))
+
 -- ---- the cases
 
 unfoldable pub cases : List Case
@@ -178,6 +193,17 @@ cases =
     ∷ registrationShown V2 (withPair (range 54 12)) (RegistrationRefused (refusal misalignedOffset 20))
     ∷ signalShown V2 (noSignal (range 30 24)) (signalRefused (refusal misalignedOffset 20))
     ∷ servicesShown (oneElement (range 52 0)) (ServicesRefused (refusal offsetWithZeroSize 8))
+    -- order 4: "Accept 18h besides the single bits, at both versions, in reader, writer"; "every other pair of bits stays 9"
+    ∷ packetShown V1 (packetBytes (serving 4 (Form1 0x18))) (PacketInfo (serving 4 (Form1 0x18)))
+    ∷ packetShown V2 (packetBytes (serving 2 (Form2 0x18 0))) (PacketInfo (serving 2 (Form2 0x18 0)))
+    ∷ packetWritten (serving 2 (Form2 0x18 0)) 32 (record { answer = Length 32; output = packetBytes (serving 2 (Form2 0x18 0)) })
+    ∷ packetShown V1 (packetBytes (serving 2 (Form1 0x28))) (PacketRefused (refusal outsideTable 8))
+    ∷ packetShown V2 (packetBytes (serving 2 (Form2 0x28 0))) (PacketRefused (refusal outsideTable 8))
+    -- under the rules of 2.00; SystemType and AvailableDataClass as in 01
+    ∷ packetShown V2 (packetBytes (serving 1 (Form2 0x18 0))) (PacketRefused (refusal contradiction 8))
+    ∷ packetShown V2 (packetBytes (serving 2 (Form2 0x18 1))) (PacketRefused (refusal contradiction 28))
+    ∷ signalShown V2 (oneSignal 0x18) (signalRefused (refusal outsideTable 48))
+    ∷ registrationShown V1 (homeBytes RegistrationForm1 0x28) (RegistrationInfo (home RegistrationForm1 0x28) (texts (range 48 10) (range 0 0) (range 0 0)))
     ∷ versionShown [] (VersionRefused (refusal tooShort 0))
     ∷ packetShown V1 [] (PacketRefused (refusal tooShort 0))
     ∷ packetShown V2 [] (PacketRefused (refusal tooShort 0))

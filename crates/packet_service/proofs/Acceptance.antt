@@ -2,7 +2,7 @@
 -- exactly when its fields meet them.
 -- Assumes nothing.
 use mathlib.Core.Path.{_≡_, refl, sym}
-use mathlib.Core.Logic.{_↔_, _⊎_, ⊎-map}
+use mathlib.Core.Logic.{_↔_, ⊎-map}
 use mathlib.Core.Bool.{false, not, _||_}
 use mathlib.Core.List.{List}
 use Prim.Native.Nat.{ℕ, _≤_}
@@ -12,29 +12,28 @@ use lib.Dec.{eqb}
 use lib.ListN.{length}
 use Rattle.wire.specs.Numbers.{u32At}
 use Rattle.protocol.specs.Verdict.{Kept, judge, firstOf, exactLength}
-use Rattle.protocol.specs.DataClass.{oneClassOrNone, IsClass}
 use Rattle.protocol.specs.declared.Verdict.{Verdict}
 use Rattle.protocol.specs.declared.Verdict.the-variants.{Fits, Fault}
 use Rattle.protocol.specs.declared.Version.{Version}
 use Rattle.protocol.specs.declared.Version.the-variants.{V1, V2}
 use Rattle.protocol.proofs.Tests.{or-cases, cases-or, and-cases, cases-and, not-kept, kept-not, equal-kept, kept-equal}
-use Rattle.protocol.proofs.Classes.{none-or-class, class-or-none}
 use Rattle.protocol.proofs.Verdicts.{fits-kept, kept-fits, then-kept, kept-then, exact-length, length-exact, written-both, both-written}
 use Rattle.protocol.specs.declared.Written.the-variants.{Length}
 use Rattle.packet_service.specs.declared.PacketForm.{PacketForm}
 use Rattle.packet_service.specs.declared.PacketForm.the-variants.{V1 as Form1, V2 as Form2}
 use Rattle.packet_service.specs.declared.PacketService.{PacketService}
 use Rattle.packet_service.specs.declared.PacketServiceRead.the-variants.{Info}
-use Rattle.packet_service.specs.PacketService.{lengthOf, recordAt, laterRules, formRules, rules, verdictOf, shown, readOf, bytesOf, writeOf}
-use Rattle.packet_service.specs.Claims.{LaterFits, FormFits, Acceptable, FormWritable, Writable, Accepted, AcceptedExactly, WrittenExactly}
+use Rattle.packet_service.specs.PacketService.{lengthOf, recordAt, packetClass, laterRules, formRules, rules, verdictOf, shown, readOf, bytesOf, writeOf}
+use Rattle.packet_service.specs.Claims.{PacketClass, LaterFits, FormFits, Acceptable, FormWritable, Writable, Accepted, AcceptedExactly, WrittenExactly}
+use Rattle.packet_service.proofs.Hspa.{class-exactly}
 
 -- ---- each rule as a fact
 
-class-said : (v : Version) (class : ℕ) → not (oneClassOrNone v class) ≡ false → (class ≡ 0) ⊎ IsClass v class
-class-said v class e = none-or-class v class (not-kept (oneClassOrNone v class) e)
+class-said : (v : Version) (class : ℕ) → not (packetClass v class) ≡ false → PacketClass v class
+class-said v class e = class-exactly v class .0 (not-kept (packetClass v class) e)
 
-said-class : (v : Version) (class : ℕ) → (class ≡ 0) ⊎ IsClass v class → not (oneClassOrNone v class) ≡ false
-said-class v class h = kept-not (oneClassOrNone v class) (class-or-none v class h)
+said-class : (v : Version) (class : ℕ) → PacketClass v class → not (packetClass v class) ≡ false
+said-class v class h = kept-not (packetClass v class) (class-exactly v class .1 h)
 
 later-said : (state class range : ℕ) → Kept (laterRules state class range) → LaterFits state class range
 unfolding laterRules
@@ -47,7 +46,7 @@ later-said state class range k = record {
       (and-cases (not (eqb range 0)) (not (eqb class 0x40 || eqb class 0x80)) (k .1 .1 .1 .0));
 }
 
-said-later : (state class range : ℕ) → (class ≡ 0) ⊎ IsClass V2 class → LaterFits state class range → Kept (laterRules state class range)
+said-later : (state class range : ℕ) → PacketClass V2 class → LaterFits state class range → Kept (laterRules state class range)
 unfolding laterRules
 said-later state class range c f = (
   said-class V2 class c,

@@ -1,4 +1,5 @@
 pub mod Laws
 pub mod RoundTrip
 pub mod OtherVersion
+pub mod Hspa
 pub mod Acceptance

@@ -1,5 +1,6 @@
--- The PACKET_SERVICE payload (document 01, "Packet service"; source 000, MBIM_PACKET_SERVICE_INFO_V2).
--- In this order: the fields and their places; the rules, in the order in which they are judged; what a reader answers; what a writer gives.
+-- The PACKET_SERVICE payload (document 01, "Packet service"; document 02, order 4; source 000, MBIM_PACKET_SERVICE_INFO_V2).
+-- In this order: the fields and their places; the table of the class; the rules, in the order in which they are judged; what a reader answers;
+-- what a writer gives.
 use Prim.Native.Nat.{ℕ}
 use mathlib.Core.Bool.{Bool, true, false, not, _&&_, _||_}
 use mathlib.Core.List.{List, [], _∷_, _++_}
@@ -8,7 +9,7 @@ use lib.ListN.{length}
 use Rattle.wire.specs.Numbers.{u32At, u64At, digits}
 use Rattle.protocol.specs.Refusal.{outsideTable, contradiction}
 use Rattle.protocol.specs.Verdict.{Rule, rule, judge, firstOf, exactLength, Writing, writing}
-use Rattle.protocol.specs.DataClass.{oneClassOrNone}
+use Rattle.protocol.specs.DataClass.{sumOfBits, oneClassOrNone}
 use Rattle.protocol.specs.declared.Verdict.{Verdict}
 use Rattle.protocol.specs.declared.Verdict.the-variants.{Fits, Fault}
 use Rattle.protocol.specs.declared.Version.{Version}
@@ -41,6 +42,16 @@ recordAt v s = record {
   form = formAt v s;
 }
 
+-- ---- the table of the class: the bits of 01, "at most one bit set", and the one pair of 02, order 4: "Accept 18h besides the single bits,
+-- at both versions"
+
+-- HSDPA (8h) and HSUPA (10h), which source 000 ORs for HSPA
+abbrev pub hspa : ℕ
+hspa = sumOfBits (3 ∷ 4 ∷ [])
+
+abbrev pub packetClass : Version → ℕ → Bool
+packetClass v class = oneClassOrNone v class || eqb class hspa
+
 -- ---- rules: broken, number, place; the first broken one decides
 
 -- the class is not 0 though the state is not 2
@@ -53,14 +64,14 @@ strayRange class range = not (eqb range 0) && not (eqb class 0x40 || eqb class 0
 
 unfoldable pub laterRules : ℕ → ℕ → ℕ → List Rule
 laterRules state class range =
-    rule (not (oneClassOrNone V2 class)) outsideTable 8
+    rule (not (packetClass V2 class)) outsideTable 8
     ∷ rule (ltb 3 range) outsideTable 28
     ∷ rule (unattached state class) contradiction 8
     ∷ rule (strayRange class range) contradiction 28
     ∷ []
 
 unfoldable pub formRules : ℕ → PacketForm → List Rule
-formRules state (Form1 class) = rule (not (oneClassOrNone V1 class)) outsideTable 8 ∷ []
+formRules state (Form1 class) = rule (not (packetClass V1 class)) outsideTable 8 ∷ []
 formRules state (Form2 class range) = laterRules state class range
 
 -- state 0 to 4; then the class and, at 2.00, the range, their tables before what contradicts

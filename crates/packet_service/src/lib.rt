@@ -16,7 +16,7 @@ use wire::u64_at;
 ghost use mathlib.Core.Path.{_≡_};
 ghost use lib.Seq.{sets};
 ghost use Rattle.protocol.specs.Verdict.{exactLength, judge};
-ghost use Rattle.packet_service.specs.PacketService.{lengthOf, versionOf, formAt, recordAt, unattached, strayRange, laterRules, verdictOf, readOf, sharedBytes, bytesOf, writeOf};
+ghost use Rattle.packet_service.specs.PacketService.{lengthOf, versionOf, formAt, recordAt, packetClass, unattached, strayRange, laterRules, verdictOf, readOf, sharedBytes, bytesOf, writeOf};
 
 // What only one form has.
 pub enum PacketForm {
@@ -63,6 +63,8 @@ const ATTACHED: u32 = 2;
 const LAST_STATE: u32 = 4;
 
 const LAST_FREQUENCY_RANGE: u32 = 3;
+
+const CLASS_HSPA: u32 = 0x18;
 
 const CLASS_5G_NSA: u32 = 0x40;
 
@@ -176,7 +178,7 @@ fn judge(info: PacketService) -> Verdict
             highest_available_data_class,
         } => also(
             Verdict::Fits,
-            !is_one_class_or_none(Version::V1, highest_available_data_class),
+            !is_packet_class(Version::V1, highest_available_data_class),
             OUTSIDE_TABLE,
             DATA_CLASS,
         ),
@@ -191,7 +193,7 @@ fn judge(info: PacketService) -> Verdict
 fn judge_later(state: u32, class: u32, range: u32) -> Verdict
     ensures { λ r. ⌜ r ≡ judge (laterRules state class range) ⌝ }
 {
-    if !is_one_class_or_none(Version::V2, class) {
+    if !is_packet_class(Version::V2, class) {
         return Verdict::Fault(Refusal {
             number: OUTSIDE_TABLE,
             place: DATA_CLASS,
@@ -215,6 +217,13 @@ fn judge_later(state: u32, class: u32, range: u32) -> Verdict
         CONTRADICTION,
         FREQUENCY_RANGE,
     )
+}
+
+// Whether the class is none, one, or the pair that stands for HSPA.
+fn is_packet_class(version: Version, class: u32) -> bool
+    ensures { λ r. ⌜ r ≡ packetClass version class ⌝ }
+{
+    is_one_class_or_none(version, class) | (class == CLASS_HSPA)
 }
 
 // Whether there is a class without an attached state.

@@ -1,7 +1,7 @@
 -- A payload is accepted exactly when it meets the rules in words of fields, and then the record and the entries shown are those at their
 -- places.
 -- Assumes nothing.
-use mathlib.Core.Path.{_≡_, refl, sym, ap}
+use mathlib.Core.Path.{_≡_, refl, sym, ap, _∙_}
 use mathlib.Core.Logic.{_↔_, _⊎_, inl, inr, ⊎-map, ⊎-elim}
 use mathlib.Core.Bool.{true, false, not}
 use mathlib.Core.List.{List}
@@ -9,6 +9,7 @@ use Prim.Native.Nat.{ℕ, _≤_, _<_}
 use native.Mathlib.Omega.{arith}
 use borrow.Author.Tests.{ltb-false, le-ltb, eqb-true, eq-eqb}
 use lib.Dec.{eqb, ltb}
+use lib.Count.{ones}
 use lib.ListN.{length}
 use Rattle.wire.specs.Numbers.{u32At}
 use Rattle.protocol.specs.Refusal.{wrongSize, contradiction}
@@ -20,6 +21,7 @@ use Rattle.protocol.specs.declared.Version.{Version}
 use Rattle.protocol.specs.declared.Version.the-variants.{V1, V2}
 use Rattle.protocol.specs.declared.Written.the-variants.{Length}
 use Rattle.protocol.proofs.Tests.{and-cases, cases-and, or-none, none-or, not-kept, kept-not, equal-kept, kept-equal}
+use Rattle.protocol.proofs.Bits.{ones-power}
 use Rattle.protocol.proofs.Classes.{class-said, said-class}
 use Rattle.protocol.proofs.Verdicts.{left-fits, right-fits, not-broken, fits-kept, kept-fits, then-kept, kept-then, exact-length, length-exact, open-length, length-open, written-both, both-written}
 use Rattle.folds.proofs.Laws.{fits-each, each-fits, none-each, each-none}
@@ -37,7 +39,7 @@ use Rattle.signal_state.specs.declared.SignalState.{SignalState}
 use Rattle.signal_state.specs.declared.SignalStateRead.the-variants.{Info, Refused}
 use Rattle.signal_state.specs.declared.SignalStateShown.{SignalStateShown}
 use Rattle.signal_state.specs.SignalState.{listForm, countAt, listPlace, entryPlace, entryAt, unmarked, numberRules, listRules, entryRules, entriesVerdict, isKnown, anyKnown, contradicts, bodyVerdict, headOf, headVerdict, verdictAt, shown, recordAt, shownEntries, readOf, entryIn, sizeOf, limitVerdict, listedVerdict, verdictIn, bytesOf, writtenVerdict, writeOf}
-use Rattle.signal_state.specs.Claims.{info, Marked, CountFits, EntryFits, Unknown, Acceptable, FormWritable, Writable, Accepted, AcceptedExactly, WrittenExactly}
+use Rattle.signal_state.specs.Claims.{info, Marked, CountFits, EntryFits, Unknown, Acceptable, FormWritable, Writable, Accepted, AcceptedExactly, WrittenExactly, OneSystemBit}
 use Rattle.signal_state.proofs.Laws.{size-small, small-size}
 
 -- ---- each rule as a fact
@@ -68,6 +70,9 @@ said-entry at e f = (
   le-ltb 127 (e .rsrp) (f .rsrp),
   (le-ltb 128 (e .snr) (f .snr), (kept-not (oneClass V2 (e .«system_type»)) (said-class V2 (e .«system_type») (f .system)), tt)),
 )
+
+pub one-system-bit : OneSystemBit
+one-system-bit e f = ap ones (f .system .1 .1) ∙ ones-power (f .system .0)
 
 unknown-said : (e : RsrpSnr) → isKnown e ≡ false → Unknown e
 unknown-said e h =

@@ -3,6 +3,7 @@ use Prim.Native.Nat.{ℕ, _+_, _*_, _≤_, _<_, _^_}
 use mathlib.Core.Path.{_≡_}
 use mathlib.Core.Logic.{_⊎_, _↔_}
 use mathlib.Core.List.{List}
+use lib.Count.{ones}
 use lib.ListN.{length, take}
 use Rattle.wire.specs.Numbers.{u32At}
 use Rattle.protocol.specs.DataClass.{IsClass}
@@ -117,6 +118,10 @@ AcceptedExactly = (v : Version) (s : List ℕ) → (readOf v s ≡ info (recordA
 abbrev pub WrittenExactly : Type 0
 WrittenExactly = (p : SignalState) (es : List RsrpSnr) (s : List ℕ)
     → (writeOf p es s .answer ≡ Length (length (bytesOf p es))) ↔ (Writable p (entryIn es) × (length (bytesOf p es) ≤ length s))
+
+-- an entry that is read or written has a SystemType of one bit: 18h, which a packet service may have (02, order 4), is none
+abbrev pub OneSystemBit : Type 0
+OneSystemBit = (e : RsrpSnr) → EntryFits e → ones (e .«system_type») ≡ 1
 
 abbrev pub LaterReadEarlier : Type 0
 LaterReadEarlier = (p : SignalState) (es : List RsrpSnr) (n : ℕ) → p .form ≡ Form2 n → readOf V1 (bytesOf p es) ≡ refused (refusal wrongLength (28 + sizeOf n))

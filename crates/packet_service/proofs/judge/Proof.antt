@@ -14,7 +14,7 @@ returns c = let p = c .before .args .info in rw (lt-ltb _ _ (c .if1 .taken)) (sy
 
 returns-2 : tie.Need-returns-2
 unfolding verdictOf rules formRules judgeFrom firstOf faultIf
-returns-2 c = rw (le-ltb _ _ (c .before .before .before .before .before .if1 .left), c .before .before .before .form .given .1, c .also .ensures, c .before .is-one-class-or-none .ensures)
+returns-2 c = rw (le-ltb _ _ (c .before .before .before .before .before .if1 .left), c .before .before .before .form .given .1, c .also .ensures, c .before .is-packet-class .ensures)
 
 returns-3 : tie.Need-returns-3
 unfolding verdictOf rules formRules judgeFrom firstOf faultIf

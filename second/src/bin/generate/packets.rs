@@ -3,12 +3,32 @@
 use crate::damage::{around, change_bytes, lengths, set_word, two_faults, with_words, words};
 use crate::random::Random;
 use crate::samples::Samples;
-use second::data_class::{MASK_V1, MASK_V2};
+use second::data_class::{HSPA, MASK_V1, MASK_V2};
 use second::flat::question::{PACKET_READ, PACKET_WRITE};
 
 const V1: u64 = 0x0100;
 const V2: u64 = 0x0200;
 const CLASSES: [u32; 9] = [0, 0x20, 0x40, 0x80, 0xC0, 0x60, 0x100, 0x8000_0000, MASK_V2];
+/// Pairs with a bit above 7: in the table, outside it, and HSPA's two bits moved.
+const HIGH_PAIRS: [u32; 14] = [
+    0x108,
+    0x110,
+    0x1008,
+    0x1_0010,
+    0x40_0008,
+    0x8000_0008,
+    0x8000_0010,
+    0x8000_0040,
+    0x3_0000,
+    0x8040_0000,
+    0x300,
+    0x1800,
+    0x18_0000,
+    0x1800_0000,
+];
+/// HSPA with one more bit, or many.
+const MORE_THAN_HSPA: [u32; 10] =
+    [0x19, 0x1C, 0x38, 0x58, 0x98, 0x118, 0x1018, 0x1_0018, 0x8000_0018, MASK_V1];
 
 pub fn all(samples: &mut Samples) {
     let mut random = Random::new(2);
@@ -33,6 +53,9 @@ pub fn all(samples: &mut Samples) {
     contradictions(samples);
     writes(samples);
     random_records(samples, &mut random);
+    hspa_states(samples);
+    pairs_of_bits(samples);
+    hspa_writes(samples);
 }
 
 fn tables(samples: &mut Samples, worked: &[u8]) {
@@ -102,6 +125,60 @@ fn random_records(samples: &mut Samples, random: &mut Random) {
         let written = samples.ask(PACKET_WRITE, &arguments, &[]);
         if written.numbers[0] == 0 {
             samples.ask(PACKET_READ, &[version], &written.output);
+        }
+    }
+}
+
+/// HSPA in every state, read and written, with frequency ranges.
+fn hspa_states(samples: &mut Samples) {
+    for state in 0..=5 {
+        samples.ask(PACKET_READ, &[V1], &words(&[0, state, HSPA, 0, 0, 0, 0]));
+        for range in [0, 1, 3, 4] {
+            samples.ask(PACKET_READ, &[V2], &words(&[0, state, HSPA, 0, 0, 0, 0, range]));
+            for version in [V1, V2] {
+                let fields = [1, state, HSPA, HSPA, range, 2, 3].map(u64::from);
+                write_and_read(samples, &[&[40, version], &fields[..]].concat());
+            }
+        }
+    }
+}
+
+/// Asks the writer, and both readers about what it wrote.
+fn write_and_read(samples: &mut Samples, arguments: &[u64]) {
+    let written = samples.ask(PACKET_WRITE, arguments, &[]);
+    if written.numbers[0] == 0 {
+        samples.ask(PACKET_READ, &[V1], &written.output);
+        samples.ask(PACKET_READ, &[V2], &written.output);
+    }
+}
+
+/// All pairs of the low bits, some with higher ones, and more bits than two.
+fn pairs_of_bits(samples: &mut Samples) {
+    let low = (0..8).flat_map(|high| (0..high).map(move |low| 1 << high | 1 << low));
+    for class in low.chain(HIGH_PAIRS).chain(MORE_THAN_HSPA) {
+        let payload = words(&[3, 2, class, 5, 0, 6, 0, 0]);
+        samples.ask(PACKET_READ, &[V2], &payload);
+        samples.ask(PACKET_READ, &[V1], &payload[..28]);
+    }
+    let faults = [(4, 5), (4, 1), (8, HSPA), (8, 0x28), (28, 1), (28, 4)];
+    let attached = words(&[3, 2, HSPA, 5, 0, 6, 0, 0]);
+    two_faults(samples, PACKET_READ, &[V2], &attached, &faults);
+}
+
+/// HSPA and its neighbours beside each other: a form has one of the two classes.
+fn hspa_writes(samples: &mut Samples) {
+    let hspa = u64::from(HSPA);
+    for version in [V1, V2] {
+        for room in [0, 27, 28, 31, 32, 33] {
+            samples.ask(PACKET_WRITE, &[room, version, 1, 2, hspa, hspa, 0, 4, 5], &[]);
+        }
+        for class in [0x28, 0x30, 0x38] {
+            for (highest, current) in [(hspa, class), (class, hspa)] {
+                for room in [0, 40] {
+                    let arguments = [room, version, 1, 2, highest, current, 0, 4, 5];
+                    samples.ask(PACKET_WRITE, &arguments, &[]);
+                }
+            }
         }
     }
 }

@@ -3,6 +3,7 @@
 use crate::damage::{around, change_bytes, lengths, resized, set_word, two_faults, with_words};
 use crate::random::Random;
 use crate::samples::Samples;
+use second::data_class::HSPA;
 use second::flat::question::{REGISTRATION_READ, REGISTRATION_WRITE};
 
 const FORMS: [(u64, usize); 2] = [(0x0100, 48), (0x0200, 52)];
@@ -49,6 +50,7 @@ pub fn all(samples: &mut Samples) {
     }
     writes(samples);
     random_records(samples, &mut random);
+    several_bits(samples);
 }
 
 /// The worked cases, and each byte of them changed.
@@ -227,6 +229,22 @@ fn random_records(samples: &mut Samples, random: &mut Random) {
         if written.numbers[0] == 0 {
             samples.ask(REGISTRATION_READ, &[0x0100], &written.output);
             samples.ask(REGISTRATION_READ, &[0x0200], &written.output);
+        }
+    }
+}
+
+/// Both classes with several bits, read and written, in a registered state and another.
+fn several_bits(samples: &mut Samples) {
+    for (version, fixed) in FORMS {
+        for class in [HSPA, 0x28] {
+            for (state, available, preferred) in [(3, class, 0), (3, 0, class), (2, class, class)] {
+                let changes = [(4, state), (12, available), (48, preferred)];
+                let payload = with_words(&resized(&[], fixed + 4), &changes);
+                samples.ask(REGISTRATION_READ, &[version], &payload);
+                let fields = [0, state, 0, available, 0, 0, preferred, 0, 0, 0].map(u64::from);
+                let arguments = [&[64, version], &fields[..]].concat();
+                samples.ask(REGISTRATION_WRITE, &arguments, &[]);
+            }
         }
     }
 }

@@ -5,6 +5,7 @@ use crate::damage::{
 };
 use crate::random::Random;
 use crate::samples::Samples;
+use second::data_class::{HSDPA, HSPA, HSUPA};
 use second::flat::question::{SIGNAL_READ, SIGNAL_WRITE};
 
 const V1: u64 = 0x0100;
@@ -30,6 +31,7 @@ pub fn all(samples: &mut Samples) {
     contradictions(samples);
     writes(samples);
     random_records(samples, &mut random);
+    system_types(samples, &good);
 }
 
 fn first_form(samples: &mut Samples, random: &mut Random) {
@@ -201,6 +203,20 @@ fn random_records(samples: &mut Samples, random: &mut Random) {
         if written.numbers[0] == 0 {
             samples.ask(SIGNAL_READ, &[V2], &written.output);
             samples.ask(SIGNAL_READ, &[V1], &written.output[..20]);
+        }
+    }
+}
+
+/// HSPA is no system type; each of its bits is one.
+fn system_types(samples: &mut Samples, good: &[u8]) {
+    for class in [HSDPA, HSUPA, HSPA, 0x28] {
+        for entry in [32, 52] {
+            set_word(samples, SIGNAL_READ, &[V2], good, entry + 16, &[class]);
+        }
+        for types in [[class, 1], [1, class]] {
+            let entries = types.map(|system_type| [0, 0, 0, 0, system_type.into()]);
+            let head = [400, V2, 99, 7, 0, 0, 0, 2];
+            samples.ask(SIGNAL_WRITE, &[&head[..], &entries.concat()].concat(), &[]);
         }
     }
 }
