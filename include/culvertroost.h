@@ -80,9 +80,9 @@ extern "C" {
 #endif
 
 /* This library's own version. A call, a struct or a number that changes raises the first two. */
-#define CVR_LIBRARY_VERSION "0.4.0"
+#define CVR_LIBRARY_VERSION "0.5.0"
 #define CVR_LIBRARY_VERSION_MAJOR 0
-#define CVR_LIBRARY_VERSION_MINOR 4
+#define CVR_LIBRARY_VERSION_MINOR 5
 #define CVR_LIBRARY_VERSION_PATCH 0
 
 /* ---- refusals ---------------------------------------------------------------------------------- */
@@ -126,12 +126,14 @@ enum cvr_refusal_number {
     CVR_WRONG_TRANSFER_SIZE = 16,
     /* An offset that is not a multiple of 4. Place: the offset field. */
     CVR_MISALIGNED_OFFSET = 17,
-    /* An offset other than 0 beside size 0. Place: the offset field. */
+    /* An offset other than 0 beside size 0; given only where CVR_ZERO_SIZE_STRICT is chosen. Place: the
+     * offset field. */
     CVR_OFFSET_WITH_ZERO_SIZE = 18
 };
 
 /* The faults of an offset/size pair are judged at its offset field, in this order: WRONG_SIZE (over its
- * limit, odd for a text), OFFSET_WITH_ZERO_SIZE, OFFSET_IN_FIXED_PART, MISALIGNED_OFFSET, PAST_END. */
+ * limit, odd for a text), OFFSET_WITH_ZERO_SIZE (where CVR_ZERO_SIZE_STRICT is chosen),
+ * OFFSET_IN_FIXED_PART, MISALIGNED_OFFSET, PAST_END. With size 0 there are none of the last three. */
 
 /* The name of a refusal's number, for a log. */
 static inline const char *cvr_refusal_name(uint32_t number)
@@ -206,6 +208,16 @@ enum cvr_cid {
     CVR_CID_SIGNAL_STATE = 11,
     CVR_CID_DEVICE_SERVICES = 16,
     CVR_CID_VERSION = 15
+};
+
+/* What a pair of size 0 is: the choice that a reader .._with takes. The readers without it, and both ends
+ * of the handshake, read by the first. */
+enum cvr_zero_size {
+    /* Absent, whatever its offset. For modems in the field, of which some write an offset beside it. */
+    CVR_ZERO_SIZE_ABSENT = 0,
+    /* Absent with offset 0; with any other, refused by CVR_OFFSET_WITH_ZERO_SIZE. For judging a payload
+     * by the standard's letter, as the listing program does. */
+    CVR_ZERO_SIZE_STRICT = 1
 };
 
 /* The type of a command. */
@@ -382,7 +394,7 @@ typedef struct cvr_registration {
     uint32_t preferred_data_class; /* 2.00 only: class bits */
 } cvr_registration;
 
-/* Where a text lies in the payload; a text that is not there has start and length 0. */
+/* Where a text lies in the payload; an absent one has start and length 0, whatever its offset. */
 typedef struct cvr_range {
     uint32_t start;
     uint32_t length; /* in bytes, an even number */
@@ -406,6 +418,11 @@ typedef struct cvr_registration_answer {
  * faults of a pair, at 20, 28, 36; OUTSIDE_TABLE at 44, 48; CONTRADICTION at 12 (a class, though not
  * registered). */
 cvr_registration_answer cvr_registration_read(uint16_t version, const uint8_t *payload, size_t length);
+
+/* The same by a choice, enum cvr_zero_size.
+ * Refuses: after WRONG_VERSION, OUTSIDE_TABLE at 0 (the choice). */
+cvr_registration_answer cvr_registration_read_with(uint16_t version, uint32_t zero_size,
+                                                   const uint8_t *payload, size_t length);
 
 /* Writes the record and the three texts, each a pointer and its length in bytes:
  * CVR_REGISTRATION_LENGTH is room enough.
@@ -466,12 +483,18 @@ typedef struct cvr_signal_state_answer {
     cvr_signal_state info;
 } cvr_signal_state_answer;
 
-/* Reads a payload of exactly 20 bytes at 1.00, or with 28 fixed bytes at 2.00.
+/* Reads a payload of exactly 20 bytes at 1.00, or with 28 fixed bytes at 2.00. A list of size 0 is
+ * absent: no entries.
  * Refuses: WRONG_VERSION; TOO_SHORT; at 1.00 WRONG_LENGTH, at 2.00 TOO_LONG at 0; OUTSIDE_TABLE at 0,
- * 4; of the list, at 20: the faults of a pair (the limit is 324), WRONG_SIZE (under 4);
+ * 4; of the list, at 20: the faults of a pair (the limit is 324), WRONG_SIZE (1 to 3);
  * WRONG_COUNT at the count; WRONG_SIZE at 20 (not the count's); OUTSIDE_TABLE at the first wrong field
  * of an entry; CONTRADICTION at 0 (an RSSI beside known entries). */
 cvr_signal_state_answer cvr_signal_state_read(uint16_t version, const uint8_t *payload, size_t length);
+
+/* The same by a choice, enum cvr_zero_size; at 1.00 there is no pair, so both answer alike.
+ * Refuses: after WRONG_VERSION, OUTSIDE_TABLE at 0 (the choice). */
+cvr_signal_state_answer cvr_signal_state_read_with(uint16_t version, uint32_t zero_size,
+                                                   const uint8_t *payload, size_t length);
 
 /* Writes the record: CVR_SIGNAL_STATE_LENGTH is room enough.
  * Refuses: WRONG_VERSION; OUTSIDE_TABLE at 0, 4; WRONG_SIZE at 20 (too many entries); OUTSIDE_TABLE in
@@ -573,23 +596,33 @@ typedef struct cvr_service_list {
     cvr_service_element elements[CVR_MOST_SERVICES];
 } cvr_service_list;
 
-/* Each of these five judges the whole payload first.
- * Refuses: TOO_SHORT (under 8); WRONG_COUNT at 0; TOO_SHORT (pairs missing); TOO_LONG at 0; for each
- * element, at its offset field: the faults of a pair (the limit is 540), WRONG_SIZE (under 28);
- * WRONG_COUNT at its CID count; WRONG_SIZE at its offset field (not the count's). */
+/* Each of these judges the whole payload first. The second of two, .._with, is the same by a choice, enum
+ * cvr_zero_size. No element may be absent, so size 0 is refused under either.
+ * Refuses: .._with, OUTSIDE_TABLE at 0 (the choice); TOO_SHORT (under 8); WRONG_COUNT at 0;
+ * TOO_SHORT (pairs missing); TOO_LONG at 0; for each element, at its offset field: the faults of a pair
+ * (the limit is 540), WRONG_SIZE (under 28); WRONG_COUNT at its CID count; WRONG_SIZE at its offset
+ * field (not the count's). */
 
 /* Shows the list's head. */
 cvr_device_services_answer cvr_device_services_read(const uint8_t *payload, size_t length);
+cvr_device_services_answer cvr_device_services_read_with(uint32_t zero_size, const uint8_t *payload,
+                                                         size_t length);
 
 /* Shows the element with this number, from 0; its CIDs go to the front of the list of `room` numbers
  * (CVR_MOST_CIDS is enough).
  * Refuses: last, OUTPUT_TOO_SMALL at 4 bytes for each CID. */
 cvr_element_answer cvr_device_services_element(const uint8_t *payload, size_t length, uint32_t number,
                                                uint32_t *cids, size_t room);
+cvr_element_answer cvr_device_services_element_with(uint32_t zero_size, const uint8_t *payload,
+                                                    size_t length, uint32_t number, uint32_t *cids,
+                                                    size_t room);
 
 /* The same for the first element of the service. */
 cvr_element_answer cvr_device_services_cids(const uint8_t *payload, size_t length, cvr_service service,
                                             uint32_t *cids, size_t room);
+cvr_element_answer cvr_device_services_cids_with(uint32_t zero_size, const uint8_t *payload,
+                                                 size_t length, cvr_service service, uint32_t *cids,
+                                                 size_t room);
 
 /* Shows all elements with one judgement: each as the CVR_ELEMENT_WORDS numbers of a cvr_device_service
  * at the front of `fields` (CVR_ELEMENT_WORDS * CVR_MOST_SERVICES is enough), and all CIDs, element by element, at
@@ -597,10 +630,15 @@ cvr_element_answer cvr_device_services_cids(const uint8_t *payload, size_t lengt
  * Refuses: last, OUTPUT_TOO_SMALL at 28 bytes for each element, then at 4 bytes for each CID. */
 cvr_all_answer cvr_device_services_all(const uint8_t *payload, size_t length, uint32_t *fields,
                                        size_t fields_room, uint32_t *cids, size_t cids_room);
+cvr_all_answer cvr_device_services_all_with(uint32_t zero_size, const uint8_t *payload, size_t length,
+                                            uint32_t *fields, size_t fields_room, uint32_t *cids,
+                                            size_t cids_room);
 
 /* Whether any element of the service holds the CID. */
 cvr_listed_answer cvr_device_services_listed(const uint8_t *payload, size_t length, cvr_service service,
                                              uint32_t cid);
+cvr_listed_answer cvr_device_services_listed_with(uint32_t zero_size, const uint8_t *payload,
+                                                  size_t length, cvr_service service, uint32_t cid);
 
 /* Writes the list: CVR_MOST_INFORMATION is room enough.
  * Refuses: WRONG_COUNT at 0; WRONG_SIZE at the offset field of an element with too many CIDs; TOO_LONG

@@ -63,9 +63,9 @@ seen() {
     reported
 }
 
-# Of 35 kinds 28 have an answer that is not all 0, and 13 an output. No refusal has the number 99h.
+# Of 41 kinds 34 have an answer that is not all 0, and 13 an output. No refusal has the number 99h.
 changed() {
-    seen 35 4 '^(..)?' 99 && seen 35 4 '$' 01 && seen 28 4 '..$' ee && seen 35 5 '$' 01 && seen 13 5 '^..' ee
+    seen 41 4 '^(..)?' 99 && seen 41 4 '$' 01 && seen 34 4 '..$' ee && seen 41 5 '$' 01 && seen 13 5 '^..' ee
 }
 
 # The first three lines are right, one of them as long as it may be, one with the most room. The others
@@ -77,7 +77,7 @@ malformed() {
     {
         printf "$next\n$next%016614d\n02\t0000000000400000$numbers\n" 0
         printf "\n0$next\n $next\n${next}0g\n$next\t\n14\t\t$says\n"
-        printf "\t\t\t\t\n24\t\t\t\t\n1400\t\t\t$says\n"
+        printf "\t\t\t\t\n2a\t\t\t\t\n1400\t\t\t$says\n"
         printf "$next%016616d\n02\t0000000001400000$numbers\n14\t\t01\t$says\n$next" 0
     } >"$work/changed"
     awk 'NR > 3 { print NR "\tdiffers" }' "$work/changed" >"$work/lines"

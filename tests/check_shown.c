@@ -142,14 +142,15 @@ static void say_signal(char *out, const shown *s)
 {
     static const uint32_t steps[] = {2, 4, 7, 12, 17};
     uint32_t rssi = u32(s->bytes), bars = 0, i;
-    const uint8_t *list = s->bytes + u32(s->bytes + 20);
+    const uint8_t *list = s->bytes;
     out += sprintf(out, "signal: RSSI %" PRIu32, rssi);
     while (bars < 5 && rssi >= steps[bars])
         bars++;
     if (rssi != 99)
         out += sprintf(out, ", bars %" PRIu32, bars);
     if (strcmp(s->version, "1.00") == 0 || u32(s->bytes + 24) == 0)
-        return;
+        return; /* no list, and its offset may be any number */
+    list += u32(s->bytes + 20);
     for (i = 0; i < u32(list); i++) {
         const uint8_t *entry = list + 4 + 20 * i;
         out += sprintf(out, ", type %" PRIx32 "h", u32(entry + 16));

@@ -85,6 +85,30 @@ static void services(void)
                  1);
 }
 
+/* The readers by a choice. */
+static void choices(uint32_t choice)
+{
+    uint8_t list[64];
+    size_t length = one_service(list, sizeof list);
+    expect("registration read", cvr_registration_read_with(CVR_VERSION_2_00, choice, NULL, 0).refusal,
+           CVR_TOO_SHORT, 0);
+    expect("signal read", cvr_signal_state_read_with(CVR_VERSION_2_00, choice, NULL, 0).refusal,
+           CVR_TOO_SHORT, 0);
+    expect("services read", cvr_device_services_read_with(choice, NULL, 0).refusal, CVR_TOO_SHORT, 0);
+    expect("services element", cvr_device_services_element_with(choice, NULL, 0, 0, NULL, 0).refusal,
+           CVR_TOO_SHORT, 0);
+    expect("services CIDs", cvr_device_services_cids_with(choice, NULL, 0, basic_connect, NULL, 0).refusal,
+           CVR_TOO_SHORT, 0);
+    expect("services all", cvr_device_services_all_with(choice, NULL, 0, NULL, 0, NULL, 0).refusal,
+           CVR_TOO_SHORT, 0);
+    expect("services listed", cvr_device_services_listed_with(choice, NULL, 0, basic_connect, 9).refusal,
+           CVR_TOO_SHORT, 0);
+    expect_equal("services element",
+                 cvr_device_services_element_with(choice, list, length, 0, NULL, 0).listed, 1);
+    expect_equal("services CIDs",
+                 cvr_device_services_cids_with(choice, list, length, basic_connect, NULL, 0).listed, 1);
+}
+
 static void messages(cvr_message_header query)
 {
     uint8_t memory[CVR_ASSEMBLY_SIZE] = {0}, out[CVR_LEAST_TRANSFER];
@@ -145,6 +169,8 @@ int main(void)
                                 CVR_QUERY};
     payloads();
     services();
+    choices(CVR_ZERO_SIZE_ABSENT);
+    choices(CVR_ZERO_SIZE_STRICT);
     messages(query);
     host_end(query);
     modem_end(query);

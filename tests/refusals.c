@@ -7,6 +7,7 @@
  *   cvr_version_info_write  the room in bytes
  *   cvr_message_cut         the transfer size
  *   cvr_host_receive        native and advertised version, and the list in a reply to a host just opened
+ *   cvr_registration_read_with  the version, the choice and the payload
  *
  * With the argument `names`, the numbers and their names.
  */
@@ -107,6 +108,13 @@ static cvr_refusal host(const char *native, const char *advertised, const char *
     return cvr_host_receive(memory, sizeof memory, reply(basic_connect, CVR_CID_DEVICE_SERVICES), in.at, in.length).refusal;
 }
 
+static cvr_refusal registration(const char *version, const char *choice, const char *payload)
+{
+    static bytes in;
+    from_hex(payload, &in);
+    return cvr_registration_read_with(version_of(version), (uint32_t)strtoul(choice, NULL, 10), in.at, in.length).refusal;
+}
+
 static cvr_refusal answer(char *line)
 {
     const char *word[1 + MOST_ARGUMENTS] = {"", "", "", "", ""};
@@ -123,6 +131,8 @@ static cvr_refusal answer(char *line)
         return cut(word[1]);
     if (strcmp(word[0], "cvr_host_receive") == 0)
         return host(word[1], word[2], word[3]);
+    if (strcmp(word[0], "cvr_registration_read_with") == 0)
+        return registration(word[1], word[2], word[3]);
     fail("a call that is not known here");
     return received("");
 }

@@ -15,7 +15,7 @@
 #define UNTOUCHED 0xAA
 #define MOST_ROOM 16384
 #define MOST_LIST 1024
-#define QUESTIONS 35
+#define QUESTIONS 41
 
 static sample now; /* the sample whose question is asked; its input with the zeros at the end */
 static const uint8_t *given = now.field[INPUT];
@@ -222,9 +222,8 @@ static void put_range(cvr_range range)
     put(range.length);
 }
 
-static void registration_read(void)
+static void put_registration(cvr_registration_answer answer)
 {
-    cvr_registration_answer answer = cvr_registration_read(half(1), lend_input(), given_length);
     put_refusal(answer.refusal);
     put(answer.info.version);
     put(answer.info.nw_error);
@@ -237,6 +236,11 @@ static void registration_read(void)
     put_range(answer.texts.provider_id);
     put_range(answer.texts.provider_name);
     put_range(answer.texts.roaming_text);
+}
+
+static void registration_read(void)
+{
+    put_registration(cvr_registration_read(half(1), lend_input(), given_length));
 }
 
 static void registration_write(void)
@@ -254,9 +258,8 @@ static void registration_write(void)
                                        out, room));
 }
 
-static void signal_read(void)
+static void put_signal(cvr_signal_state_answer answer)
 {
-    cvr_signal_state_answer answer = cvr_signal_state_read(half(1), lend_input(), given_length);
     size_t i;
     put_refusal(answer.refusal);
     put(answer.info.version);
@@ -273,6 +276,11 @@ static void signal_read(void)
         put(answer.info.entries[i].snr_threshold);
         put(answer.info.entries[i].system_type);
     }
+}
+
+static void signal_read(void)
+{
+    put_signal(cvr_signal_state_read(half(1), lend_input(), given_length));
 }
 
 static void signal_write(void)
@@ -297,12 +305,16 @@ static void signal_write(void)
 
 /* ---- 9 to 13: the list of services */
 
-static void services_read(void)
+static void put_services(cvr_device_services_answer answer)
 {
-    cvr_device_services_answer answer = cvr_device_services_read(lend_input(), given_length);
     put_refusal(answer.refusal);
     put(answer.info.device_services_count);
     put(answer.info.max_dss_sessions);
+}
+
+static void services_read(void)
+{
+    put_services(cvr_device_services_read(lend_input(), given_length));
 }
 
 static void put_element(cvr_element_answer answer)
@@ -334,13 +346,17 @@ static void service_cids(void)
     put_element(cvr_device_services_cids(payload, length, service_at(0), cids, list_room));
 }
 
+static void put_listed(cvr_listed_answer answer)
+{
+    put_refusal(answer.refusal);
+    put(answer.listed);
+}
+
 static void is_listed(void)
 {
     size_t length;
     const uint8_t *payload = lend_information(&length);
-    cvr_listed_answer answer = cvr_device_services_listed(payload, length, service_at(0), word(1));
-    put_refusal(answer.refusal);
-    put(answer.listed);
+    put_listed(cvr_device_services_listed(payload, length, service_at(0), word(1)));
 }
 
 /* The element whose numbers stand at a place of the arguments; gives the place behind them. */
@@ -585,6 +601,45 @@ static void bars(void)
     put(answer.bars);
 }
 
+/* ---- 36 to 41: payloads by a choice */
+
+static void registration_read_with(void)
+{
+    put_registration(cvr_registration_read_with(half(1), word(2), lend_input(), given_length));
+}
+
+static void signal_read_with(void)
+{
+    put_signal(cvr_signal_state_read_with(half(1), word(2), lend_input(), given_length));
+}
+
+static void services_read_with(void)
+{
+    put_services(cvr_device_services_read_with(word(1), lend_input(), given_length));
+}
+
+static void element_with(void)
+{
+    uint32_t *cids = lend_list();
+    put_element(cvr_device_services_element_with(word(3), lend_input(), given_length, word(2), cids,
+                                                 list_room));
+}
+
+static void service_cids_with(void)
+{
+    uint32_t *cids = lend_list();
+    size_t length;
+    const uint8_t *payload = lend_information(&length);
+    put_element(cvr_device_services_cids_with(word(2), payload, length, service_at(0), cids, list_room));
+}
+
+static void is_listed_with(void)
+{
+    size_t length;
+    const uint8_t *payload = lend_information(&length);
+    put_listed(cvr_device_services_listed_with(word(2), payload, length, service_at(0), word(1)));
+}
+
 /* ---- all questions */
 
 static void (*const questions[QUESTIONS + 1])(void) = {
@@ -592,7 +647,8 @@ static void (*const questions[QUESTIONS + 1])(void) = {
     signal_read, signal_write, services_read, element, service_cids, is_listed, services_write, whole,
     whole_write, receive, empty, show_assembly, cut, next_transaction, kind, host_make, host_open, host_close,
     next_command, host_receive, modem_make, modem_open, modem_close, modem_receive, show_host, show_modem,
-    rsrp, snr, bars
+    rsrp, snr, bars, registration_read_with, signal_read_with, services_read_with, element_with,
+    service_cids_with, is_listed_with
 };
 
 static void ask(void)

@@ -1,6 +1,7 @@
 /*
- * The tables of the header, row by row: which data classes may stand where, what each end answers at
- * each stage, and where lent memory is refused. An 'any' of the header is tried at every stage.
+ * The tables of the header, row by row: which data classes may stand where, which numbers choose what a
+ * size of 0 is, what each end answers at each stage, and where lent memory is refused. An 'any' of the
+ * header is tried at every stage.
  */
 #include "culvertroost.h"
 
@@ -17,7 +18,7 @@ typedef struct payload {
 } payload;
 
 static const cvr_service basic_connect = CVR_BASIC_CONNECT, extensions = CVR_EXTENSIONS;
-static payload listed, unlisted, version_1, version_2, broken;
+static payload listed, unlisted, sizeless, version_1, version_2, broken;
 static int failed;
 
 static void check(const char *table, int row, const char *what, uint64_t got, uint64_t expected)
@@ -27,6 +28,12 @@ static void check(const char *table, int row, const char *what, uint64_t got, ui
                expected);
         failed = 1;
     }
+}
+
+static void check_refusal(const char *table, int row, cvr_refusal got, uint32_t number, uint64_t place)
+{
+    check(table, row, "the refusal", got.number, number);
+    check(table, row, "the place", got.place, number == CVR_NO_REFUSAL ? 0 : place);
 }
 
 /* ---- payloads */
@@ -48,6 +55,8 @@ static void write_payloads(void)
     cvr_version_info info = {CVR_MBIM_1_00, V1};
     write_list(&listed, 2);
     write_list(&unlisted, 1);
+    sizeless = listed;
+    memset(sizeless.bytes + CVR_AT_DEVICE_SERVICES_ELEMENT(0) + 4, 0, 4);
     version_1.length = cvr_version_info_write(info, version_1.bytes, 4).length;
     info.bcd_mbim_extended_version = V2;
     version_2.length = cvr_version_info_write(info, version_2.bytes, 4).length;
@@ -110,8 +119,7 @@ static cvr_refusal system_type(uint32_t class)
 
 static void class_row(int row, const char *what, cvr_refusal refusal, int taken, uint64_t place)
 {
-    check(what, row, "the refusal", refusal.number, taken ? CVR_NO_REFUSAL : CVR_OUTSIDE_TABLE);
-    check(what, row, "the place", refusal.place, taken ? 0 : place);
+    check_refusal(what, row, refusal, taken ? CVR_NO_REFUSAL : CVR_OUTSIDE_TABLE, place);
 }
 
 static void class_table(void)
@@ -132,6 +140,136 @@ static void class_table(void)
         }
 }
 
+/* ---- what a size of 0 is: each reader, by every number for the choice */
+
+enum reader { REGISTRATION, SIGNAL, HEAD, ELEMENT, CIDS, ALL, LISTED };
+
+/* The refusals of a payload whose first pair has size 0 beside an offset, at the pair's place. */
+typedef struct zero_row {
+    const char *what;
+    enum reader reader;
+    uint16_t version;
+    uint32_t absent, strict;
+    uint64_t place;
+} zero_row;
+
+static const zero_row zero_rows[] = {
+    {"registration at 1.00", REGISTRATION, V1, CVR_NO_REFUSAL, CVR_OFFSET_WITH_ZERO_SIZE, 20},
+    {"registration at 2.00", REGISTRATION, V2, CVR_NO_REFUSAL, CVR_OFFSET_WITH_ZERO_SIZE, 20},
+    {"signal at 1.00", SIGNAL, V1, CVR_NO_REFUSAL, CVR_NO_REFUSAL, 0}, /* it has no pair */
+    {"signal at 2.00", SIGNAL, V2, CVR_NO_REFUSAL, CVR_OFFSET_WITH_ZERO_SIZE, 20},
+    {"services read", HEAD, 0, CVR_WRONG_SIZE, CVR_OFFSET_WITH_ZERO_SIZE, 8},
+    {"services element", ELEMENT, 0, CVR_WRONG_SIZE, CVR_OFFSET_WITH_ZERO_SIZE, 8},
+    {"services CIDs", CIDS, 0, CVR_WRONG_SIZE, CVR_OFFSET_WITH_ZERO_SIZE, 8},
+    {"services all", ALL, 0, CVR_WRONG_SIZE, CVR_OFFSET_WITH_ZERO_SIZE, 8},
+    {"services listed", LISTED, 0, CVR_WRONG_SIZE, CVR_OFFSET_WITH_ZERO_SIZE, 8},
+};
+
+enum { FIELDS = CVR_ELEMENT_WORDS * CVR_MOST_SERVICES };
+static uint32_t fields[FIELDS], cids[CVR_MOST_CIDS];
+
+static cvr_refusal without_choice(enum reader reader, uint16_t version, const payload *in)
+{
+    const uint8_t *bytes = in->bytes;
+    size_t length = in->length;
+    switch (reader) {
+    case REGISTRATION:
+        return cvr_registration_read(version, bytes, length).refusal;
+    case SIGNAL:
+        return cvr_signal_state_read(version, bytes, length).refusal;
+    case HEAD:
+        return cvr_device_services_read(bytes, length).refusal;
+    case ELEMENT:
+        return cvr_device_services_element(bytes, length, 1, cids, CVR_MOST_CIDS).refusal;
+    case CIDS:
+        return cvr_device_services_cids(bytes, length, extensions, cids, CVR_MOST_CIDS).refusal;
+    case ALL:
+        return cvr_device_services_all(bytes, length, fields, FIELDS, cids, CVR_MOST_CIDS).refusal;
+    default:
+        return cvr_device_services_listed(bytes, length, extensions, CVR_CID_VERSION).refusal;
+    }
+}
+
+static cvr_refusal by_choice(enum reader reader, uint16_t version, uint32_t choice, const payload *in)
+{
+    const uint8_t *bytes = in->bytes;
+    size_t length = in->length;
+    switch (reader) {
+    case REGISTRATION:
+        return cvr_registration_read_with(version, choice, bytes, length).refusal;
+    case SIGNAL:
+        return cvr_signal_state_read_with(version, choice, bytes, length).refusal;
+    case HEAD:
+        return cvr_device_services_read_with(choice, bytes, length).refusal;
+    case ELEMENT:
+        return cvr_device_services_element_with(choice, bytes, length, 1, cids, CVR_MOST_CIDS).refusal;
+    case CIDS:
+        return cvr_device_services_cids_with(choice, bytes, length, extensions, cids, CVR_MOST_CIDS)
+            .refusal;
+    case ALL:
+        return cvr_device_services_all_with(choice, bytes, length, fields, FIELDS, cids, CVR_MOST_CIDS)
+            .refusal;
+    default:
+        return cvr_device_services_listed_with(choice, bytes, length, extensions, CVR_CID_VERSION).refusal;
+    }
+}
+
+/* The row's payload: no texts, no entries, or two elements; then its first pair. */
+static void write_zero_size(const zero_row *row, payload *out)
+{
+    static const uint8_t pair[8] = {52};
+    static cvr_signal_state signal;
+    cvr_registration registration;
+    memset(&registration, 0, sizeof registration);
+    memset(out, 0, sizeof *out);
+    signal.version = registration.version = row->version;
+    if (row->reader == REGISTRATION)
+        out->length = cvr_registration_write(registration, NULL, 0, NULL, 0, NULL, 0, out->bytes,
+                                             sizeof out->bytes).length;
+    else if (row->reader == SIGNAL)
+        out->length = cvr_signal_state_write(signal, out->bytes, sizeof out->bytes).length;
+    else
+        write_list(out, 2);
+    if (row->place)
+        memcpy(out->bytes + row->place, pair, sizeof pair);
+}
+
+/* The numbers tried: 0 to 300, then these. */
+enum { LARGE = 301 };
+static const uint32_t large[] = {0x10000,    0x10001,    0x1000000,  0x1000001,
+                                 0x80000000, 0x80000001, 0xFFFFFFFE, 0xFFFFFFFF};
+
+/* A number that is no choice is refused before the payload, a version before the choice. */
+static void try_choice(const zero_row *row, const payload *in, int i)
+{
+    uint32_t choice = i < LARGE ? (uint32_t)i : large[i - LARGE];
+    int chosen = choice == CVR_ZERO_SIZE_ABSENT || choice == CVR_ZERO_SIZE_STRICT;
+    uint32_t number = choice == CVR_ZERO_SIZE_ABSENT ? row->absent : row->strict;
+    check_refusal(row->what, i, by_choice(row->reader, row->version, choice, in),
+                  chosen ? number : CVR_OUTSIDE_TABLE, chosen ? row->place : 0);
+    check_refusal(row->what, i, by_choice(row->reader, row->version, choice, &broken),
+                  chosen ? CVR_TOO_SHORT : CVR_OUTSIDE_TABLE, chosen ? broken.length : 0);
+    if (row->version)
+        check_refusal(row->what, i, by_choice(row->reader, 0x0300, choice, in), CVR_WRONG_VERSION, 0);
+}
+
+static void zero_size_table(void)
+{
+    payload in;
+    int i, j;
+    for (i = 0; i < (int)(sizeof zero_rows / sizeof zero_rows[0]); i++) {
+        const zero_row *row = &zero_rows[i];
+        write_zero_size(row, &in);
+        check_refusal("no choice", i, without_choice(row->reader, row->version, &in), row->absent,
+                      row->place);
+        if (row->reader == REGISTRATION)
+            check("no choice", i, "the absent text's start",
+                  cvr_registration_read(row->version, in.bytes, in.length).texts.provider_id.start, 0);
+        for (j = 0; j < LARGE + (int)(sizeof large / sizeof large[0]); j++)
+            try_choice(row, &in, j);
+    }
+}
+
 /* ---- the host's table */
 
 enum { ANY = 100, OTHER = 101, SAME = 102 }; /* of stages: any; any but AWAITS_VERSION; the same */
@@ -150,6 +288,7 @@ static const host_row host_rows[] = {
     {ANY, V2, V1, CVR_CID_REGISTER_STATE, 0, &broken, 0, CVR_EVENT_UNCHANGED, 0, SAME},
     {ANY, V2, V1, CVR_CID_DEVICE_SERVICES, 9, &listed, 0, CVR_EVENT_UNCHANGED, 0, SAME},
     {ANY, V2, V1, CVR_CID_DEVICE_SERVICES, 0, &broken, CVR_TOO_SHORT, 0, 0, SAME},
+    {ANY, V2, V1, CVR_CID_DEVICE_SERVICES, 0, &sizeless, CVR_WRONG_SIZE, 0, 0, SAME},
     {CVR_HOST_OPEN, V1, V2, CVR_CID_DEVICE_SERVICES, 0, &listed, CVR_ABOVE_HOST, 0, 0, SAME},
     {CVR_HOST_OPEN, V1, V2, CVR_CID_DEVICE_SERVICES, 0, &unlisted, CVR_ABOVE_HOST, 0, 0, SAME},
     {CVR_HOST_OPEN, V2, V2, CVR_CID_DEVICE_SERVICES, 0, &unlisted, CVR_VERSION_NOT_LISTED, 0, 0, SAME},
@@ -398,6 +537,7 @@ int main(void)
 {
     write_payloads();
     class_table();
+    zero_size_table();
     host_table();
     modem_table();
     memory_table();

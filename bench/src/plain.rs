@@ -10,9 +10,9 @@ use second::message::{Header, COMMAND};
 use second::packet_service::{self, PacketService};
 use second::refusal::Refusal;
 use second::registration::{self, Range, Registration};
-use second::signal_state::{self, RsrpSnr, SignalState};
+use second::signal_state::{self, Entries, RsrpSnr, SignalState};
 use second::version::Version;
-use second::{cutter, version_info};
+use second::{cutter, version_info, ZeroSize};
 
 /// A loop that only copies.
 #[inline(never)]
@@ -49,6 +49,16 @@ pub fn registration_read(version: u16, payload: &[u8]) -> Result<Registration<Ra
 }
 
 #[inline(never)]
+pub fn registration_read_with(
+    version: u16,
+    zero_size: u32,
+    payload: &[u8],
+) -> Result<Registration<Range>, Refusal> {
+    let version = Version::from_bcd(version)?;
+    registration::read_with(version, ZeroSize::from_number(zero_size)?, payload)
+}
+
+#[inline(never)]
 pub fn registration_write(record: &Registration<&[u8]>, out: &mut [u8]) -> Result<usize, Refusal> {
     registration::write(record, out)
 }
@@ -63,7 +73,18 @@ pub struct Signal {
 
 #[inline(never)]
 pub fn signal_read(version: u16, payload: &[u8]) -> Result<Signal, Refusal> {
-    let shown = signal_state::read(Version::from_bcd(version)?, payload)?;
+    Ok(copied(&signal_state::read(Version::from_bcd(version)?, payload)?))
+}
+
+#[inline(never)]
+pub fn signal_read_with(version: u16, zero_size: u32, payload: &[u8]) -> Result<Signal, Refusal> {
+    let version = Version::from_bcd(version)?;
+    let zero_size = ZeroSize::from_number(zero_size)?;
+    Ok(copied(&signal_state::read_with(version, zero_size, payload)?))
+}
+
+#[inline(always)]
+fn copied(shown: &SignalState<Entries>) -> Signal {
     let numbers = [
         shown.rssi,
         shown.error_rate,
@@ -78,7 +99,7 @@ pub fn signal_read(version: u16, payload: &[u8]) -> Result<Signal, Refusal> {
             *place = entry;
         }
     }
-    Ok(signal)
+    signal
 }
 
 #[inline(never)]

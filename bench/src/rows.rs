@@ -9,6 +9,9 @@ use second::handshake::{Host, Modem};
 use second::message::{COMMAND, COMMAND_DONE};
 use std::hint::black_box;
 
+/// A pair of size 0 has no offset.
+const STRICT: u32 = 1;
+
 /// One thing a call.
 fn row(
     mode: Mode,
@@ -76,6 +79,13 @@ fn registration(mode: Mode, inputs: &Inputs) {
     );
     row(
         mode,
+        "registration read, 2.00, strictly",
+        payload,
+        &mut || keep(c::registration_read_with(0x0200, STRICT, black_box(payload))),
+        &mut || keep(plain::registration_read_with(0x0200, STRICT, black_box(payload))),
+    );
+    row(
+        mode,
         "registration write, 2.00",
         payload,
         &mut || keep(c::registration_write(*black_box(&info), id, name, roaming, &mut out)),
@@ -94,6 +104,13 @@ fn signal_state(mode: Mode, inputs: &Inputs) {
         payload,
         &mut || keep(c::signal_state_read(0x0200, black_box(payload))),
         &mut || keep(plain::signal_read(0x0200, black_box(payload))),
+    );
+    row(
+        mode,
+        "signal read, 2.00, strictly",
+        payload,
+        &mut || keep(c::signal_state_read_with(0x0200, STRICT, black_box(payload))),
+        &mut || keep(plain::signal_read_with(0x0200, STRICT, black_box(payload))),
     );
     row(
         mode,

@@ -1,7 +1,7 @@
 //! The C interface: its structs and its functions, one a call, over slices. What each member and each
 //! function means stands in include/culvertroost.h. This is the only module with `unsafe`: a slice is
 //! valid for its length, and Rust's borrows keep what is written apart from everything else.
-//! Slices cross as a pointer and a length.
+//! Slices cross as a pointer and a length, a reader's choice as any number.
 
 /// How many bytes of memory each state takes.
 pub const ASSEMBLY_SIZE: usize = 4144;
@@ -191,6 +191,12 @@ extern "C" {
         payload: *const u8,
         payload_length: usize,
     ) -> RegistrationAnswer;
+    fn cvr_registration_read_with(
+        version: u16,
+        zero_size: u32,
+        payload: *const u8,
+        payload_length: usize,
+    ) -> RegistrationAnswer;
     fn cvr_registration_write(
         info: Registration,
         provider_id: *const u8,
@@ -208,6 +214,12 @@ extern "C" {
         payload: *const u8,
         payload_length: usize,
     ) -> SignalStateAnswer;
+    fn cvr_signal_state_read_with(
+        version: u16,
+        zero_size: u32,
+        payload: *const u8,
+        payload_length: usize,
+    ) -> SignalStateAnswer;
     fn cvr_signal_state_write(info: SignalState, out: *mut u8, out_length: usize) -> WrittenAnswer;
 
     fn cvr_rsrp(code: u32) -> ReadingAnswer;
@@ -215,6 +227,11 @@ extern "C" {
     fn cvr_bars(rssi: u32) -> BarsAnswer;
 
     fn cvr_device_services_read(payload: *const u8, payload_length: usize) -> DeviceServicesAnswer;
+    fn cvr_device_services_read_with(
+        zero_size: u32,
+        payload: *const u8,
+        payload_length: usize,
+    ) -> DeviceServicesAnswer;
     fn cvr_device_services_element(
         payload: *const u8,
         payload_length: usize,
@@ -222,7 +239,23 @@ extern "C" {
         cids: *mut u32,
         cids_length: usize,
     ) -> ElementAnswer;
+    fn cvr_device_services_element_with(
+        zero_size: u32,
+        payload: *const u8,
+        payload_length: usize,
+        number: u32,
+        cids: *mut u32,
+        cids_length: usize,
+    ) -> ElementAnswer;
     fn cvr_device_services_cids(
+        payload: *const u8,
+        payload_length: usize,
+        service: ServiceId,
+        cids: *mut u32,
+        cids_length: usize,
+    ) -> ElementAnswer;
+    fn cvr_device_services_cids_with(
+        zero_size: u32,
         payload: *const u8,
         payload_length: usize,
         service: ServiceId,
@@ -237,7 +270,23 @@ extern "C" {
         cids: *mut u32,
         cids_length: usize,
     ) -> AllAnswer;
+    fn cvr_device_services_all_with(
+        zero_size: u32,
+        payload: *const u8,
+        payload_length: usize,
+        fields: *mut u32,
+        fields_length: usize,
+        cids: *mut u32,
+        cids_length: usize,
+    ) -> AllAnswer;
     fn cvr_device_services_listed(
+        payload: *const u8,
+        payload_length: usize,
+        service: ServiceId,
+        cid: u32,
+    ) -> ListedAnswer;
+    fn cvr_device_services_listed_with(
+        zero_size: u32,
         payload: *const u8,
         payload_length: usize,
         service: ServiceId,
@@ -356,6 +405,11 @@ pub fn registration_read(version: u16, payload: &[u8]) -> RegistrationAnswer {
 }
 
 #[inline]
+pub fn registration_read_with(version: u16, zero_size: u32, payload: &[u8]) -> RegistrationAnswer {
+    unsafe { cvr_registration_read_with(version, zero_size, payload.as_ptr(), payload.len()) }
+}
+
+#[inline]
 pub fn registration_write(
     info: Registration,
     provider_id: &[u8],
@@ -384,6 +438,11 @@ pub fn signal_state_read(version: u16, payload: &[u8]) -> SignalStateAnswer {
 }
 
 #[inline]
+pub fn signal_state_read_with(version: u16, zero_size: u32, payload: &[u8]) -> SignalStateAnswer {
+    unsafe { cvr_signal_state_read_with(version, zero_size, payload.as_ptr(), payload.len()) }
+}
+
+#[inline]
 pub fn signal_state_write(info: SignalState, out: &mut [u8]) -> WrittenAnswer {
     unsafe { cvr_signal_state_write(info, out.as_mut_ptr(), out.len()) }
 }
@@ -409,6 +468,11 @@ pub fn device_services_read(payload: &[u8]) -> DeviceServicesAnswer {
 }
 
 #[inline]
+pub fn device_services_read_with(zero_size: u32, payload: &[u8]) -> DeviceServicesAnswer {
+    unsafe { cvr_device_services_read_with(zero_size, payload.as_ptr(), payload.len()) }
+}
+
+#[inline]
 pub fn device_services_element(payload: &[u8], number: u32, cids: &mut [u32]) -> ElementAnswer {
     unsafe {
         cvr_device_services_element(
@@ -422,9 +486,47 @@ pub fn device_services_element(payload: &[u8], number: u32, cids: &mut [u32]) ->
 }
 
 #[inline]
+pub fn device_services_element_with(
+    zero_size: u32,
+    payload: &[u8],
+    number: u32,
+    cids: &mut [u32],
+) -> ElementAnswer {
+    unsafe {
+        cvr_device_services_element_with(
+            zero_size,
+            payload.as_ptr(),
+            payload.len(),
+            number,
+            cids.as_mut_ptr(),
+            cids.len(),
+        )
+    }
+}
+
+#[inline]
 pub fn device_services_cids(payload: &[u8], service: ServiceId, cids: &mut [u32]) -> ElementAnswer {
     unsafe {
         cvr_device_services_cids(
+            payload.as_ptr(),
+            payload.len(),
+            service,
+            cids.as_mut_ptr(),
+            cids.len(),
+        )
+    }
+}
+
+#[inline]
+pub fn device_services_cids_with(
+    zero_size: u32,
+    payload: &[u8],
+    service: ServiceId,
+    cids: &mut [u32],
+) -> ElementAnswer {
+    unsafe {
+        cvr_device_services_cids_with(
+            zero_size,
             payload.as_ptr(),
             payload.len(),
             service,
@@ -449,8 +551,40 @@ pub fn device_services_all(payload: &[u8], fields: &mut [u32], cids: &mut [u32])
 }
 
 #[inline]
+pub fn device_services_all_with(
+    zero_size: u32,
+    payload: &[u8],
+    fields: &mut [u32],
+    cids: &mut [u32],
+) -> AllAnswer {
+    unsafe {
+        cvr_device_services_all_with(
+            zero_size,
+            payload.as_ptr(),
+            payload.len(),
+            fields.as_mut_ptr(),
+            fields.len(),
+            cids.as_mut_ptr(),
+            cids.len(),
+        )
+    }
+}
+
+#[inline]
 pub fn device_services_listed(payload: &[u8], service: ServiceId, cid: u32) -> ListedAnswer {
     unsafe { cvr_device_services_listed(payload.as_ptr(), payload.len(), service, cid) }
+}
+
+#[inline]
+pub fn device_services_listed_with(
+    zero_size: u32,
+    payload: &[u8],
+    service: ServiceId,
+    cid: u32,
+) -> ListedAnswer {
+    unsafe {
+        cvr_device_services_listed_with(zero_size, payload.as_ptr(), payload.len(), service, cid)
+    }
 }
 
 #[inline]

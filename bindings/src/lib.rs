@@ -21,7 +21,7 @@ pub use c::{
 };
 pub use ends::{Action, Event, Host, Modem, Next, Taken};
 pub use messages::{judge, next_transaction, Assembly, Fragments, Kind, Received, Whole};
-pub use payloads::{bars, rsrp, snr, Reading, Texts};
+pub use payloads::{bars, rsrp, snr, Reading, Texts, ZeroSize};
 
 /// Versions of the extensions, and the one MBIM version beside them.
 pub const VERSION_1_00: u16 = 0x0100;

@@ -29,7 +29,21 @@ impl PacketService {
     }
 }
 
-/// The texts of a registration, UTF-16LE, not judged beyond their size.
+/// What an offset/size pair of size 0 is to a reader: the choice that `.._with` takes. The readers
+/// without it, and both ends of the handshake, read by the default.
+#[repr(u32)]
+#[derive(Clone, Copy, Debug, Default, PartialEq, Eq)]
+pub enum ZeroSize {
+    /// Absent, whatever its offset. For modems in the field, of which some write an offset beside it.
+    #[default]
+    Absent = 0,
+    /// Absent with offset 0; with any other, refused by
+    /// [`OFFSET_WITH_ZERO_SIZE`](crate::refusals::OFFSET_WITH_ZERO_SIZE). For judging a payload by the
+    /// standard's letter.
+    Strict = 1,
+}
+
+/// The texts of a registration, UTF-16LE, not judged beyond their size. An absent one is empty.
 #[derive(Clone, Copy, Debug, Default, PartialEq, Eq)]
 pub struct Texts<'a> {
     pub provider_id: &'a [u8],
@@ -39,13 +53,16 @@ pub struct Texts<'a> {
 
 impl Registration {
     pub fn read(version: u16, payload: &[u8]) -> Result<(Registration, Texts<'_>), Refusal> {
-        let answer = c::registration_read(version, payload);
-        let texts = Texts {
-            provider_id: text(payload, answer.texts.provider_id),
-            provider_name: text(payload, answer.texts.provider_name),
-            roaming_text: text(payload, answer.texts.roaming_text),
-        };
-        answer.refusal.or((answer.info, texts))
+        with_texts(c::registration_read(version, payload), payload)
+    }
+
+    /// The same by a choice.
+    pub fn read_with(
+        version: u16,
+        zero_size: ZeroSize,
+        payload: &[u8],
+    ) -> Result<(Registration, Texts<'_>), Refusal> {
+        with_texts(c::registration_read_with(version, zero_size as u32, payload), payload)
     }
 
     pub fn write(&self, texts: &Texts, out: &mut [u8]) -> Result<usize, Refusal> {
@@ -56,8 +73,16 @@ impl Registration {
 
 impl SignalState {
     pub fn read(version: u16, payload: &[u8]) -> Result<SignalState, Refusal> {
-        let answer = c::signal_state_read(version, payload);
-        answer.refusal.or(answer.info)
+        signal_state(c::signal_state_read(version, payload))
+    }
+
+    /// The same by a choice.
+    pub fn read_with(
+        version: u16,
+        zero_size: ZeroSize,
+        payload: &[u8],
+    ) -> Result<SignalState, Refusal> {
+        signal_state(c::signal_state_read_with(version, zero_size as u32, payload))
     }
 
     pub fn write(&self, out: &mut [u8]) -> Result<usize, Refusal> {
@@ -70,10 +95,14 @@ impl SignalState {
     }
 }
 
+/// Each `.._with` is the one before it by a choice.
 impl DeviceServices {
     pub fn read(payload: &[u8]) -> Result<DeviceServices, Refusal> {
-        let answer = c::device_services_read(payload);
-        answer.refusal.or(answer.info)
+        head(c::device_services_read(payload))
+    }
+
+    pub fn read_with(zero_size: ZeroSize, payload: &[u8]) -> Result<DeviceServices, Refusal> {
+        head(c::device_services_read_with(zero_size as u32, payload))
     }
 
     /// The element with this number, from 0; its CIDs go to the front of the list.
@@ -85,6 +114,15 @@ impl DeviceServices {
         shown(c::device_services_element(payload, number, cids))
     }
 
+    pub fn element_with(
+        zero_size: ZeroSize,
+        payload: &[u8],
+        number: u32,
+        cids: &mut [u32],
+    ) -> Result<Option<DeviceService>, Refusal> {
+        shown(c::device_services_element_with(zero_size as u32, payload, number, cids))
+    }
+
     /// The first element of the service; its CIDs go to the front of the list.
     pub fn cids(
         payload: &[u8],
@@ -94,6 +132,15 @@ impl DeviceServices {
         shown(c::device_services_cids(payload, service, cids))
     }
 
+    pub fn cids_with(
+        zero_size: ZeroSize,
+        payload: &[u8],
+        service: ServiceId,
+        cids: &mut [u32],
+    ) -> Result<Option<DeviceService>, Refusal> {
+        shown(c::device_services_cids_with(zero_size as u32, payload, service, cids))
+    }
+
     /// All elements, each as the seven numbers of a `DeviceService`, and all CIDs, element by element, at
     /// the fronts of the lists: how many of each.
     pub fn all(
@@ -101,8 +148,16 @@ impl DeviceServices {
         fields: &mut [u32],
         cids: &mut [u32],
     ) -> Result<(u32, u64), Refusal> {
-        let answer = c::device_services_all(payload, fields, cids);
-        answer.refusal.or((answer.elements, answer.cids))
+        counted(c::device_services_all(payload, fields, cids))
+    }
+
+    pub fn all_with(
+        zero_size: ZeroSize,
+        payload: &[u8],
+        fields: &mut [u32],
+        cids: &mut [u32],
+    ) -> Result<(u32, u64), Refusal> {
+        counted(c::device_services_all_with(zero_size as u32, payload, fields, cids))
     }
 
     /// Writes the lists that `all` fills: seven numbers for each element, and all CIDs, element by element.
@@ -117,8 +172,16 @@ impl DeviceServices {
 
     /// Whether any element of the service holds the CID.
     pub fn is_listed(payload: &[u8], service: ServiceId, cid: u32) -> Result<bool, Refusal> {
-        let answer = c::device_services_listed(payload, service, cid);
-        answer.refusal.or(answer.listed != 0)
+        listed(c::device_services_listed(payload, service, cid))
+    }
+
+    pub fn is_listed_with(
+        zero_size: ZeroSize,
+        payload: &[u8],
+        service: ServiceId,
+        cid: u32,
+    ) -> Result<bool, Refusal> {
+        listed(c::device_services_listed_with(zero_size as u32, payload, service, cid))
     }
 }
 
@@ -176,13 +239,41 @@ fn written(answer: c::WrittenAnswer) -> Result<usize, Refusal> {
     answer.refusal.or(answer.length as usize)
 }
 
+fn with_texts(
+    answer: c::RegistrationAnswer,
+    payload: &[u8],
+) -> Result<(Registration, Texts<'_>), Refusal> {
+    let texts = Texts {
+        provider_id: text(payload, answer.texts.provider_id),
+        provider_name: text(payload, answer.texts.provider_name),
+        roaming_text: text(payload, answer.texts.roaming_text),
+    };
+    answer.refusal.or((answer.info, texts))
+}
+
 fn text(payload: &[u8], range: c::Range) -> &[u8] {
     let rest = payload.get(range.start as usize..).unwrap_or_default();
     rest.get(..range.length as usize).unwrap_or_default()
 }
 
+fn signal_state(answer: c::SignalStateAnswer) -> Result<SignalState, Refusal> {
+    answer.refusal.or(answer.info)
+}
+
+fn head(answer: c::DeviceServicesAnswer) -> Result<DeviceServices, Refusal> {
+    answer.refusal.or(answer.info)
+}
+
 fn shown(answer: c::ElementAnswer) -> Result<Option<DeviceService>, Refusal> {
     answer.refusal.or((answer.listed != 0).then_some(answer.element))
+}
+
+fn counted(answer: c::AllAnswer) -> Result<(u32, u64), Refusal> {
+    answer.refusal.or((answer.elements, answer.cids))
+}
+
+fn listed(answer: c::ListedAnswer) -> Result<bool, Refusal> {
+    answer.refusal.or(answer.listed != 0)
 }
 
 fn reading(answer: c::ReadingAnswer) -> Result<Reading, Refusal> {

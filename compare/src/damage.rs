@@ -16,7 +16,7 @@ pub fn maybe(random: &mut Random, bytes: &[u8]) -> Vec<u8> {
 
 pub fn damaged(random: &mut Random, bytes: &[u8]) -> Vec<u8> {
     let mut bytes = bytes.to_vec();
-    match random.below(9) {
+    match random.below(10) {
         0 => bytes.truncate(random.below(bytes.len() + 1)),
         1 => bytes.truncate(bytes.len().saturating_sub(1 + random.below(8))),
         2 => {
@@ -27,6 +27,7 @@ pub fn damaged(random: &mut Random, bytes: &[u8]) -> Vec<u8> {
         4 => set_byte(random, &mut bytes),
         5 => nudge(random, &mut bytes),
         6 | 7 => set_word(random, &mut bytes),
+        8 => clear_word(random, &mut bytes),
         _ => rarely(random, &mut bytes),
     }
     bytes
@@ -58,6 +59,14 @@ fn set_word(random: &mut Random, bytes: &mut [u8]) {
     if let Some(word) = bytes.get_mut(place..place + 4) {
         let number = if random.once_in(4) { random.near(length) } else { random.hostile() };
         word.copy_from_slice(&number.to_le_bytes());
+    }
+}
+
+/// A word set to 0: a size, perhaps, whose offset stays.
+fn clear_word(random: &mut Random, bytes: &mut [u8]) {
+    let place = word_place(random, bytes.len());
+    if let Some(word) = bytes.get_mut(place..place + 4) {
+        word.fill(0);
     }
 }
 

@@ -76,6 +76,19 @@ fn ask_stateless(question: u32, asked: &Asked) -> Flat {
         q::RSRP => reading(c::rsrp(asked.word(0))),
         q::SNR => reading(c::snr(asked.word(0))),
         q::BARS => bars(asked),
+        _ => ask_with(question, asked),
+    }
+}
+
+/// The readers' questions that say what a size of 0 is.
+fn ask_with(question: u32, asked: &Asked) -> Flat {
+    match question {
+        q::REGISTRATION_READ_WITH => registration_read_with(asked),
+        q::SIGNAL_READ_WITH => signal_read_with(asked),
+        q::SERVICES_READ_WITH => services_read_with(asked),
+        q::ELEMENT_WITH => element_with(asked),
+        q::SERVICE_CIDS_WITH => service_cids_with(asked),
+        q::LISTED_WITH => listed_with(asked),
         _ => none(),
     }
 }
@@ -274,8 +287,15 @@ fn packet_write(asked: &Asked) -> Flat {
 }
 
 fn registration_read(asked: &Asked) -> Flat {
-    let RegistrationAnswer { info, texts, .. } =
-        accepted(c::registration_read(asked.half(0), asked.input))?;
+    registration_shown(c::registration_read(asked.half(0), asked.input))
+}
+
+fn registration_read_with(asked: &Asked) -> Flat {
+    registration_shown(c::registration_read_with(asked.half(0), asked.word(1), asked.input))
+}
+
+fn registration_shown(answer: RegistrationAnswer) -> Flat {
+    let RegistrationAnswer { info, texts, .. } = accepted(answer)?;
     let mut numbers = words(&[
         info.version.into(),
         info.nw_error,
@@ -315,7 +335,15 @@ fn split(bytes: &[u8], size: u64) -> (&[u8], &[u8]) {
 }
 
 fn signal_read(asked: &Asked) -> Flat {
-    let info = accepted(c::signal_state_read(asked.half(0), asked.input))?.info;
+    signal_shown(c::signal_state_read(asked.half(0), asked.input))
+}
+
+fn signal_read_with(asked: &Asked) -> Flat {
+    signal_shown(c::signal_state_read_with(asked.half(0), asked.word(1), asked.input))
+}
+
+fn signal_shown(answer: SignalStateAnswer) -> Flat {
+    let info = accepted(answer)?.info;
     let (entries, rest) = info.entries.split_at(info.entries.len().min(info.count as usize));
     if rest.iter().any(|entry| *entry != RsrpSnr::default()) {
         return Err(Stop::Wrong("entries past the count"));
@@ -377,7 +405,15 @@ fn bars(asked: &Asked) -> Flat {
 // ---- device services
 
 fn services_read(asked: &Asked) -> Flat {
-    let info = accepted(c::device_services_read(asked.input))?.info;
+    services_shown(c::device_services_read(asked.input))
+}
+
+fn services_read_with(asked: &Asked) -> Flat {
+    services_shown(c::device_services_read_with(asked.word(0), asked.input))
+}
+
+fn services_shown(answer: DeviceServicesAnswer) -> Flat {
+    let info = accepted(answer)?.info;
     plain(&words(&[info.device_services_count, info.max_dss_sessions]))
 }
 
@@ -386,9 +422,21 @@ fn element(asked: &Asked) -> Flat {
     shown(asked.number(0), |list| c::device_services_element(payload, number, list))
 }
 
+fn element_with(asked: &Asked) -> Flat {
+    let (number, zero_size, payload) = (asked.word(1), asked.word(2), asked.input);
+    let call = |list: &mut [u32]| c::device_services_element_with(zero_size, payload, number, list);
+    shown(asked.number(0), call)
+}
+
 fn service_cids(asked: &Asked) -> Flat {
     let (service, payload) = asked.service();
     shown(asked.number(0), |list| c::device_services_cids(payload, service, list))
+}
+
+fn service_cids_with(asked: &Asked) -> Flat {
+    let ((service, payload), zero_size) = (asked.service(), asked.word(1));
+    let call = |list: &mut [u32]| c::device_services_cids_with(zero_size, payload, service, list);
+    shown(asked.number(0), call)
 }
 
 const FILL_WORD: u32 = u32::from_ne_bytes([FILL; 4]);
@@ -419,8 +467,16 @@ fn shown(room: u64, call: impl FnOnce(&mut [u32]) -> ElementAnswer) -> Flat {
 
 fn listed(asked: &Asked) -> Flat {
     let (service, payload) = asked.service();
-    let answer = accepted(c::device_services_listed(payload, service, asked.word(0)))?;
-    plain(&[answer.listed.into()])
+    is_listed(c::device_services_listed(payload, service, asked.word(0)))
+}
+
+fn listed_with(asked: &Asked) -> Flat {
+    let ((service, payload), cid, zero_size) = (asked.service(), asked.word(0), asked.word(1));
+    is_listed(c::device_services_listed_with(zero_size, payload, service, cid))
+}
+
+fn is_listed(answer: ListedAnswer) -> Flat {
+    plain(&[accepted(answer)?.listed.into()])
 }
 
 fn services_write(asked: &Asked) -> Flat {

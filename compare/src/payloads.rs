@@ -31,12 +31,12 @@ pub fn written(
     sides.ask(question, &[&[answer.numbers[1]], record].concat(), input).output
 }
 
-/// Reads a payload a few times: as it is or damaged, mostly at its own version.
+/// Reads a payload a few times: as it is or damaged, mostly at its own version, by a choice too.
 fn read(sides: &mut Sides, random: &mut Random, question: u32, version: u64, payload: &[u8]) {
     for _ in 0..3 {
         let version = if random.once_in(6) { random.version() } else { version };
         let payload = damage::maybe(random, payload);
-        sides.ask(question, &[version], &payload);
+        sides.ask_by(&[random.choice()], question, &[version], &payload);
     }
 }
 
@@ -122,8 +122,11 @@ pub fn moved(random: &mut Random, fixed: u32, length: u32, size: u32) -> u32 {
         1 => random.near(last),
         2 => random.near(fixed),
         3 => last & !3,
-        _ if size == 0 => 0,
-        _ => fixed + 4 * random.below(last.wrapping_sub(fixed) as usize / 4 + 1) as u32,
+        _ if size == 0 && random.once_in(2) => 0,
+        _ => {
+            let words = last.wrapping_sub(fixed) as usize / 4;
+            fixed.wrapping_add(4 * random.below(words + 1) as u32)
+        }
     }
 }
 
@@ -167,9 +170,10 @@ fn moved_list(random: &mut Random, mut payload: Vec<u8>) -> Vec<u8> {
     payload.splice(at..at, vec![7; gap]);
     let offset = if random.once_in(4) { random.hostile() } else { 28 + gap as u32 };
     put(&mut payload, 20, offset);
-    if random.once_in(4) {
-        let size = 4 + 20 * random.below(18) as u32;
-        put(&mut payload, 24, size);
+    match random.below(8) {
+        0 | 1 => put(&mut payload, 24, 0),
+        2 | 3 => put(&mut payload, 24, 4 + 20 * random.below(18) as u32),
+        _ => {}
     }
     payload
 }

@@ -78,6 +78,14 @@ impl Random {
         }
     }
 
+    /// The number of a reader's choice, now and then one that is none.
+    pub fn choice(&mut self) -> u64 {
+        match self.below(12) {
+            0 => self.hostile().into(),
+            number => number as u64 % 2,
+        }
+    }
+
     /// Room for an output of this length: enough, exact, short by a little, or none.
     pub fn room(&mut self, length: usize) -> u64 {
         match self.below(10) {

@@ -8,6 +8,7 @@ use culvertroost::c;
 use second::device_services;
 use second::flat::question as q;
 use second::payload::{BASIC_CONNECT, EXTENSIONS};
+use second::ZeroSize;
 
 /// Services that a list may hold; the third differs from the second in one byte.
 pub fn service(random: &mut Random) -> [u8; 16] {
@@ -97,7 +98,11 @@ fn scattered(random: &mut Random) -> Vec<u8> {
     put(&mut payload, 0, count as u32);
     for number in 0..count {
         let cid_count = random.below(4) as u32;
-        let size = if random.once_in(8) { random.hostile() } else { 28 + 4 * cid_count };
+        let size = match random.below(8) {
+            0 => random.hostile(),
+            1 => 0,
+            _ => 28 + 4 * cid_count,
+        };
         let offset = moved(random, 8 + 8 * count as u32, payload.len() as u32, size);
         put(&mut payload, 8 + 8 * number, offset);
         put(&mut payload, 12 + 8 * number, size);
@@ -117,25 +122,36 @@ fn put_element(random: &mut Random, payload: &mut [u8], offset: usize, cid_count
     }
 }
 
-/// Every question about a payload.
+/// Every question about a payload, each by a choice too.
 fn choose(sides: &mut Sides, random: &mut Random, payload: &[u8]) {
-    let read = sides.ask(q::SERVICES_READ, &[], payload).numbers;
+    let choice = random.choice();
+    let read = sides.ask_by(&[choice], q::SERVICES_READ, &[], payload).numbers;
     let count = if read[0] == 0 { read[1] as usize } else { 2 };
     let number = if random.once_in(8) { random.hostile() } else { random.below(count + 1) as u32 };
     let room = if random.once_in(4) { random.below(4) } else { 128 + random.below(3) } as u64;
-    sides.ask(q::ELEMENT, &[room, number.into()], payload);
+    sides.ask_by(&[choice], q::ELEMENT, &[room, number.into()], payload);
     let input = [&service(random)[..], payload].concat();
-    sides.ask(q::SERVICE_CIDS, &[room], &input);
-    sides.ask(q::LISTED, &[cid(random).into()], &input);
-    all(sides, random, payload);
+    sides.ask_by(&[choice], q::SERVICE_CIDS, &[room], &input);
+    sides.ask_by(&[choice], q::LISTED, &[cid(random).into()], &input);
+    let rooms = (random.pick(&[0, 6, 7, 14, 224, 224, 230]), random.pick(&[0, 3, 40, 4096, 4096]));
+    same_all(sides, &[choice], payload, rooms);
 }
 
-/// All elements in one pass, into lists of any length.
-fn all(sides: &mut Sides, random: &mut Random, payload: &[u8]) {
-    let rooms = (random.pick(&[0, 6, 7, 14, 224, 224, 230]), random.pick(&[0, 3, 40, 4096, 4096]));
+/// Both sides show all elements in lists of these lengths, without a choice and by each of these.
+pub fn same_all(sides: &mut Sides, choices: &[u64], payload: &[u8], rooms: (usize, usize)) {
+    same_shown(sides, None, payload, rooms);
+    for choice in choices {
+        same_shown(sides, Some(*choice as u32), payload, rooms);
+    }
+}
+
+fn same_shown(sides: &mut Sides, choice: Option<u32>, payload: &[u8], rooms: (usize, usize)) {
     let lists = || (vec![UNTOUCHED; rooms.0], vec![UNTOUCHED; rooms.1]);
     let (mut fields, mut cids) = lists();
-    let answer = c::device_services_all(payload, &mut fields, &mut cids);
+    let answer = match choice {
+        Some(number) => c::device_services_all_with(number, payload, &mut fields, &mut cids),
+        None => c::device_services_all(payload, &mut fields, &mut cids),
+    };
     let refusal = answer.refusal;
     let given = (
         [refusal.number as u64, refusal.place as u64, answer.elements as u64, answer.cids as u64],
@@ -143,11 +159,17 @@ fn all(sides: &mut Sides, random: &mut Random, payload: &[u8]) {
         cids,
     );
     let (mut fields, mut cids) = lists();
-    let numbers = match device_services::all(payload, &mut fields, &mut cids) {
+    let shown = match choice.map(ZeroSize::from_number) {
+        Some(chosen) => chosen
+            .and_then(|chosen| device_services::all_with(chosen, payload, &mut fields, &mut cids)),
+        None => device_services::all(payload, &mut fields, &mut cids),
+    };
+    let numbers = match shown {
         Ok((elements, cids)) => [0, 0, elements as u64, cids as u64],
         Err(refusal) => [refusal.number as u64, refusal.place as u64, 0, 0],
     };
-    sides.same("all elements", payload, &(numbers, fields, cids), &given);
+    let call = format!("all elements, by {choice:?}");
+    sides.same(&call, payload, &(numbers, fields, cids), &given);
 }
 
 /// A list written from the numbers of its elements and all CIDs: as many as they count, or nearly.

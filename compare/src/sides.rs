@@ -12,11 +12,21 @@ const PRINTED: usize = 20;
 const GROUPS: [(&str, &[u32]); 11] = [
     ("VERSION", &[q::VERSION_READ, q::VERSION_WRITE]),
     ("packet service", &[q::PACKET_READ, q::PACKET_WRITE]),
-    ("registration", &[q::REGISTRATION_READ, q::REGISTRATION_WRITE]),
-    ("signal state", &[q::SIGNAL_READ, q::SIGNAL_WRITE]),
+    ("registration", &[q::REGISTRATION_READ, q::REGISTRATION_READ_WITH, q::REGISTRATION_WRITE]),
+    ("signal state", &[q::SIGNAL_READ, q::SIGNAL_READ_WITH, q::SIGNAL_WRITE]),
     (
         "device services",
-        &[q::SERVICES_READ, q::ELEMENT, q::SERVICE_CIDS, q::LISTED, q::SERVICES_WRITE],
+        &[
+            q::SERVICES_READ,
+            q::SERVICES_READ_WITH,
+            q::ELEMENT,
+            q::ELEMENT_WITH,
+            q::SERVICE_CIDS,
+            q::SERVICE_CIDS_WITH,
+            q::LISTED,
+            q::LISTED_WITH,
+            q::SERVICES_WRITE,
+        ],
     ),
     ("whole messages", &[q::WHOLE_MESSAGE, q::WHOLE_WRITE]),
     ("received pieces", &[q::RECEIVE, q::EMPTY_ASSEMBLY, q::SHOW_ASSEMBLY]),
@@ -46,7 +56,7 @@ pub struct Sides {
 
 impl Sides {
     pub fn new() -> Sides {
-        let counts = vec![Count::default(); q::BARS as usize + 1];
+        let counts = vec![Count::default(); q::LISTED_WITH as usize + 1];
         Sides { second: Second::new(), library: Library::new(), counts, cases: 0, differences: 0 }
     }
 
@@ -68,6 +78,24 @@ impl Sides {
                 expected
             }
         }
+    }
+
+    /// Asks, and a reader that takes a choice once more by each of these numbers. Gives the answer to
+    /// the question without one.
+    pub fn ask_by(
+        &mut self,
+        choices: &[u64],
+        question: u32,
+        arguments: &[u64],
+        input: &[u8],
+    ) -> Answer {
+        let answer = self.ask(question, arguments, input);
+        if let Some(chosen) = by_choice(question) {
+            for choice in choices {
+                self.ask(chosen, &[arguments, &[*choice]].concat(), input);
+            }
+        }
+        answer
     }
 
     /// Asks, and then for the state that the question may have changed.
@@ -154,6 +182,19 @@ impl Count {
         let seen: Vec<u64> = self.numbers.iter().copied().collect();
         let (cases, refused) = (self.cases, self.refused);
         println!("{name:16} {cases:8} cases {refused:8} refused, by {}", numbers(&seen));
+    }
+}
+
+/// The question that is the same by a choice, which stands behind the other arguments.
+fn by_choice(question: u32) -> Option<u32> {
+    match question {
+        q::REGISTRATION_READ => Some(q::REGISTRATION_READ_WITH),
+        q::SIGNAL_READ => Some(q::SIGNAL_READ_WITH),
+        q::SERVICES_READ => Some(q::SERVICES_READ_WITH),
+        q::ELEMENT => Some(q::ELEMENT_WITH),
+        q::SERVICE_CIDS => Some(q::SERVICE_CIDS_WITH),
+        q::LISTED => Some(q::LISTED_WITH),
+        _ => None,
     }
 }
 

@@ -1,10 +1,11 @@
 //! The same at every run: each field of good records, payloads and messages in turn takes numbers at
-//! and around the limits, and each payload is cut short at every length.
+//! and around the limits, and each payload is cut short at every length. A reader with a choice is asked
+//! without it, by each and by a number that is none.
 
 use crate::library::WHOLE;
 use crate::messages::fragments;
 use crate::payloads::put;
-use crate::services::same_written;
+use crate::services::{same_all, same_written};
 use crate::sides::Sides;
 use second::flat::{question as q, ASSEMBLY_SIZE, MODEM_SIZE};
 use second::message::{COMMAND, COMMAND_DONE, INDICATE_STATUS};
@@ -12,6 +13,8 @@ use second::payload::{BASIC_CONNECT, EXTENSIONS};
 
 const ROOM: u64 = 4096;
 const VERSIONS: [u64; 2] = [0x0100, 0x0200];
+/// The choices, and a number that is none.
+const CHOICES: [u64; 3] = [0, 1, 2];
 
 /// Limits; each is taken with its neighbours.
 const LIMITS: [u32; 25] = [
@@ -64,6 +67,7 @@ pub fn all(sides: &mut Sides) {
     }
     door(sides);
     (0..4).for_each(|stage| host(sides, stage));
+    (0..4).for_each(|stage| host_lists(sides, stage));
     (0..3).for_each(|stage| modem(sides, stage));
     made(sides);
 }
@@ -84,7 +88,7 @@ fn record(sides: &mut Sides, write: u32, read: u32, record: &[u64], input: &[u8]
 /// Asks with every room up to one more than is needed.
 fn rooms(sides: &mut Sides, question: u32, rest: &[u64], input: &[u8], needed: usize) {
     for room in 0..needed as u64 + 2 {
-        sides.ask(question, &[&[room], rest].concat(), input);
+        sides.ask_by(&CHOICES, question, &[&[room], rest].concat(), input);
     }
 }
 
@@ -94,7 +98,7 @@ fn changed_numbers(sides: &mut Sides, question: u32, good: &[u64], from: usize, 
         for number in numbers() {
             let mut arguments = good.to_vec();
             arguments[place] = number.into();
-            sides.ask(question, &arguments, input);
+            sides.ask_by(&CHOICES, question, &arguments, input);
         }
     }
 }
@@ -105,34 +109,51 @@ fn changed_bytes(sides: &mut Sides, question: u32, arguments: &[u64], good: &[u8
         for number in numbers() {
             let mut input = good.to_vec();
             put(&mut input, place, number);
-            sides.ask(question, arguments, &input);
+            sides.ask_by(&CHOICES, question, arguments, &input);
         }
     }
     for length in 0..good.len() + 2 {
         let mut input = good.to_vec();
         input.resize(length, 0);
-        sides.ask(question, arguments, &input);
+        sides.ask_by(&CHOICES, question, arguments, &input);
     }
 }
 
-/// Asks with offset and size of each pair changed together.
-fn changed_pairs(
-    sides: &mut Sides,
-    question: u32,
-    arguments: &[u64],
-    good: &[u8],
-    places: &[usize],
-) {
+/// The payload with offset and size of each pair in turn changed together; each size stands beside each
+/// offset, 0 too.
+fn changed_pairs(good: &[u8], places: &[usize]) -> Vec<Vec<u8>> {
+    let mut changed = Vec::new();
     for place in places {
-        for offset in numbers() {
+        for offset in numbers().chain([good.len() as u32]) {
             for size in [0, 4, 11, 24, 28, 541] {
-                let mut input = good.to_vec();
-                put(&mut input, *place, offset);
-                put(&mut input, place + 4, size);
-                sides.ask(question, arguments, &input);
+                changed.push(with_pair(good, *place, offset, size));
             }
         }
     }
+    changed
+}
+
+fn with_pair(good: &[u8], place: usize, offset: u32, size: u32) -> Vec<u8> {
+    let mut payload = good.to_vec();
+    put(&mut payload, place, offset);
+    put(&mut payload, place + 4, size);
+    payload
+}
+
+/// Reads with each pair changed; then a size of 0 beside an offset, and no bytes, at every number for a
+/// version and by every number for a choice.
+fn pairs(sides: &mut Sides, question: u32, version: u64, good: &[u8], places: &[usize]) {
+    for payload in changed_pairs(good, places) {
+        sides.ask_by(&CHOICES, question, &[version], &payload);
+    }
+    for payload in [&with_pair(good, places[0], 52, 0)[..], &[]] {
+        changed_numbers(sides, question, &[version], 0, payload);
+        sides.ask_by(&number_choices(), question, &[version], payload);
+    }
+}
+
+fn number_choices() -> Vec<u64> {
+    numbers().map(u64::from).collect()
 }
 
 fn packet(sides: &mut Sides, version: u64) {
@@ -171,7 +192,7 @@ fn class_pairs(sides: &mut Sides, version: u64) {
 fn registration(sides: &mut Sides, version: u64) {
     let good = [version, 0, 3, 1, 0x20, 1, 0, 0x20, 10, 4, 126];
     let payload = record(sides, q::REGISTRATION_WRITE, q::REGISTRATION_READ, &good, &[0x30; 150]);
-    changed_pairs(sides, q::REGISTRATION_READ, &[version], &payload, &[20, 28, 36]);
+    pairs(sides, q::REGISTRATION_READ, version, &payload, &[20, 28, 36]);
     let unregistered = [version, 0, 2, 1, 0, 1, 0, 0x20, 0, 0, 0];
     record(sides, q::REGISTRATION_WRITE, q::REGISTRATION_READ, &unregistered, &[]);
 }
@@ -179,7 +200,7 @@ fn registration(sides: &mut Sides, version: u64) {
 fn signal(sides: &mut Sides, version: u64) {
     let known = [version, 99, 7, 5, 0, 0, 2, 60, 87, 0, 0, 0x20, 0, 128, 0, 0, 0x40];
     let payload = record(sides, q::SIGNAL_WRITE, q::SIGNAL_READ, &known, &[]);
-    changed_pairs(sides, q::SIGNAL_READ, &[version], &payload, &[20]);
+    pairs(sides, q::SIGNAL_READ, version, &payload, &[20]);
     let quiet = [version, 31, 99, 5, 0, 0, 1, 127, 128, 0, 0, 0x80];
     record(sides, q::SIGNAL_WRITE, q::SIGNAL_READ, &quiet, &[]);
     record(sides, q::SIGNAL_WRITE, q::SIGNAL_READ, &[version, 31, 99, 5, 0, 0, 0], &[]);
@@ -201,7 +222,7 @@ fn services(sides: &mut Sides) {
     changed_numbers(sides, q::SERVICES_WRITE, &good, 1, &ids);
     let payload = sides.ask(q::SERVICES_WRITE, &good, &ids).output;
     changed_bytes(sides, q::SERVICES_READ, &[], &payload);
-    changed_pairs(sides, q::SERVICES_READ, &[], &payload, &[8, 16, 24]);
+    service_pairs(sides, &payload);
     for room in 0..4 {
         changed_numbers(sides, q::ELEMENT, &[room, 1], 1, &payload);
     }
@@ -210,6 +231,27 @@ fn services(sides: &mut Sides) {
         rooms(sides, q::SERVICE_CIDS, &[], &input, 2);
         changed_numbers(sides, q::LISTED, &[15], 0, &input);
     }
+}
+
+/// A list with each pair changed; then the list, one with a size of 0 beside an offset, and no bytes, by
+/// every number for a choice.
+fn service_pairs(sides: &mut Sides, good: &[u8]) {
+    for payload in changed_pairs(good, &[8, 16, 24]) {
+        about_list(sides, &CHOICES, &payload);
+    }
+    for payload in [good, &with_pair(good, 8, 52, 0), &[]] {
+        about_list(sides, &number_choices(), payload);
+    }
+}
+
+/// Every question about a list, without a choice and by each of these.
+fn about_list(sides: &mut Sides, choices: &[u64], payload: &[u8]) {
+    let input = [&EXTENSIONS[..], payload].concat();
+    sides.ask_by(choices, q::SERVICES_READ, &[], payload);
+    sides.ask_by(choices, q::ELEMENT, &[128, 1], payload);
+    sides.ask_by(choices, q::SERVICE_CIDS, &[128], &input);
+    sides.ask_by(choices, q::LISTED, &[15], &input);
+    same_all(sides, choices, payload, (224, 4096));
 }
 
 /// Lists to be written: each number changed, each list cut short at every length, each room.
@@ -365,6 +407,16 @@ fn host(sides: &mut Sides, stage: u64) {
     }
 }
 
+/// The pair of a list changed, in a reply to a host at this stage.
+fn host_lists(sides: &mut Sides, stage: u64) {
+    let list = list(sides);
+    for changed in changed_pairs(&list, &[8]) {
+        let input = [&BASIC_CONNECT[..], &changed].concat();
+        host_at(sides, stage, &list);
+        sides.step(q::HOST_RECEIVE, &[COMMAND_DONE.into(), 1, 16, 0], &input);
+    }
+}
+
 /// Places of so many arguments with the numbers that they take in turn; message types too.
 fn changes(count: usize) -> impl Iterator<Item = (usize, u64)> {
     let types = WHOLE.into_iter().chain([COMMAND, COMMAND_DONE, INDICATE_STATUS]);
@@ -404,9 +456,12 @@ fn modem(sides: &mut Sides, stage: u64) {
     }
 }
 
-/// A modem's versions, each word of its list of services, and its memory.
+/// A modem's versions, each word and the pair of its list of services, and its memory.
 fn made(sides: &mut Sides) {
     let list = list(sides);
+    for changed in changed_pairs(&list, &[8]) {
+        sides.step(q::MAKE_MODEM, &[0x0200, 0x0100, MODEM_SIZE], &changed);
+    }
     for size in 0..=MODEM_SIZE {
         changed_bytes(sides, q::MAKE_MODEM, &[0x0200, 0x0100, size], &list);
     }

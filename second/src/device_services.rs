@@ -2,7 +2,7 @@
 //! The whole list is judged before anything of it is shown.
 
 use crate::bytes::{put, put_word, service, word};
-use crate::pair::{judge_list, Bounds, Range};
+use crate::pair::{judge_list, Bounds, Range, ZeroSize};
 use crate::refusal::{
     require, Refusal, COUNT_OVER_LIMIT, FIELDS_CONTRADICT, INFORMATION_TOO_LONG, OUTPUT_TOO_SMALL,
     SIZE_WRONG, TOO_SHORT,
@@ -54,9 +54,15 @@ pub struct DeviceServices<'a> {
     count: usize,
 }
 
-/// Reads a payload.
+/// Reads a payload. An element of size 0 is absent, which is 8.
 #[inline]
 pub fn read(payload: &[u8]) -> Result<DeviceServices<'_>, Refusal> {
+    read_with(ZeroSize::default(), payload)
+}
+
+/// Reads a payload as `read` does, but by this choice where an element has size 0.
+#[inline]
+pub fn read_with(zero_size: ZeroSize, payload: &[u8]) -> Result<DeviceServices<'_>, Refusal> {
     let length = payload.len();
     require(length >= PAIRS, TOO_SHORT, length)?;
     let count = word(payload, DEVICE_SERVICES_COUNT) as usize;
@@ -65,7 +71,7 @@ pub fn read(payload: &[u8]) -> Result<DeviceServices<'_>, Refusal> {
     require(length >= bounds.fixed, TOO_SHORT, length)?;
     require(length <= MAX_INFORMATION, INFORMATION_TOO_LONG, 0)?;
     for number in 0..count {
-        judge_element(payload, PAIRS + PAIR * number, bounds)?;
+        judge_element(payload, PAIRS + PAIR * number, zero_size, bounds)?;
     }
     Ok(DeviceServices { payload, count })
 }
@@ -74,7 +80,18 @@ pub fn read(payload: &[u8]) -> Result<DeviceServices<'_>, Refusal> {
 /// No such element: `None`.
 #[inline]
 pub fn element(payload: &[u8], number: u32, list: &mut [u32]) -> Result<Option<Shown>, Refusal> {
-    match read(payload)?.element(number as usize) {
+    element_with(ZeroSize::default(), payload, number, list)
+}
+
+/// Answers as `element` does, but by this choice where an element has size 0.
+#[inline]
+pub fn element_with(
+    zero_size: ZeroSize,
+    payload: &[u8],
+    number: u32,
+    list: &mut [u32],
+) -> Result<Option<Shown>, Refusal> {
+    match read_with(zero_size, payload)?.element(number as usize) {
         None => Ok(None),
         Some(bytes) => show(bytes, list).map(Some),
     }
@@ -88,7 +105,18 @@ pub fn first_of_service(
     service_id: &ServiceId,
     list: &mut [u32],
 ) -> Result<Option<Shown>, Refusal> {
-    let services = read(payload)?;
+    first_of_service_with(ZeroSize::default(), payload, service_id, list)
+}
+
+/// Answers as `first_of_service` does, but by this choice where an element has size 0.
+#[inline]
+pub fn first_of_service_with(
+    zero_size: ZeroSize,
+    payload: &[u8],
+    service_id: &ServiceId,
+    list: &mut [u32],
+) -> Result<Option<Shown>, Refusal> {
+    let services = read_with(zero_size, payload)?;
     let mut elements = services.elements();
     match elements.find(|bytes| service(bytes, DEVICE_SERVICE_ID) == *service_id) {
         None => Ok(None),
@@ -104,7 +132,18 @@ pub fn all(
     fields: &mut [u32],
     list: &mut [u32],
 ) -> Result<(usize, usize), Refusal> {
-    let services = read(payload)?;
+    all_with(ZeroSize::default(), payload, fields, list)
+}
+
+/// Answers as `all` does, but by this choice where an element has size 0.
+#[inline]
+pub fn all_with(
+    zero_size: ZeroSize,
+    payload: &[u8],
+    fields: &mut [u32],
+    list: &mut [u32],
+) -> Result<(usize, usize), Refusal> {
+    let services = read_with(zero_size, payload)?;
     let total = services.elements().map(|bytes| word(bytes, CID_COUNT) as usize).sum();
     let needed = Refusal::new(OUTPUT_TOO_SMALL, CID_LIST * services.count);
     let rows = fields.get_mut(..FIELDS * services.count).ok_or(needed)?;
@@ -124,7 +163,18 @@ pub fn all(
 /// Whether any element holds both this service and this CID.
 #[inline]
 pub fn listed(payload: &[u8], service_id: &ServiceId, cid: u32) -> Result<bool, Refusal> {
-    Ok(read(payload)?.lists(service_id, cid))
+    listed_with(ZeroSize::default(), payload, service_id, cid)
+}
+
+/// Answers as `listed` does, but by this choice where an element has size 0.
+#[inline]
+pub fn listed_with(
+    zero_size: ZeroSize,
+    payload: &[u8],
+    service_id: &ServiceId,
+    cid: u32,
+) -> Result<bool, Refusal> {
+    Ok(read_with(zero_size, payload)?.lists(service_id, cid))
 }
 
 impl<'a> DeviceServices<'a> {
@@ -226,9 +276,14 @@ pub fn write_all(
 
 /// The pair's rules, then its element: size, count, size against count.
 #[inline(always)]
-fn judge_element(payload: &[u8], field: usize, bounds: Bounds) -> Result<(), Refusal> {
+fn judge_element(
+    payload: &[u8],
+    field: usize,
+    zero_size: ZeroSize,
+    bounds: Bounds,
+) -> Result<(), Refusal> {
     let pair = Range::at(payload, field);
-    judge_list(pair, field, SIZE_LIMIT, bounds)?;
+    judge_list(pair, field, SIZE_LIMIT, zero_size, bounds)?;
     let size = pair.size as usize;
     require(size >= CID_LIST, SIZE_WRONG, field)?;
     let place = pair.offset as usize + CID_COUNT;
@@ -378,7 +433,7 @@ mod tests {
         let payload = written(&[of(A, &[1]), of(B, &[2, 3])]);
         let read = |payload: &[u8]| read(payload).map(|services| services.count());
         assert_eq!(read(&with(&payload, 20, 541)), Err(Refusal::new(8, 16)));
-        assert_eq!(read(&with(&payload, 20, 0)), Err(Refusal::new(18, 16)));
+        assert_eq!(read(&with(&payload, 20, 0)), Err(Refusal::new(8, 16)));
         assert_eq!(read(&with(&payload, 16, 20)), Err(Refusal::new(6, 16)));
         assert_eq!(read(&with(&payload, 16, 0xFFFF_FFFC)), Err(Refusal::new(7, 16)));
         assert_eq!(read(&with(&payload, 20, 27)), Err(Refusal::new(8, 16)));
@@ -387,18 +442,55 @@ mod tests {
         assert_eq!(read(&with(&payload, 12, 31)), Err(Refusal::new(8, 8)));
     }
 
+    /// That whatever is asked, and by either choice, the list is refused with these numbers at 16.
+    fn assert_refused(payload: &[u8], absent: u32, strict: u32) {
+        let plain = Refusal::new(absent, 16);
+        assert_eq!(read(payload), Err(plain));
+        assert_eq!(element(payload, 0, &mut []), Err(plain));
+        assert_eq!(first_of_service(payload, &A, &mut []), Err(plain));
+        assert_eq!(all(payload, &mut [], &mut []), Err(plain));
+        assert_eq!(listed(payload, &A, 1), Err(plain));
+        for (zero_size, number) in [(ZeroSize::Absent, absent), (ZeroSize::Strict, strict)] {
+            let refusal = Refusal::new(number, 16);
+            assert_eq!(read_with(zero_size, payload), Err(refusal));
+            assert_eq!(element_with(zero_size, payload, 0, &mut []), Err(refusal));
+            assert_eq!(first_of_service_with(zero_size, payload, &A, &mut []), Err(refusal));
+            assert_eq!(all_with(zero_size, payload, &mut [], &mut []), Err(refusal));
+            assert_eq!(listed_with(zero_size, payload, &A, 1), Err(refusal));
+        }
+    }
+
     #[test]
     fn offset_faults_are_told_apart_wherever_the_list_is_read() {
         let payload = written(&[of(A, &[1]), of(B, &[2, 3])]);
-        let faults = [(52, 0, 18), (3, 0, 18), (23, 28, 6), (57, 27, 17), (u32::MAX, 28, 17)];
-        for (offset, size, number) in faults {
+        for (offset, size, number) in [(23, 28, 6), (57, 27, 17), (u32::MAX, 28, 17), (56, 37, 7)] {
             let payload = with(&with(&payload, 16, offset), 20, size);
-            let refusal = Refusal::new(number, 16);
-            assert_eq!(read(&payload), Err(refusal));
-            assert_eq!(element(&payload, 0, &mut []), Err(refusal));
-            assert_eq!(first_of_service(&payload, &A, &mut []), Err(refusal));
-            assert_eq!(all(&payload, &mut [], &mut []), Err(refusal));
-            assert_eq!(listed(&payload, &A, 1), Err(refusal));
+            assert_refused(&payload, number, number);
+        }
+    }
+
+    #[test]
+    fn an_element_of_size_0_is_8_or_18() {
+        let payload = with(&written(&[of(A, &[1]), of(B, &[2, 3])]), 20, 0);
+        assert_refused(&with(&payload, 16, 0), 8, 8);
+        for offset in [1, 3, 4, 23, 24, 52, 53, 56, 92, 4096, 0xFFFF_FFFC, u32::MAX] {
+            assert_refused(&with(&payload, 16, offset), 8, 18);
+        }
+    }
+
+    #[test]
+    fn a_good_list_answers_alike_by_either_choice() {
+        let payload = written(&[of(A, &[1, 2]), of(B, &[3])]);
+        for zero_size in [ZeroSize::Absent, ZeroSize::Strict] {
+            assert_eq!(read_with(zero_size, &payload), read(&payload));
+            assert_eq!(listed_with(zero_size, &payload, &B, 3), Ok(true));
+            assert_eq!(listed_with(zero_size, &payload, &A, 3), Ok(false));
+            let mut list = [0; 2];
+            let shown = element_with(zero_size, &payload, 1, &mut list).unwrap().unwrap();
+            assert_eq!((shown.device_service_id, list), (B, [3, 0]));
+            let shown = first_of_service_with(zero_size, &payload, &A, &mut list);
+            assert_eq!((shown.unwrap().unwrap().cid_count, list), (2, [1, 2]));
+            assert_eq!(all_with(zero_size, &payload, &mut [0; 14], &mut [0; 3]), Ok((2, 3)));
         }
     }
 

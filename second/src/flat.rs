@@ -3,17 +3,18 @@
 
 use crate::assembler::Assembler;
 use crate::bytes::word;
-use crate::device_services::{self, Element, Shown};
+use crate::device_services::{self, DeviceServices, Element, Shown};
 use crate::door::{self, Received};
 use crate::handshake::{host, modem};
 use crate::handshake::{CommandAnswer, Host, Modem, NextCommand, ReplyAnswer};
 use crate::message::{self, Header, Whole};
 use crate::packet_service::{self, Form, PacketService};
+use crate::pair::{Range, ZeroSize};
 use crate::payload::{self, Kind};
 use crate::refusal::{require, Refusal, OUTPUT_TOO_SMALL};
 use crate::registration::{self, Registration};
 use crate::signal_quality::{self, Reading};
-use crate::signal_state::{self, RsrpSnr, SignalState};
+use crate::signal_state::{self, Entries, RsrpSnr, SignalState};
 use crate::version::{Version, MBIM};
 use crate::{cutter, version_info, ServiceId};
 
@@ -54,6 +55,12 @@ pub mod question {
     pub const RSRP: u32 = 33;
     pub const SNR: u32 = 34;
     pub const BARS: u32 = 35;
+    pub const REGISTRATION_READ_WITH: u32 = 36;
+    pub const SIGNAL_READ_WITH: u32 = 37;
+    pub const SERVICES_READ_WITH: u32 = 38;
+    pub const ELEMENT_WITH: u32 = 39;
+    pub const SERVICE_CIDS_WITH: u32 = 40;
+    pub const LISTED_WITH: u32 = 41;
 }
 
 /// What a lent output holds before the call.
@@ -134,6 +141,19 @@ fn ask_stateless(question: u32, asked: &Asked) -> Flat {
         question::RSRP => reading(signal_quality::rsrp(asked.word(0))?),
         question::SNR => reading(signal_quality::snr(asked.word(0))?),
         question::BARS => bars(asked),
+        _ => ask_with(question, asked),
+    }
+}
+
+/// The readers' questions that say what a size of 0 is.
+fn ask_with(question: u32, asked: &Asked) -> Flat {
+    match question {
+        question::REGISTRATION_READ_WITH => registration_read_with(asked),
+        question::SIGNAL_READ_WITH => signal_read_with(asked),
+        question::SERVICES_READ_WITH => services_read_with(asked),
+        question::ELEMENT_WITH => element_with(asked),
+        question::SERVICE_CIDS_WITH => service_cids_with(asked),
+        question::LISTED_WITH => listed_with(asked),
         _ => none(),
     }
 }
@@ -173,6 +193,10 @@ impl<'a> Asked<'a> {
 
     fn version(&self, place: usize) -> Result<Version, Refusal> {
         Version::from_bcd(self.half(place))
+    }
+
+    fn zero_size(&self, place: usize) -> Result<ZeroSize, Refusal> {
+        ZeroSize::from_number(self.word(place))
     }
 
     /// The service at the front of the input, and what comes after it.
@@ -272,10 +296,17 @@ fn packet_write(asked: &Asked) -> Flat {
 }
 
 fn registration_read(asked: &Asked) -> Flat {
-    let version = asked.version(0)?;
-    let record = registration::read(version, asked.input)?;
+    registration_shown(registration::read(asked.version(0)?, asked.input)?)
+}
+
+fn registration_read_with(asked: &Asked) -> Flat {
+    let (version, zero_size) = (asked.version(0)?, asked.zero_size(1)?);
+    registration_shown(registration::read_with(version, zero_size, asked.input)?)
+}
+
+fn registration_shown(record: Registration<Range>) -> Flat {
     let mut numbers = vec![
-        version.bcd().into(),
+        record.version().bcd().into(),
         record.nw_error.into(),
         record.register_state.into(),
         record.register_mode.into(),
@@ -320,7 +351,15 @@ fn split(bytes: &[u8], size: u64) -> (&[u8], &[u8]) {
 
 fn signal_read(asked: &Asked) -> Flat {
     let version = asked.version(0)?;
-    let record = signal_state::read(version, asked.input)?;
+    signal_shown(version, signal_state::read(version, asked.input)?)
+}
+
+fn signal_read_with(asked: &Asked) -> Flat {
+    let (version, zero_size) = (asked.version(0)?, asked.zero_size(1)?);
+    signal_shown(version, signal_state::read_with(version, zero_size, asked.input)?)
+}
+
+fn signal_shown(version: Version, record: SignalState<Entries>) -> Flat {
     let count = record.rsrp_snr.map_or(0, |entries| entries.count());
     let mut numbers = vec![
         version.bcd().into(),
@@ -370,19 +409,37 @@ fn signal_entries(asked: &Asked) -> Vec<RsrpSnr> {
 }
 
 fn services_read(asked: &Asked) -> Flat {
-    let services = device_services::read(asked.input)?;
+    services_shown(device_services::read(asked.input)?)
+}
+
+fn services_read_with(asked: &Asked) -> Flat {
+    services_shown(device_services::read_with(asked.zero_size(0)?, asked.input)?)
+}
+
+fn services_shown(services: DeviceServices) -> Flat {
     plain(&[services.count() as u64, services.max_dss_sessions().into()])
 }
 
 fn element(asked: &Asked) -> Flat {
-    let number = asked.word(1);
-    let input = asked.input;
+    let (input, number) = (asked.input, asked.word(1));
     shown(asked.number(0), |list| device_services::element(input, number, list))
+}
+
+fn element_with(asked: &Asked) -> Flat {
+    let (input, number, zero_size) = (asked.input, asked.word(1), asked.zero_size(2)?);
+    let call = |list: &mut [u32]| device_services::element_with(zero_size, input, number, list);
+    shown(asked.number(0), call)
 }
 
 fn service_cids(asked: &Asked) -> Flat {
     let (service, payload) = asked.service();
     shown(asked.number(0), |list| device_services::first_of_service(payload, &service, list))
+}
+
+fn service_cids_with(asked: &Asked) -> Flat {
+    let ((service, payload), zero_size) = (asked.service(), asked.zero_size(1)?);
+    let first = device_services::first_of_service_with;
+    shown(asked.number(0), |list| first(zero_size, payload, &service, list))
 }
 
 /// Lends a list of this room and answers the element with the CIDs put into it.
@@ -413,6 +470,12 @@ fn service_numbers(service: &ServiceId) -> [u64; 4] {
 fn listed(asked: &Asked) -> Flat {
     let (service, payload) = asked.service();
     let listed = device_services::listed(payload, &service, asked.word(0))?;
+    plain(&[listed.into()])
+}
+
+fn listed_with(asked: &Asked) -> Flat {
+    let ((service, payload), zero_size) = (asked.service(), asked.zero_size(1)?);
+    let listed = device_services::listed_with(zero_size, payload, &service, asked.word(0))?;
     plain(&[listed.into()])
 }
 
@@ -716,6 +779,60 @@ mod tests {
         for asked in [question::PACKET_WRITE, question::REGISTRATION_WRITE, question::SIGNAL_WRITE]
         {
             assert_eq!(numbers(asked, &[0, 0, 9, 9, 9, 9, 9, 9, 9, 9], &[]), [12, 0]);
+        }
+    }
+
+    #[test]
+    fn what_is_no_choice_comes_after_the_version_and_before_the_payload() {
+        for asked in [question::REGISTRATION_READ_WITH, question::SIGNAL_READ_WITH] {
+            for choice in [0, 1, 2, u64::from(u32::MAX)] {
+                assert_eq!(numbers(asked, &[0x0300, choice], &[]), [12, 0]);
+            }
+            for choice in [2, 256, u64::from(u32::MAX)] {
+                assert_eq!(numbers(asked, &[0x0200, choice], &[]), [9, 0]);
+            }
+        }
+        for choice in [2, 256, u64::from(u32::MAX)] {
+            assert_eq!(numbers(question::SERVICES_READ_WITH, &[choice], &[]), [9, 0]);
+            assert_eq!(numbers(question::ELEMENT_WITH, &[4, 0, choice], &[]), [9, 0]);
+            assert_eq!(numbers(question::SERVICE_CIDS_WITH, &[4, choice], &[]), [9, 0]);
+            assert_eq!(numbers(question::LISTED_WITH, &[15, choice], &[]), [9, 0]);
+        }
+    }
+
+    /// The same question without a choice, and with each.
+    fn each_way(asked: [u32; 2], arguments: &[u64], input: &[u8]) -> [Vec<u64>; 3] {
+        let with = |choice| numbers(asked[1], &[arguments, &[choice]].concat(), input);
+        [numbers(asked[0], arguments, input), with(0), with(1)]
+    }
+
+    #[test]
+    fn a_size_of_0_beside_an_offset_by_each_choice() {
+        let registration = [question::REGISTRATION_READ, question::REGISTRATION_READ_WITH];
+        let mut payload = [0; 52];
+        payload[36] = 53;
+        let shown = [vec![0, 0x0200], vec![0; 13]].concat();
+        let answers = each_way(registration, &[0x0200], &payload);
+        assert_eq!(answers, [shown.clone(), shown, vec![18, 36]]);
+        let signal = [question::SIGNAL_READ, question::SIGNAL_READ_WITH];
+        let mut payload = [0; 28];
+        payload[20] = 3;
+        let shown = [vec![0, 0x0200], vec![0; 6]].concat();
+        let answers = each_way(signal, &[0x0200], &payload);
+        assert_eq!(answers, [shown.clone(), shown, vec![18, 20]]);
+    }
+
+    #[test]
+    fn an_element_of_size_0_by_each_choice() {
+        let list = [1, 0, 0, 0, 0, 0, 0, 0, 52, 0, 0, 0, 0, 0, 0, 0];
+        let after_service = [&[0; 16][..], &list].concat();
+        for (asked, arguments, input) in [
+            ([question::SERVICES_READ, question::SERVICES_READ_WITH], &[][..], &list[..]),
+            ([question::ELEMENT, question::ELEMENT_WITH], &[4, 0], &list),
+            ([question::SERVICE_CIDS, question::SERVICE_CIDS_WITH], &[4], &after_service),
+            ([question::LISTED, question::LISTED_WITH], &[15], &after_service),
+        ] {
+            assert_eq!(each_way(asked, arguments, input), [[8, 8], [8, 8], [18, 8]]);
         }
     }
 

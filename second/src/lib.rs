@@ -23,6 +23,8 @@ pub mod signal_state;
 pub mod version;
 pub mod version_info;
 
+pub use pair::ZeroSize;
+
 /// The most information bytes a message may carry, and so the most a payload may have.
 pub const MAX_INFORMATION: usize = 4096;
 

@@ -3,7 +3,7 @@
 
 use crate::bytes::{padded, put, put_word, word};
 use crate::data_class;
-use crate::pair::{judge_text, Bounds};
+use crate::pair::{judge_text, Bounds, ZeroSize};
 use crate::refusal::{
     require, Refusal, FIELDS_CONTRADICT, INFORMATION_TOO_LONG, OUTPUT_TOO_SMALL, OUTSIDE_TABLE,
     TOO_SHORT,
@@ -76,15 +76,30 @@ pub const fn fixed_part(version: Version) -> usize {
     }
 }
 
-/// Reads a payload in the form of this version.
+/// Reads a payload in the form of this version. A text of size 0 is absent.
 #[inline]
 pub fn read(version: Version, payload: &[u8]) -> Result<Registration<Range>, Refusal> {
+    read_with(version, ZeroSize::default(), payload)
+}
+
+/// Reads a payload as `read` does, but by this choice where a text has size 0.
+#[inline]
+pub fn read_with(
+    version: Version,
+    zero_size: ZeroSize,
+    payload: &[u8],
+) -> Result<Registration<Range>, Refusal> {
     let bounds = Bounds { fixed: fixed_part(version), length: payload.len() };
     require(payload.len() >= bounds.fixed, TOO_SHORT, payload.len())?;
     require(payload.len() <= MAX_INFORMATION, INFORMATION_TOO_LONG, 0)?;
     let record = fields(version, payload);
-    judge(&record, bounds)?;
-    Ok(record)
+    judge(&record, zero_size, bounds)?;
+    Ok(Registration {
+        provider_id: record.provider_id.shown(),
+        provider_name: record.provider_name.shown(),
+        roaming_text: record.roaming_text.shown(),
+        ..record
+    })
 }
 
 /// Writes a record and gives the length written: the reader's rules, then 11.
@@ -105,7 +120,7 @@ pub fn write(record: &Registration<&[u8]>, out: &mut [u8]) -> Result<usize, Refu
         registration_flag: record.registration_flag,
         preferred_data_class: record.preferred_data_class,
     };
-    judge(&laid, Bounds { fixed, length })?;
+    judge(&laid, ZeroSize::Strict, Bounds { fixed, length })?;
     let room = out.get_mut(..length).ok_or(Refusal::new(OUTPUT_TOO_SMALL, length))?;
     put_fields(&laid, room);
     put_text(record.provider_id, laid.provider_id, room);
@@ -135,11 +150,12 @@ fn fields(version: Version, payload: &[u8]) -> Registration<Range> {
 
 /// The rules of the fields, in the order of their places, then the contradiction.
 #[inline(always)]
-fn judge(record: &Registration<Range>, bounds: Bounds) -> Result<(), Refusal> {
+fn judge(record: &Registration<Range>, zero_size: ZeroSize, bounds: Bounds) -> Result<(), Refusal> {
     judge_numbers(record)?;
-    judge_text(record.provider_id, PROVIDER_ID, PROVIDER_ID_LIMIT, bounds)?;
-    judge_text(record.provider_name, PROVIDER_NAME, PROVIDER_NAME_LIMIT, bounds)?;
-    judge_text(record.roaming_text, ROAMING_TEXT, ROAMING_TEXT_LIMIT, bounds)?;
+    let text = |pair, field, limit| judge_text(pair, field, limit, zero_size, bounds);
+    text(record.provider_id, PROVIDER_ID, PROVIDER_ID_LIMIT)?;
+    text(record.provider_name, PROVIDER_NAME, PROVIDER_NAME_LIMIT)?;
+    text(record.roaming_text, ROAMING_TEXT, ROAMING_TEXT_LIMIT)?;
     let in_flags = record.registration_flag & !REGISTRATION_FLAG_MASK == 0;
     require(in_flags, OUTSIDE_TABLE, REGISTRATION_FLAG)?;
     let preferred = record.preferred_data_class.unwrap_or(0);
@@ -266,24 +282,67 @@ mod tests {
         assert_eq!(read(Version::V2, &payload), Err(Refusal::new(6, 20)));
     }
 
+    /// The answers by the choices, absent and strict.
+    fn by_choice(version: Version, payload: &[u8]) -> [Result<Registration<Range>, Refusal>; 2] {
+        let [absent, strict] = [ZeroSize::Absent, ZeroSize::Strict]
+            .map(|zero_size| read_with(version, zero_size, payload));
+        assert_eq!(read(version, payload), absent);
+        [absent, strict]
+    }
+
     #[test]
     fn pairs_of_the_worked_cases() {
         let payload = written(&record(Some(0)));
         let far = with(with(payload.clone(), 20, 0xFFFF_FFFC), 24, 8);
-        assert_eq!(read(Version::V2, &far), Err(Refusal::new(7, 20)));
+        assert_eq!(by_choice(Version::V2, &far), [Err(Refusal::new(7, 20)); 2]);
         let empty = with(payload, 24, 0);
-        assert_eq!(read(Version::V2, &empty), Err(Refusal::new(18, 20)));
+        let [absent, strict] = by_choice(Version::V2, &empty);
+        assert_eq!(absent.unwrap().provider_id, Range::default());
+        assert_eq!(strict, Err(Refusal::new(18, 20)));
     }
 
     #[test]
     fn each_pair_tells_its_offset_faults_apart() {
         let good = written(&record(Some(0)));
         for field in [20, 28, 36] {
-            for (offset, size, number) in [(3, 0, 18), (53, 0, 18), (51, 2, 6), (53, 2, 17)] {
+            for (offset, size, number) in [(51, 2, 6), (53, 2, 17), (64, 2, 7)] {
                 let payload = with(with(good.clone(), field, offset), field + 4, size);
-                assert_eq!(read(Version::V2, &payload), Err(Refusal::new(number, field)));
+                let refused = Err(Refusal::new(number, field));
+                assert_eq!(by_choice(Version::V2, &payload), [refused; 2]);
             }
         }
+    }
+
+    #[test]
+    fn a_text_of_size_0_reads_as_beside_offset_0() {
+        for (version, preferred) in [(Version::V1, None), (Version::V2, Some(0))] {
+            let good = written(&record(preferred));
+            for field in [20, 28, 36] {
+                let absent = with(with(good.clone(), field, 0), field + 4, 0);
+                let shown = read(version, &absent);
+                assert_eq!(by_choice(version, &absent), [shown; 2]);
+                for offset in [1, 3, 4, 20, 48, 52, 53, 4096, 0xFFFF_FFFC, u32::MAX] {
+                    let stray = with(absent.clone(), field, offset);
+                    let strict = Err(Refusal::new(18, field));
+                    assert_eq!(by_choice(version, &stray), [shown, strict]);
+                }
+            }
+        }
+    }
+
+    #[test]
+    fn a_stray_offset_has_its_place_in_the_order() {
+        let stray = with(with(written(&record(Some(0))), 20, 53), 24, 0);
+        let bad = |place, value| by_choice(Version::V2, &with(stray.clone(), place, value));
+        let refused = |number, place| Err(Refusal::new(number, place));
+        assert_eq!(bad(4, 7), [refused(9, 4); 2]);
+        assert_eq!(bad(16, 4), [refused(9, 16); 2]);
+        assert_eq!(bad(24, 1), [refused(8, 20); 2]);
+        assert_eq!(bad(32, 2), [refused(6, 28), refused(18, 20)]);
+        assert_eq!(bad(28, 53), [read(Version::V2, &stray), refused(18, 20)]);
+        assert_eq!(bad(40, 127), [refused(8, 36), refused(18, 20)]);
+        assert_eq!(bad(44, 4), [refused(9, 44), refused(18, 20)]);
+        assert_eq!(bad(4, 2), [refused(10, 12), refused(18, 20)]);
     }
 
     #[test]

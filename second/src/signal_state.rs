@@ -2,7 +2,7 @@
 
 use crate::bytes::{put_word, word};
 use crate::data_class;
-use crate::pair::{judge_list, Bounds, Range};
+use crate::pair::{judge_list, Bounds, Range, ZeroSize};
 use crate::refusal::{
     require, Refusal, COUNT_OVER_LIMIT, FIELDS_CONTRADICT, INFORMATION_TOO_LONG, LENGTH_DISAGREES,
     OUTPUT_TOO_SMALL, OUTSIDE_TABLE, SIZE_WRONG, TOO_SHORT,
@@ -90,16 +90,26 @@ impl<'a> Entries<'a> {
     }
 }
 
-/// Reads a payload in the form of this version.
+/// Reads a payload in the form of this version. A list of size 0 is absent: no entries.
 #[inline]
 pub fn read(version: Version, payload: &[u8]) -> Result<SignalState<Entries<'_>>, Refusal> {
+    read_with(version, ZeroSize::default(), payload)
+}
+
+/// Reads a payload as `read` does, but by this choice where the list has size 0.
+#[inline]
+pub fn read_with(
+    version: Version,
+    zero_size: ZeroSize,
+    payload: &[u8],
+) -> Result<SignalState<Entries<'_>>, Refusal> {
     judge_length(version, payload.len())?;
     let rssi = word(payload, RSSI);
     let error_rate = word(payload, ERROR_RATE);
     judge_numbers(rssi, error_rate)?;
     let rsrp_snr = match version {
         Version::V1 => None,
-        Version::V2 => Some(read_list(payload, rssi)?),
+        Version::V2 => Some(read_list(payload, zero_size, rssi)?),
     };
     Ok(SignalState {
         rssi,
@@ -157,10 +167,10 @@ fn judge_numbers(rssi: u32, error_rate: u32) -> Result<(), Refusal> {
 
 /// The pair, its list, and last Rssi beside it.
 #[inline(always)]
-fn read_list(payload: &[u8], rssi: u32) -> Result<Entries<'_>, Refusal> {
+fn read_list(payload: &[u8], zero_size: ZeroSize, rssi: u32) -> Result<Entries<'_>, Refusal> {
     let pair = Range::at(payload, RSRP_SNR);
     let bounds = Bounds { fixed: FIXED_V2, length: payload.len() };
-    judge_list(pair, RSRP_SNR, SIZE_LIMIT, bounds)?;
+    judge_list(pair, RSRP_SNR, SIZE_LIMIT, zero_size, bounds)?;
     if pair.size == 0 {
         return Ok(Entries { bytes: &[] });
     }
@@ -311,13 +321,46 @@ mod tests {
         assert_eq!(read(&with(&with(&payload, 24, 4), 28, 0)), Err(Refusal::new(15, 28)));
         assert_eq!(read(&with(&payload, 28, 17)), Err(Refusal::new(15, 28)));
         assert_eq!(read(&with(&payload, 28, 1)), Err(Refusal::new(8, 20)));
-        assert_eq!(read(&with(&payload, 24, 0)), Err(Refusal::new(18, 20)));
-        assert_eq!(read(&with(&with(&payload, 20, 3), 24, 0)), Err(Refusal::new(18, 20)));
         assert_eq!(read(&with(&payload, 32, 128)), Err(Refusal::new(9, 32)));
         assert_eq!(read(&with(&payload, 36, 129)), Err(Refusal::new(9, 36)));
         assert_eq!(read(&with(&payload, 48, 0)), Err(Refusal::new(9, 48)));
         assert_eq!(read(&with(&payload, 68, 0xC0)), Err(Refusal::new(9, 68)));
         assert_eq!(read(&with(&payload, 0, 31)), Err(Refusal::new(10, 0)));
+    }
+
+    #[test]
+    fn a_list_of_size_0_is_no_entries_or_18() {
+        let known = written(&record(99, Some(&[known(126, 127)])));
+        for rssi in [31, 99] {
+            let good = with(&with(&known, 0, rssi), 24, 0);
+            for payload in [&good[..], &good[..28]] {
+                let absent = with(payload, 20, 0);
+                let shown = read(Version::V2, &absent).unwrap();
+                assert_eq!((shown.rssi, shown.rsrp_snr.unwrap().count()), (rssi, 0));
+                assert_eq!(read_with(Version::V2, ZeroSize::Strict, &absent), Ok(shown));
+                for offset in [1, 3, 4, 20, 27, 28, 29, 4096, 0xFFFF_FFFC, u32::MAX] {
+                    let stray = with(payload, 20, offset);
+                    let by = |zero_size| read_with(Version::V2, zero_size, &stray);
+                    assert_eq!(read(Version::V2, &stray), Ok(shown));
+                    assert_eq!(by(ZeroSize::Absent), Ok(shown));
+                    assert_eq!(by(ZeroSize::Strict), Err(Refusal::new(18, 20)));
+                }
+            }
+        }
+    }
+
+    #[test]
+    fn a_stray_offset_comes_after_the_numbers() {
+        let stray = with(&written(&record(99, Some(&[]))), 20, 28);
+        for zero_size in [ZeroSize::Absent, ZeroSize::Strict] {
+            let read = |payload: &[u8]| read_with(Version::V2, zero_size, payload).map(|_| ());
+            assert_eq!(read(&with(&stray, 0, 32)), Err(Refusal::new(9, 0)));
+            assert_eq!(read(&with(&stray, 4, 8)), Err(Refusal::new(9, 4)));
+            assert_eq!(read(&stray[..27]), Err(Refusal::new(1, 27)));
+            let first = written(&record(31, None));
+            assert!(read_with(Version::V1, zero_size, &first).is_ok());
+            assert_eq!(read_with(Version::V1, zero_size, &stray), Err(Refusal::new(2, 28)));
+        }
     }
 
     #[test]

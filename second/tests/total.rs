@@ -52,17 +52,82 @@ fn any_question_is_answered() {
     second.ask(question::MAKE_HOST, &[0x0200], &[]);
     second.ask(question::MAKE_MODEM, &[0x0200, 0x0100, 10], &[0; 8]);
     for _ in 0..60_000 {
-        let asked = random.below(37) as u32;
+        let asked = random.below(43) as u32;
         let count = random.below(30);
         let mut arguments: Vec<u64> = (0..count).map(|_| random.number()).collect();
         if let Some(room) = arguments.first_mut() {
-            let is_room = !matches!(asked, 3 | 5 | 7 | 12 | 20..=23 | 26..=27 | 33..=35);
+            let is_room = !matches!(asked, 3 | 5 | 7 | 12 | 20..=23 | 26..=27 | 33..=38 | 41);
             *room = if is_room { *room % 8000 } else { *room };
         }
         let input = random.input();
         let answer = second.ask(asked, &arguments, &input);
         let refused = answer.numbers.first().is_some_and(|number| *number != 0);
         assert!(!refused || (answer.numbers.len() == 2 && answer.output.is_empty()));
+    }
+}
+
+/// Zeros but for these pairs, which are good, faulty, or an offset beside a size of 0.
+fn with_pairs(random: &mut Random, length: usize, fields: &[usize]) -> Vec<u8> {
+    let mut payload = vec![0; length];
+    for field in fields {
+        let inside = random.below(length as u64);
+        let offset = [0, inside, inside / 4 * 4, random.number()][random.below(4) as usize] as u32;
+        let size = [0, 0, 2, 28][random.below(4) as usize];
+        payload[*field..field + 8].copy_from_slice(&[offset, size].map(u32::to_le_bytes).concat());
+    }
+    payload
+}
+
+/// That the plain question and choice 0 see no stray offset, and choice 1 refuses the first
+/// one unless another fault comes before it.
+fn assert_choices(questions: [u32; 2], arguments: &[u64], payload: &[u8], fields: &[usize]) {
+    let ask = |question, payload: &[u8], choice: &[u64]| {
+        Second::new().ask(question, &[arguments, choice].concat(), payload)
+    };
+    let mut cleared = payload.to_vec();
+    let is_stray = |field: &usize| {
+        payload[*field..field + 4] != [0; 4] && payload[field + 4..field + 8] == [0; 4]
+    };
+    let strays: Vec<usize> = fields.iter().copied().filter(is_stray).collect();
+    for field in &strays {
+        cleared[*field..field + 4].fill(0);
+    }
+    let [plain, with] = questions;
+    let absent = ask(with, payload, &[0]);
+    assert_eq!(ask(plain, payload, &[]), absent);
+    for choice in [0, 1] {
+        assert_eq!(ask(with, &cleared, &[choice]), absent);
+    }
+    let strict = ask(with, payload, &[1]);
+    match strays.first() {
+        None => assert_eq!(strict, absent),
+        Some(field) => {
+            let is_faulty_before = absent.numbers[0] != 0 && strict == absent;
+            assert!(is_faulty_before || strict.numbers == [18, *field as u64]);
+        }
+    }
+}
+
+#[test]
+fn a_size_of_0_reads_as_beside_offset_0() {
+    let mut random = Random(0x0F1E_2D3C_4B5A_6971);
+    for _ in 0..4000 {
+        for version in [0x0100, 0x0200] {
+            let fields = [20, 28, 36];
+            let payload = with_pairs(&mut random, 84, &fields);
+            let questions = [question::REGISTRATION_READ, question::REGISTRATION_READ_WITH];
+            assert_choices(questions, &[version], &payload, &fields);
+        }
+        let payload = with_pairs(&mut random, 56, &[20]);
+        let questions = [question::SIGNAL_READ, question::SIGNAL_READ_WITH];
+        assert_choices(questions, &[0x0200], &payload, &[20]);
+        let fields = &[8, 16, 24][..random.below(4) as usize];
+        let mut payload = with_pairs(&mut random, 84, fields);
+        payload[0] = fields.len() as u8;
+        let questions = [question::SERVICES_READ, question::SERVICES_READ_WITH];
+        assert_choices(questions, &[], &payload, fields);
+        let questions = [question::ELEMENT, question::ELEMENT_WITH];
+        assert_choices(questions, &[4, 1], &payload, fields);
     }
 }
 

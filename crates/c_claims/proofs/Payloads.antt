@@ -16,7 +16,8 @@ use Rattle.protocol.specs.declared.Version.the-variants.{V1, V2}
 use Rattle.protocol.specs.declared.service.ServiceId.{ServiceId}
 use Rattle.folds.specs.Folds.{firstIndex, anyOf}
 use Rattle.wire.specs.Numbers.{u32At}
-use Rattle.pairs.specs.Pair.{rangeAt, unfit}
+use Rattle.pairs.specs.Pair.{byDefault, rangeAt, unfit}
+use Rattle.pairs.specs.declared.ZeroSize.{ZeroSize}
 use Rattle.pairs.specs.declared.Range.{Range}
 use Rattle.pairs.specs.declared.PairKind.the-variants.{Text, List as ListKind}
 use Rattle.version_info.specs.declared.VersionInfo.{VersionInfo}
@@ -63,8 +64,9 @@ use Rattle.c_structs.specs.Quality.{readingInfo, barsInfo, shown}
 use Rattle.culvertroost.specs.Packets as packets
 use Rattle.culvertroost.specs.Registrations as registrations
 use Rattle.culvertroost.specs.Signals as signals
+use Rattle.culvertroost.specs.Services as servicesBy
 use Rattle.c_claims.specs.NumberZero.{VerdictTells, WrittenTells, VersionTells, PacketTells, RegistrationTells, SignalTells, ServicesTells, ElementTells, ListedTells, AllTells, ReadingTells, BarsTells}
-use Rattle.c_claims.proofs.Verdicts.{named, told-if, told-first, told-rules, told-exact, told-open, told-pair, told-each, by-test, told-writing, told-at}
+use Rattle.c_claims.proofs.Verdicts.{named, told-if, told-first, told-rules, told-exact, told-open, told-pair, told-each, by-test, told-writing, told-at, told-by, told-reading}
 
 -- ---- VERSION
 
@@ -133,25 +135,25 @@ told-back p = told-rules _ (by-form (p .form))
     by-form registration-form.V1 = refl
     by-form (registration-form.V2 class) = refl
 
-told-texts : (fixed n : ℕ) (t : RegistrationTexts) → VerdictTells (registration.textsVerdict fixed n t)
-unfolding registration.textsVerdict
-told-texts fixed n t =
-    told-first _ _ (told-pair Text fixed 12 20 n (t .«provider_id»))
-    (told-first _ _ (told-pair Text fixed 40 28 n (t .«provider_name»)) (told-pair Text fixed 126 36 n (t .«roaming_text»)))
+told-texts : (z : ZeroSize) (fixed n : ℕ) (s : List ℕ) → VerdictTells (registration.textsVerdict z fixed n (registration.pairsAt s))
+unfolding registration.textsVerdict registration.pairsAt
+told-texts z fixed n s =
+    told-first _ _ (told-pair z Text fixed 12 20 n (rangeAt s 20))
+    (told-first _ _ (told-pair z Text fixed 40 28 n (rangeAt s 28)) (told-pair z Text fixed 126 36 n (rangeAt s 36)))
 
-told-registration-read : (v : Version) (s : List ℕ) → RegistrationTells (registration.readOf v s)
-unfolding registration.readOf registrationAnswer.answerOf
-told-registration-read v s =
+told-registration-read : (v : Version) (z : ZeroSize) (s : List ℕ) → RegistrationTells (registration.readWith v z s)
+unfolding registration.readWith registration.verdictWith registrationAnswer.answerOf
+told-registration-read v z s =
     shown
     (firstOf (openLength (registration.fixedPart v) (length s))
     (firstOf (judge (registration.frontRules v (registration.recordAt v s)))
-    (firstOf (registration.textsVerdict (registration.fixedPart v) (length s) (registration.textsAt s))
+    (firstOf (registration.textsVerdict z (registration.fixedPart v) (length s) (registration.pairsAt s))
     (judge (registration.backRules (registration.recordAt v s))))))
     (registration.recordAt v s)
     (registration.textsAt s)
     (told-first _ _ (told-open (registration.fixedPart v) (length s))
     (told-first _ _ (told-front v (registration.recordAt v s))
-    (told-first _ _ (told-texts (registration.fixedPart v) (length s) (registration.textsAt s)) (told-back (registration.recordAt v s)))))
+    (told-first _ _ (told-texts z (registration.fixedPart v) (length s) s) (told-back (registration.recordAt v s)))))
   where
     shown : (x : Verdict) (p : Registration) (t : RegistrationTexts) → VerdictTells x → RegistrationTells (registration.shown x p t)
     shown Fits p t y = refl
@@ -159,7 +161,11 @@ told-registration-read v s =
 
 pub registration-read-told : (n : ℕ) (s : List ℕ) → RegistrationTells (registrations.readAt n s)
 unfolding registrationAnswer.answerOf
-registration-read-told n s = told-at RegistrationTells n (λ r. λ t. t) (λ v. told-registration-read v s)
+registration-read-told n s = told-at RegistrationTells n (λ r. λ t. t) (λ v. told-registration-read v byDefault s)
+
+pub registration-chosen-told : (n k : ℕ) (s : List ℕ) → RegistrationTells (registrations.readChosen n k s)
+unfolding registrationAnswer.answerOf
+registration-chosen-told n k s = told-reading RegistrationTells n k (λ r. λ t. t) (λ v. λ z. told-registration-read v z s)
 
 told-registration-write : (p : Registration) (x y z s : List ℕ) → WrittenTells (registration.writeOf p x y z s .answer)
 unfolding registration.writeOf registration.writtenVerdict registration.sizeRules
@@ -184,23 +190,23 @@ told-body rssi offset f n =
     told-first _ _ (told-each _ n (λ i. told-rules _ refl))
     (told-if (signal.contradicts rssi (signal.anyKnown f n)) contradiction 0 refl)
 
-told-head : (s : List ℕ) (p : Range) (count : ℕ) → VerdictTells (signal.headOf s p count)
+told-head : (z : ZeroSize) (s : List ℕ) (p : Range) (count : ℕ) → VerdictTells (signal.headOf z s p count)
 unfolding signal.headOf signal.listRules
-told-head s p count =
+told-head z s p count =
     told-first _ _ (told-open 28 (length s))
     (told-first _ _ (told-numbers (u32At s 0) (u32At s 4))
-    (told-first _ _ (told-pair ListKind 28 324 20 (length s) p) (told-rules _ refl)))
+    (told-first _ _ (told-pair z ListKind 28 324 20 (length s) p) (told-rules _ refl)))
 
-told-signal : (v : Version) (s : List ℕ) → VerdictTells (signal.verdictAt v s)
+told-signal : (v : Version) (z : ZeroSize) (s : List ℕ) → VerdictTells (signal.verdictAt v z s)
 unfolding signal.verdictAt
-told-signal V1 s = told-first _ _ (told-exact 20 (length s)) (told-numbers (u32At s 0) (u32At s 4))
-told-signal V2 s =
-    told-first _ _ (told-head s (rangeAt s 20) (signal.countAt s))
+told-signal V1 z s = told-first _ _ (told-exact 20 (length s)) (told-numbers (u32At s 0) (u32At s 4))
+told-signal V2 z s =
+    told-first _ _ (told-head z s (rangeAt s 20) (signal.countAt s))
     (told-body (u32At s 0) (signal.listPlace s) (signal.entryAt s (signal.listPlace s)) (signal.countAt s))
 
-told-signal-read : (v : Version) (s : List ℕ) → SignalTells (signal.readOf v s)
-unfolding signal.readOf signalAnswer.answerBy
-told-signal-read v s = shown (signal.verdictAt v s) (signal.recordAt v s) (signal.shownEntries v s) (told-signal v s)
+told-signal-read : (v : Version) (z : ZeroSize) (s : List ℕ) → SignalTells (signal.readWith v z s)
+unfolding signal.readWith signalAnswer.answerBy
+told-signal-read v z s = shown (signal.verdictAt v z s) (signal.recordAt v s) (signal.shownEntries v s) (told-signal v z s)
   where
     shown : (x : Verdict) (p : SignalState) (es : List RsrpSnr) → VerdictTells x → SignalTells (signal.shown x p es)
     shown Fits p es y = refl
@@ -208,7 +214,11 @@ told-signal-read v s = shown (signal.verdictAt v s) (signal.recordAt v s) (signa
 
 pub signal-read-told : (n : ℕ) (s : List ℕ) → SignalTells (signals.readAt n s)
 unfolding signalAnswer.answerBy
-signal-read-told n s = told-at SignalTells n (λ r. λ t. t) (λ v. told-signal-read v s)
+signal-read-told n s = told-at SignalTells n (λ r. λ t. t) (λ v. told-signal-read v byDefault s)
+
+pub signal-chosen-told : (n k : ℕ) (s : List ℕ) → SignalTells (signals.readChosen n k s)
+unfolding signalAnswer.answerBy
+signal-chosen-told n k s = told-reading SignalTells n k (λ r. λ t. t) (λ v. λ z. told-signal-read v z s)
 
 told-signal-write : (p : SignalState) (es : List RsrpSnr) (s : List ℕ) → WrittenTells (signal.writeOf p es s .answer)
 unfolding signal.writeOf signal.listedVerdict signal.limitVerdict
@@ -227,19 +237,26 @@ signal-write-told i s =
 
 -- ---- device services
 
-told-list : (s : List ℕ) → VerdictTells (services.verdictOf s)
-unfolding services.verdictOf services.lengthVerdict services.elementVerdict services.contentRules
-told-list s =
+told-list : (z : ZeroSize) (s : List ℕ) → VerdictTells (services.verdictWith z s)
+unfolding services.verdictWith services.lengthVerdict services.elementVerdict services.contentRules
+told-list z s =
     told-first _ _ (told-first _ _ (told-rules _ refl) (told-open (services.fixedPart (services.countOf s)) (length s)))
-    (told-each _ (services.countOf s) (λ i. told-first _ _ (told-pair ListKind (services.fixedPart (services.countOf s)) 540 (services.pairPlace i) (length s) (services.pairOf s i)) (told-rules _ refl)))
+    (told-each _ (services.countOf s) (λ i. told-first _ _ (told-pair z ListKind (services.fixedPart (services.countOf s)) 540 (services.pairPlace i) (length s) (services.pairOf s i)) (told-rules _ refl)))
 
-pub services-read-told : (s : List ℕ) → ServicesTells (services.readOf s)
-unfolding services.readOf servicesAnswer.answerOf
-services-read-told s = shown (services.verdictOf s) (services.headAt s) (told-list s)
+told-services-read : (z : ZeroSize) (s : List ℕ) → ServicesTells (services.readWith z s)
+unfolding services.readWith servicesAnswer.answerOf
+told-services-read z s = shown (services.verdictWith z s) (services.headAt s) (told-list z s)
   where
     shown : (x : Verdict) (p : DeviceServices) → VerdictTells x → ServicesTells (services.shown x p)
     shown Fits p y = refl
     shown (Fault r) p y = y
+
+pub services-read-told : (s : List ℕ) → ServicesTells (services.readOf s)
+services-read-told s = told-services-read byDefault s
+
+pub services-chosen-told : (k : ℕ) (s : List ℕ) → ServicesTells (servicesBy.readChosen k s)
+unfolding servicesAnswer.answerOf
+services-chosen-told k s = told-by ServicesTells k (λ r. λ t. t) (λ z. told-services-read z s)
 
 told-chosen : (s : List ℕ) (i : ℕ) (out : List ℕ) → ElementTells (query.chosenShown s i out .answer)
 unfolding query.chosenShown query.elementShown servicesAnswer.elementInfo
@@ -253,24 +270,45 @@ unfolding servicesAnswer.elementInfo
 told-judged Fits y out t u = u
 told-judged (Fault r) y out t u = t
 
-pub element-told : (s : List ℕ) (number : ℕ) (out : List ℕ) → ElementTells (query.elementOf s number out .answer)
-unfolding query.elementOf
-element-told s number out = told-judged (services.verdictOf s) (query.chosenShown s number out) out (told-list s) (told-chosen s number out)
+told-element : (z : ZeroSize) (s : List ℕ) (number : ℕ) (out : List ℕ) → ElementTells (query.elementWith z s number out .answer)
+unfolding query.elementWith
+told-element z s number out = told-judged (services.verdictWith z s) (query.chosenShown s number out) out (told-list z s) (told-chosen s number out)
 
-pub cids-told : (s : List ℕ) (service : ServiceId) (out : List ℕ) → ElementTells (query.cidsOf s service out .answer)
-unfolding query.cidsOf
-cids-told s service out =
-    told-judged (services.verdictOf s) (query.chosenShown s (firstIndex (query.isOf s service) (services.countOf s)) out) out (told-list s)
+pub element-told : (s : List ℕ) (number : ℕ) (out : List ℕ) → ElementTells (query.elementOf s number out .answer)
+element-told s number out = told-element byDefault s number out
+
+pub element-chosen-told : (k : ℕ) (s : List ℕ) (number : ℕ) (out : List ℕ) → ElementTells (servicesBy.elementChosen k s number out .answer)
+unfolding servicesAnswer.elementInfo
+element-chosen-told k s number out = told-by (λ (x : query.Shown). ElementTells (x .answer)) k (λ r. λ t. t) (λ z. told-element z s number out)
+
+told-cids : (z : ZeroSize) (s : List ℕ) (service : ServiceId) (out : List ℕ) → ElementTells (query.cidsWith z s service out .answer)
+unfolding query.cidsWith
+told-cids z s service out =
+    told-judged (services.verdictWith z s) (query.chosenShown s (firstIndex (query.isOf s service) (services.countOf s)) out) out (told-list z s)
     (told-chosen s (firstIndex (query.isOf s service) (services.countOf s)) out)
 
-pub listed-told : (s : List ℕ) (service : ServiceId) (cid : ℕ) → ListedTells (query.listedOf s service cid)
-unfolding query.listedOf servicesAnswer.listedInfo
-listed-told s service cid = by-verdict (services.verdictOf s) (anyOf (query.holds s service cid) (services.countOf s)) (told-list s)
+pub cids-told : (s : List ℕ) (service : ServiceId) (out : List ℕ) → ElementTells (query.cidsOf s service out .answer)
+cids-told s service out = told-cids byDefault s service out
+
+pub cids-chosen-told : (k : ℕ) (s : List ℕ) (service : ServiceId) (out : List ℕ) → ElementTells (servicesBy.cidsChosen k s service out .answer)
+unfolding servicesAnswer.elementInfo
+cids-chosen-told k s service out = told-by (λ (x : query.Shown). ElementTells (x .answer)) k (λ r. λ t. t) (λ z. told-cids z s service out)
+
+told-listed : (z : ZeroSize) (s : List ℕ) (service : ServiceId) (cid : ℕ) → ListedTells (query.listedWith z s service cid)
+unfolding query.listedWith servicesAnswer.listedInfo
+told-listed z s service cid = by-verdict (services.verdictWith z s) (anyOf (query.holds s service cid) (services.countOf s)) (told-list z s)
   where
     by-verdict : (x : Verdict) (any : Bool) → VerdictTells x → ListedTells (query.told x any)
     by-verdict Fits true y = refl
     by-verdict Fits false y = refl
     by-verdict (Fault r) any y = y
+
+pub listed-told : (s : List ℕ) (service : ServiceId) (cid : ℕ) → ListedTells (query.listedOf s service cid)
+listed-told s service cid = told-listed byDefault s service cid
+
+pub listed-chosen-told : (k : ℕ) (s : List ℕ) (service : ServiceId) (cid : ℕ) → ListedTells (servicesBy.listedChosen k s service cid)
+unfolding servicesAnswer.listedInfo
+listed-chosen-told k s service cid = told-by ListedTells k (λ r. λ t. t) (λ z. told-listed z s service cid)
 
 told-all : (s fields cids : List ℕ) → AllTells (query.allShown s fields cids .answer)
 unfolding query.allShown servicesAnswer.allInfo
@@ -278,13 +316,20 @@ told-all s fields cids =
     by-test (λ (x : query.AllShown). AllTells (x .answer)) (ltb (length fields) (7 * services.countOf s)) refl
     (by-test (λ (x : query.AllShown). AllTells (x .answer)) (ltb (length cids) (query.totalOf s)) refl refl)
 
-pub all-told : (s fields cids : List ℕ) → AllTells (query.allOf s fields cids .answer)
-unfolding query.allOf servicesAnswer.allInfo
-all-told s fields cids = by-verdict (services.verdictOf s) (told-list s)
+told-all-read : (z : ZeroSize) (s fields cids : List ℕ) → AllTells (query.allWith z s fields cids .answer)
+unfolding query.allWith servicesAnswer.allInfo
+told-all-read z s fields cids = by-verdict (services.verdictWith z s) (told-list z s)
   where
     by-verdict : (v : Verdict) → VerdictTells v → AllTells (query.allJudged v (query.allShown s fields cids) fields cids .answer)
     by-verdict Fits x = told-all s fields cids
     by-verdict (Fault r) x = x
+
+pub all-told : (s fields cids : List ℕ) → AllTells (query.allOf s fields cids .answer)
+all-told s fields cids = told-all-read byDefault s fields cids
+
+pub all-chosen-told : (k : ℕ) (s fields cids : List ℕ) → AllTells (servicesBy.allChosen k s fields cids .answer)
+unfolding servicesAnswer.allInfo
+all-chosen-told k s fields cids = told-by (λ (x : query.AllShown). AllTells (x .answer)) k (λ r. λ t. t) (λ z. told-all-read z s fields cids)
 
 told-record : (p : ServiceList) → VerdictTells (writer.writtenVerdict p)
 unfolding writer.writtenVerdict

@@ -7,7 +7,7 @@ use mathlib.Core.Bool.{Bool, true, false, cond}
 use mathlib.Core.List.{List, [], _∷_}
 use lib.Dec.{ltb, eqb}
 use lib.ListN.{length}
-use Rattle.protocol.specs.Refusal.{outputTooSmall}
+use Rattle.protocol.specs.Refusal.{refusal, outputTooSmall, outsideTable}
 use Rattle.protocol.specs.Verdict.{Rule, judge, judgeFrom, firstOf, faultIf, exactLength, openLength, given, withRoom, writing}
 use Rattle.protocol.specs.declared.Refusal.{Refusal}
 use Rattle.protocol.specs.declared.Verdict.{Verdict}
@@ -17,8 +17,13 @@ use Rattle.folds.specs.Folds.{firstFault}
 use Rattle.pairs.specs.Pair.{rules as pairRules, verdictOf as pairVerdict}
 use Rattle.pairs.specs.declared.Range.{Range}
 use Rattle.pairs.specs.declared.PairKind.{PairKind}
+use Rattle.pairs.specs.declared.ZeroSize.{ZeroSize}
 use Rattle.handshake.specs.Versions.{numberVerdict, versionOf, numberedBy, numbered}
 use Rattle.c_structs.specs.Answers.{goOn, atVersion, writtenAnswer}
+use Rattle.c_structs.specs.Choices.{zeroSizeOf, chooseOn, byChoice, readingOf, readOn, byReading}
+use Rattle.c_structs.specs.declared.choices.Chosen.{Chosen}
+use Rattle.c_structs.specs.declared.choices.Reading.{Reading}
+use Rattle.pairs.specs.declared.ZeroSize.the-variants.{Absent, Strict}
 use Rattle.c_claims.specs.NumberZero.{VerdictTells, WrittenTells}
 
 -- no rule has the number 0
@@ -59,9 +64,9 @@ pub told-open : (fixed n : ℕ) → VerdictTells (openLength fixed n)
 unfolding openLength
 told-open fixed n = told-rules _ refl
 
-pub told-pair : (kind : PairKind) (fixed limit place n : ℕ) (p : Range) → VerdictTells (pairVerdict kind fixed limit place n p)
+pub told-pair : (z : ZeroSize) (kind : PairKind) (fixed limit place n : ℕ) (p : Range) → VerdictTells (pairVerdict z kind fixed limit place n p)
 unfolding pairVerdict pairRules
-told-pair kind fixed limit place n p = told-rules _ refl
+told-pair z kind fixed limit place n p = told-rules _ refl
 
 pub told-each : (f : ℕ → Verdict) (n : ℕ) → ((i : ℕ) → VerdictTells (f i)) → VerdictTells (firstFault f n)
 unfolding firstFault
@@ -103,3 +108,17 @@ told-at P n {stop} {go} p q = by-verdict (numberVerdict n) (versionOf n) (told-n
     by-verdict : (x : Verdict) (v : Version) → VerdictTells x → P (goOn (numberedBy x v) stop go)
     by-verdict Fits v t = q v
     by-verdict (Fault r) v t = p r t
+
+-- ---- a choice's number, judged after it
+
+pub told-by : {A : Type 0} (P : A → Type 0) (n : ℕ) {stop : Refusal → A} {go : ZeroSize → A} → ((r : Refusal) → eqb (r .number) 0 ≡ false → P (stop r)) → ((z : ZeroSize) → P (go z))
+    → P (byChoice n stop go)
+unfolding zeroSizeOf
+told-by P n {stop} {go} p q = by-test (λ (x : Chosen). P (chooseOn x stop go)) (eqb n 0) (q Absent) (by-test (λ (x : Chosen). P (chooseOn x stop go)) (eqb n 1) (q Strict) (p (refusal outsideTable 0) refl))
+
+-- both numbers
+pub told-reading : {A : Type 0} (P : A → Type 0) (n k : ℕ) {stop : Refusal → A} {go : Version → ZeroSize → A} → ((r : Refusal) → eqb (r .number) 0 ≡ false → P (stop r))
+    → ((v : Version) (z : ZeroSize) → P (go v z)) → P (byReading n k stop go)
+unfolding readingOf
+told-reading P n k {stop} {go} p q =
+    told-at (λ (x : Reading). P (readOn x stop go)) n p (λ v. told-by (λ (x : Reading). P (readOn x stop go)) k p (q v))

@@ -56,6 +56,7 @@ use Rattle.c_structs.specs.declared.signals.SignalStateInfo.{SignalStateInfo}
 use Rattle.culvertroost.specs.Packets as packets
 use Rattle.culvertroost.specs.Registrations as registrations
 use Rattle.culvertroost.specs.Signals as signals
+use Rattle.culvertroost.specs.Services as servicesBy
 use Rattle.culvertroost.specs.Modems.{replyInfo}
 use Rattle.c_claims.specs.Refused.{faulty, writtenRefused, versionRefused, packetRefused, registrationRefused, signalRefused, servicesRefused, elementRefused, listedRefused, allRefused, readingRefused, barsRefused, wholeRefused, cutRefused, shownRefused, receivedRefused, hostRefused, askRefused, modemRefused}
 
@@ -130,14 +131,21 @@ pub record EveryNumberTells : Type 0 where
   pub packet-service-read : (n : ℕ) (s : List ℕ) → PacketTells (packets.readAt n s)
   pub packet-service-write : (i : PacketServiceInfo) (out : List ℕ) → WrittenTells (packets.writeAt i out .answer)
   pub registration-read : (n : ℕ) (s : List ℕ) → RegistrationTells (registrations.readAt n s)
+  pub registration-read-with : (n k : ℕ) (s : List ℕ) → RegistrationTells (registrations.readChosen n k s)
   pub registration-write : (i : RegistrationInfo) (x y z out : List ℕ) → WrittenTells (registrations.writeAt i x y z out .answer)
   pub signal-state-read : (n : ℕ) (s : List ℕ) → SignalTells (signals.readAt n s)
+  pub signal-state-read-with : (n k : ℕ) (s : List ℕ) → SignalTells (signals.readChosen n k s)
   pub signal-state-write : (i : SignalStateInfo) (out : List ℕ) → WrittenTells (signals.writeAt i out .answer)
   pub device-services-read : (s : List ℕ) → ServicesTells (services.readOf s)
+  pub device-services-read-with : (k : ℕ) (s : List ℕ) → ServicesTells (servicesBy.readChosen k s)
   pub device-services-element : (s : List ℕ) (number : ℕ) (cids : List ℕ) → ElementTells (query.elementOf s number cids .answer)
+  pub device-services-element-with : (k : ℕ) (s : List ℕ) (number : ℕ) (cids : List ℕ) → ElementTells (servicesBy.elementChosen k s number cids .answer)
   pub device-services-cids : (s : List ℕ) (service : ServiceId) (cids : List ℕ) → ElementTells (query.cidsOf s service cids .answer)
+  pub device-services-cids-with : (k : ℕ) (s : List ℕ) (service : ServiceId) (cids : List ℕ) → ElementTells (servicesBy.cidsChosen k s service cids .answer)
   pub device-services-listed : (s : List ℕ) (service : ServiceId) (cid : ℕ) → ListedTells (query.listedOf s service cid)
+  pub device-services-listed-with : (k : ℕ) (s : List ℕ) (service : ServiceId) (cid : ℕ) → ListedTells (servicesBy.listedChosen k s service cid)
   pub device-services-all : (s fields cids : List ℕ) → AllTells (query.allOf s fields cids .answer)
+  pub device-services-all-with : (k : ℕ) (s fields cids : List ℕ) → AllTells (servicesBy.allChosen k s fields cids .answer)
   pub device-services-write : (p : ServiceList) (out : List ℕ) → WrittenTells (writer.writeOf p out .answer)
   pub device-services-write-all : (max : ℕ) (fields cids out : List ℕ) → WrittenTells (lists.writeAllOf max fields cids out .answer)
   pub rsrp : (code : ℕ) → ReadingTells (rsrpOf code)

@@ -1,4 +1,5 @@
 pub mod Answers
+pub mod Choices
 pub mod Versions
 pub mod Packets
 pub mod Registrations

@@ -1,5 +1,6 @@
 // Plain structs in C's layout for records and answers, and the way from one to the other: one module
 // a payload or part. Nothing is judged here.
+pub mod choices;
 pub mod ends;
 pub mod messages;
 pub mod packets;

@@ -1,4 +1,4 @@
--- What a writer gives reads back at either version, and is no longer than a message can carry.
+-- What a writer gives reads back at either version and by either choice, and is no longer than a message can carry.
 -- Assumes nothing.
 use mathlib.Core.Path.{_≡_, refl, sym, ap, _∙_}
 use mathlib.Core.List.{List}
@@ -20,6 +20,8 @@ use Rattle.version_info.specs.VersionInfo as version
 use Rattle.version_info.proofs.RoundTrip as versionTrip
 use Rattle.version_info.proofs.Acceptance as versionAccepted
 use Rattle.registration.specs.Registration as registration
+use Rattle.pairs.specs.Pair.{byDefault}
+use Rattle.pairs.specs.declared.ZeroSize.{ZeroSize}
 use Rattle.registration.specs.Claims.{Returned}
 use Rattle.registration.specs.Claims.{OfWidth as RegistrationOfWidth}
 use Rattle.registration.specs.declared.Registration.{Registration}
@@ -55,45 +57,48 @@ packet-service-back p z f V2 V2 e = rw e at (packetTrip.bytes-read p z f)
 packet-service-back p z f V2 V1 e = packetOther.later-read-earlier p e
 packet-service-back p z f V1 V2 e = packetOther.earlier-read-later p e
 
-register-state-back : (p : Registration) (x y z : List ℕ) → RegistrationOfWidth p → registration.writtenVerdict p (length x) (length y) (length z) ≡ Fits
-    → Returned p x y z (registration.bytesOf p x y z) → (w v : Version) → registration.versionOf p ≡ w → RegisterStateBack w v p x y z (registration.bytesOf p x y z)
+register-state-back : (choice : ZeroSize) (p : Registration) (x y z : List ℕ) → RegistrationOfWidth p → registration.writtenVerdict p (length x) (length y) (length z) ≡ Fits
+    → Returned choice p x y z (registration.bytesOf p x y z) → (w v : Version) → registration.versionOf p ≡ w → RegisterStateBack w v choice p x y z (registration.bytesOf p x y z)
 unfolding RegisterStateBack
-register-state-back p x y z s f b V1 V1 e = b
-register-state-back p x y z s f b V2 V2 e = b
-register-state-back p x y z s f b V2 V1 e =
+register-state-back choice p x y z s f b V1 V1 e = b
+register-state-back choice p x y z s f b V2 V2 e = b
+register-state-back choice p x y z s f b V2 V1 e =
     let t = registrationTrip.texts-read p x y z f in
-    (registration.laidFor p x y z, (registrationOther.later-read-earlier p x y z e s f, t))
-register-state-back p x y z s f b V1 V2 e = registrationOther.earlier-read-later p x y z e s f
+    (registration.laidFor p x y z, (registrationOther.later-read-earlier choice p x y z e s f, t))
+register-state-back choice p x y z s f b V1 V2 e = registrationOther.earlier-read-later choice p x y z e s f
 
-signal-state-back : (p : SignalState) (es : List RsrpSnr) → SignalOfWidth p → EntriesOfWidth es → signal.writtenVerdict p es ≡ Fits → (g : SignalForm) (v : Version) → p .form ≡ g
-    → SignalStateBack (signal.versionIn g) v p es (signal.bytesOf p es)
+signal-state-back : (choice : ZeroSize) (p : SignalState) (es : List RsrpSnr) → SignalOfWidth p → EntriesOfWidth es → signal.writtenVerdict p es ≡ Fits → (g : SignalForm) (v : Version) → p .form ≡ g
+    → SignalStateBack (signal.versionIn g) v choice p es (signal.bytesOf p es)
 unfolding SignalStateBack
-signal-state-back p es z zs f Form1 V1 e = ap (λ (g : SignalForm). signal.readOf (signal.versionIn g) (signal.bytesOf p es)) (sym e) ∙ signalTrip.bytes-read p es z zs f
-signal-state-back p es z zs f Form1 V2 e = signalOther.earlier-read-later p es e
-signal-state-back p es z zs f (Form2 n) V2 e = ap (λ (g : SignalForm). signal.readOf (signal.versionIn g) (signal.bytesOf p es)) (sym e) ∙ signalTrip.bytes-read p es z zs f
-signal-state-back p es z zs f (Form2 n) V1 e =
+signal-state-back choice p es z zs f Form1 V1 e =
+    ap (λ (g : SignalForm). signal.readWith (signal.versionIn g) choice (signal.bytesOf p es)) (sym e) ∙ signalTrip.bytes-read choice p es z zs f
+signal-state-back choice p es z zs f Form1 V2 e = signalOther.earlier-read-later choice p es e
+signal-state-back choice p es z zs f (Form2 n) V2 e =
+    ap (λ (g : SignalForm). signal.readWith (signal.versionIn g) choice (signal.bytesOf p es)) (sym e) ∙ signalTrip.bytes-read choice p es z zs f
+signal-state-back choice p es z zs f (Form2 n) V1 e =
     let l : length (signal.bytesOf p es) ≡ 28 + signal.sizeOf n = ap (λ (g : SignalForm). length (signal.bytesIn g p (signal.entryIn es))) e ∙ signalLaws.length-listed p n (signal.entryIn es) in
-    rw l (signalOther.later-read-earlier p es n e)
+    rw l (signalOther.later-read-earlier choice p es n e)
 
 -- ---- what a writer puts into an output
 
-pub reads-back : (r : Record) → OfWidth r → (out : List ℕ) (n : ℕ) → writeOf r out .answer ≡ Length n → (v : Version) → ReadsBack r v (take n (writeOf r out .output))
+pub reads-back : (r : Record) → OfWidth r → (out : List ℕ) (n : ℕ) → writeOf r out .answer ≡ Length n → (v : Version) (choice : ZeroSize)
+    → ReadsBack r v choice (take n (writeOf r out .output))
 unfolding OfWidth writeOf ReadsBack registrationWrite packetWrite signalWrite
-reads-back (registerState p x y z) s out n e v =
+reads-back (registerState p x y z) s out n e v choice =
     let d = registration.writtenVerdict p (length x) (length y) (length z) in
     let b = registration.bytesOf p x y z in
     let front : take n (registrationWrite p x y z out .output) ≡ b = written-front d b out n e in
-    rw front (register-state-back p x y z s (written-fits d b out n e) (rw front at (registrationTrip.round-trip p x y z out n s e)) (registration.versionOf p) v refl)
-reads-back (packetService p) s out n e v =
+    rw front (register-state-back choice p x y z s (written-fits d b out n e) (rw front at (registrationTrip.round-trip choice p x y z out n s e)) (registration.versionOf p) v refl)
+reads-back (packetService p) s out n e v choice =
     let d = packet.verdictOf p in
     let b = packet.bytesOf p in
     rw (written-front d b out n e) (packet-service-back p s (written-fits d b out n e) (packet.versionOf p) v refl)
-reads-back (signalState p es) s out n e v =
+reads-back (signalState p es) s out n e v choice =
     let d = signal.writtenVerdict p es in
     let b = signal.bytesOf p es in
-    rw (written-front d b out n e) (signal-state-back p es (s .0) (s .1) (written-fits d b out n e) (p .form) v refl)
-reads-back (deviceServices p) s out n e v = servicesTrip.round-trip p out n s e
-reads-back (versionInfo i) s out n e v = versionTrip.round-trip i out n e
+    rw (written-front d b out n e) (signal-state-back choice p es (s .0) (s .1) (written-fits d b out n e) (p .form) v refl)
+reads-back (deviceServices p) s out n e v choice = servicesTrip.round-trip choice p out n s e
+reads-back (versionInfo i) s out n e v choice = versionTrip.round-trip i out n e
 
 -- ---- and it is no longer than a message can carry
 
@@ -101,18 +106,18 @@ packet-few : (v : Version) → packet.lengthOf v ≤ 4096
 packet-few V1 = omega arith
 packet-few V2 = omega arith
 
-signal-few : (v : Version) (s : List ℕ) → SignalAcceptable v s → length s ≤ 4096
+signal-few : (v : Version) (s : List ℕ) → SignalAcceptable v byDefault s → length s ≤ 4096
 signal-few V1 s a = omega (arith, a .form)
 signal-few V2 s a = a .form .1 .0
 
 pub few : (r : Record) → OfWidth r → (out : List ℕ) (n : ℕ) → writeOf r out .answer ≡ Length n → length (take n (writeOf r out .output)) ≤ 4096
 unfolding OfWidth writeOf packetWrite
 few (registerState p x y z) s out n e =
-    let b = registrationTrip.round-trip p x y z out n s e in
-    registrationAccepted.accepted (registration.versionOf p) _ p (b .texts) (b .read) .0 .most
+    let b = registrationTrip.round-trip byDefault p x y z out n s e in
+    registrationAccepted.accepted (registration.versionOf p) byDefault _ p (b .texts) (b .read) .0 .most
 few (packetService p) s out n e =
     rw (written-front (packet.verdictOf p) (packet.bytesOf p) out n e) (omega (arith, packetLaws.length-bytes p, packet-few (packet.versionOf p)))
 few (signalState p es) s out n e =
-    signal-few (signal.versionOf p) _ (signalAccepted.accepted (signal.versionOf p) _ p _ (signalTrip.round-trip p es (s .0) (s .1) out n e) .0)
-few (deviceServices p) s out n e = servicesAccepted.accepted _ (headOf p) (servicesTrip.round-trip p out n s e .read) .0 .most
+    signal-few (signal.versionOf p) _ (signalAccepted.accepted (signal.versionOf p) byDefault _ p _ (signalTrip.round-trip byDefault p es (s .0) (s .1) out n e) .0)
+few (deviceServices p) s out n e = servicesAccepted.accepted byDefault _ (headOf p) (servicesTrip.round-trip byDefault p out n s e .read) .0 .most
 few (versionInfo i) s out n e = omega (arith, versionAccepted.accepted _ i (versionTrip.round-trip i out n e) .0 .long)

@@ -15,6 +15,7 @@ use Rattle.message.specs.declared.MessageHeader.{MessageHeader}
 use Rattle.version_info.specs.VersionInfo.{bytesOf}
 use Rattle.services_query.specs.declared.ListedAnswer.the-variants.{Listed, NotListed}
 use Rattle.services_writer.specs.ServicesWriter.{writeOf}
+use Rattle.pairs.specs.Pair.{byDefault}
 use Rattle.services_trip.proofs.RoundTrip.{round-trip}
 use Rattle.handshake.specs.Versions.{infoOf, larger, lower}
 use Rattle.modem.specs.Modem.{noDeviceSupport}
@@ -108,7 +109,7 @@ both-ends host modem advertised below p out n l given o S t₁ t₂ x y x32 y32 
     let small = list-few p out n l in
     ends-settle (wire to₁ back₁) (wire to₂ back₂) w₁ w₂ t₁ t₂ given s host modem advertised (listsVersion p) g f (record {
       below = below;
-      list = round-trip p out n (l .width) (l .accepted) .listed (idAt extensions 0) versionCid ∙ said (listsVersion p);
+      list = round-trip byDefault p out n (l .width) (l .accepted) .listed (idAt extensions 0) versionCid ∙ said (listsVersion p);
       other = o;
       first-numbered = x;
       second-numbered = y;

@@ -25,6 +25,7 @@ use Rattle.version_info.specs.VersionInfo as version
 use Rattle.version_info.specs.declared.VersionInfo.{VersionInfo}
 use Rattle.version_info.specs.declared.VersionInfoRead.the-variants as versionRead
 use Rattle.registration.specs.Registration as registration
+use Rattle.pairs.specs.declared.ZeroSize.{ZeroSize}
 use Rattle.registration.specs.Claims.{Returned, shownEarlier, refusedLater}
 use Rattle.registration.specs.Claims.{OfWidth as RegistrationOfWidth}
 use Rattle.registration.specs.declared.Registration.{Registration}
@@ -113,17 +114,17 @@ pub record Carries (r : Record) (m : MessageHeader) : Type 0 where
   pub transaction32 : m .transaction < 2 ^ 32
   pub word32 : m .word < 2 ^ 32
 
--- ---- what is read back, by the version written at and the version read at
+-- ---- what is read back, by the version written at, the version read at and the reader's choice
 
 -- the shared fields and the texts, or 9 at 12; and 6 or 1 the other way
-unfoldable pub RegisterStateBack : Version → Version → Registration → List ℕ → List ℕ → List ℕ → List ℕ → Type 0
-RegisterStateBack V1 V1 p x y z s = Returned p x y z s
-RegisterStateBack V2 V2 p x y z s = Returned p x y z s
-RegisterStateBack V2 V1 p x y z s =
+unfoldable pub RegisterStateBack : Version → Version → ZeroSize → Registration → List ℕ → List ℕ → List ℕ → List ℕ → Type 0
+RegisterStateBack V1 V1 choice p x y z s = Returned choice p x y z s
+RegisterStateBack V2 V2 choice p x y z s = Returned choice p x y z s
+RegisterStateBack V2 V1 choice p x y z s =
     (t : RegistrationTexts)
-    × ((registration.readOf V1 s ≡ shownEarlier p t)
+    × ((registration.readWith V1 choice s ≡ shownEarlier p t)
     × ((shownIn s (t .«provider_id») ≡ x) × ((shownIn s (t .«provider_name») ≡ y) × (shownIn s (t .«roaming_text») ≡ z))))
-RegisterStateBack V1 V2 p x y z s = registration.readOf V2 s ≡ registrationRead.Refused (refusedLater (length x) (length y) (length z))
+RegisterStateBack V1 V2 choice p x y z s = registration.readWith V2 choice s ≡ registrationRead.Refused (refusedLater (length x) (length y) (length z))
 
 -- the record, or 2 at 32, or 1 at 28
 unfoldable pub PacketServiceBack : Version → Version → PacketService → List ℕ → Type 0
@@ -133,19 +134,19 @@ PacketServiceBack V2 V1 p s = packet.readOf V1 s ≡ packetRead.Refused (refusal
 PacketServiceBack V1 V2 p s = packet.readOf V2 s ≡ packetRead.Refused (refusal tooShort 28)
 
 -- the record and its entries, or 2 at the length, or 1 at 20
-unfoldable pub SignalStateBack : Version → Version → SignalState → List RsrpSnr → List ℕ → Type 0
-SignalStateBack V1 V1 p es s = signal.readOf V1 s ≡ record { answer = signalRead.Info p; entries = keptIn (p .form) es }
-SignalStateBack V2 V2 p es s = signal.readOf V2 s ≡ record { answer = signalRead.Info p; entries = keptIn (p .form) es }
-SignalStateBack V2 V1 p es s = signal.readOf V1 s ≡ signal.refused (refusal wrongLength (length s))
-SignalStateBack V1 V2 p es s = signal.readOf V2 s ≡ signal.refused (refusal tooShort 20)
+unfoldable pub SignalStateBack : Version → Version → ZeroSize → SignalState → List RsrpSnr → List ℕ → Type 0
+SignalStateBack V1 V1 choice p es s = signal.readWith V1 choice s ≡ record { answer = signalRead.Info p; entries = keptIn (p .form) es }
+SignalStateBack V2 V2 choice p es s = signal.readWith V2 choice s ≡ record { answer = signalRead.Info p; entries = keptIn (p .form) es }
+SignalStateBack V2 V1 choice p es s = signal.readWith V1 choice s ≡ signal.refused (refusal wrongLength (length s))
+SignalStateBack V1 V2 choice p es s = signal.readWith V2 choice s ≡ signal.refused (refusal tooShort 20)
 
--- VERSION and DEVICE_SERVICES have one form at both versions
-unfoldable pub ReadsBack : Record → Version → List ℕ → Type 0
-ReadsBack (registerState p x y z) v s = RegisterStateBack (registration.versionOf p) v p x y z s
-ReadsBack (packetService p) v s = PacketServiceBack (packet.versionOf p) v p s
-ReadsBack (signalState p es) v s = SignalStateBack (signal.versionOf p) v p es s
-ReadsBack (deviceServices p) v s = ServicesReturned p s
-ReadsBack (versionInfo i) v s = version.readOf s ≡ versionRead.Info i
+-- VERSION and DEVICE_SERVICES have one form at both versions; a payload without pairs is read without a choice
+unfoldable pub ReadsBack : Record → Version → ZeroSize → List ℕ → Type 0
+ReadsBack (registerState p x y z) v choice s = RegisterStateBack (registration.versionOf p) v choice p x y z s
+ReadsBack (packetService p) v choice s = PacketServiceBack (packet.versionOf p) v p s
+ReadsBack (signalState p es) v choice s = SignalStateBack (signal.versionOf p) v choice p es s
+ReadsBack (deviceServices p) v choice s = ServicesReturned choice p s
+ReadsBack (versionInfo i) v choice s = version.readOf s ≡ versionRead.Info i
 
 -- ---- the claim
 
@@ -162,8 +163,8 @@ pub record Transferred (r : Record) (m : MessageHeader) (size : ℕ) (s stream :
       ≡ thenRun (runOf empty earlier) (received m s (isPending (runOf empty earlier .end .progress)) (room (count - 1)) (count - 1))
   -- the message shows the record's payload
   pub shown : shownOf (headerSeen m) ≡ Payload (kindOf r)
-  -- and at either version it reads back
-  pub back : (v : Version) → ReadsBack r v s
+  -- and at either version, by either choice of the reader (02, order 10), it reads back
+  pub back : (v : Version) (choice : ZeroSize) → ReadsBack r v choice s
 
 -- any record that the writer accepts, any message that carries it, any permitted transfer size, a stream with room for the fragments, any earlier pieces
 abbrev pub EveryRecord : Type 0

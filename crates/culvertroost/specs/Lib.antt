@@ -1,4 +1,5 @@
 pub mod Packets
 pub mod Registrations
 pub mod Signals
+pub mod Services
 pub mod Modems

@@ -1,5 +1,8 @@
-// REGISTER_STATE, for C. The number of the version is judged before anything else.
+// REGISTER_STATE, for C. The number of the version is judged before anything else, then that of the
+// reader's choice.
 use c_structs::WrittenAnswer;
+use c_structs::choices::Reading;
+use c_structs::choices::reading_at;
 use c_structs::registrations::RegistrationAnswer;
 use c_structs::registrations::RegistrationInfo;
 use c_structs::registrations::answer_of;
@@ -7,14 +10,19 @@ use c_structs::registrations::record_of;
 use c_structs::written_answer;
 use handshake::Numbered;
 use handshake::version_at;
+use protocol::Verdict;
 use protocol::Written;
 use registration::RegistrationRead;
+use registration::judge_choice;
 use registration::read;
 use registration_writer::write;
 ghost use mathlib.Core.Path.{_≡_};
+ghost use Rattle.protocol.specs.declared.Verdict.the-variants.{Fault};
 ghost use Rattle.c_structs.specs.Answers.{writtenAnswer};
+ghost use Rattle.c_structs.specs.Choices.{byReading};
 ghost use Rattle.c_structs.specs.Registrations.{answerOf};
-ghost use Rattle.culvertroost.specs.Registrations.{readAt, writeAt};
+ghost use Rattle.registration.specs.Registration.{choiceVerdict};
+ghost use Rattle.culvertroost.specs.Registrations.{readAt, readChosen, writeAt};
 
 #[no_mangle]
 pub extern "C" fn cvr_registration_read(version: u16, payload: &[u8]) -> RegistrationAnswer
@@ -23,6 +31,30 @@ pub extern "C" fn cvr_registration_read(version: u16, payload: &[u8]) -> Registr
     match version_at(version) {
         Numbered::At(v) => answer_of(read(v, payload)),
         Numbered::Refused(refusal) => answer_of(RegistrationRead::Refused(refusal)),
+    }
+}
+
+// Where the choice finds no fault, the answer is the plain one.
+#[no_mangle]
+pub extern "C" fn cvr_registration_read_with(
+    version: u16,
+    zero_size: u32,
+    payload: &[u8],
+) -> RegistrationAnswer
+    ensures { λ r. ⌜ r ≡ answerOf (readChosen version «zero_size» (now (payload .entry))) ⌝ }
+{
+    match judge_chosen(version, zero_size, payload) {
+        Verdict::Fits => cvr_registration_read(version, payload),
+        Verdict::Fault(refusal) => answer_of(RegistrationRead::Refused(refusal)),
+    }
+}
+
+fn judge_chosen(version: u16, zero_size: u32, payload: &[u8]) -> Verdict
+    ensures { λ r. ⌜ r ≡ byReading version «zero_size» Fault (λ v z. choiceVerdict v z (now (payload .entry))) ⌝ }
+{
+    match reading_at(version, zero_size) {
+        Reading::At(v, choice) => judge_choice(v, choice, payload),
+        Reading::Refused(refusal) => Verdict::Fault(refusal),
     }
 }
 

@@ -1,4 +1,4 @@
--- The DEVICE_SERVICES payload (document 01, "Device services"; MBIM 1.0, MBIM_DEVICE_SERVICES_INFO and MBIM_DEVICE_SERVICE_ELEMENT).
+-- The DEVICE_SERVICES payload (document 01, "Device services"; document 02, order 10; MBIM 1.0, MBIM_DEVICE_SERVICES_INFO and MBIM_DEVICE_SERVICE_ELEMENT).
 -- In this order: the fields and their places; the rules, in the order in which they are judged; what a reader answers.
 use Prim.Native.Nat.{ℕ, _+_, _*_}
 use mathlib.Core.Bool.{false, cond}
@@ -12,11 +12,12 @@ use Rattle.protocol.specs.Verdict.{Rule, rule, judge, firstOf, openLength}
 use Rattle.protocol.specs.declared.Verdict.{Verdict}
 use Rattle.protocol.specs.declared.Verdict.the-variants.{Fits, Fault}
 use Rattle.folds.specs.Folds.{firstFault, listOf}
-use Rattle.pairs.specs.Pair.{rangeAt, verdictOf as pairVerdict}
+use Rattle.pairs.specs.Pair.{byDefault, rangeAt, verdictOf as pairVerdict}
 use Rattle.lists.specs.Lists.{listRules}
 use Rattle.pairs.specs.declared.Range.{Range}
 use Rattle.lists.specs.declared.ListForm.{ListForm}
 use Rattle.pairs.specs.declared.PairKind.the-variants.{List as ListKind}
+use Rattle.pairs.specs.declared.ZeroSize.{ZeroSize}
 use Rattle.device_services.specs.declared.DeviceServices.{DeviceServices}
 use Rattle.device_services.specs.declared.DeviceService.{DeviceService}
 use Rattle.device_services.specs.declared.ElementJudged.{ElementJudged}
@@ -80,24 +81,31 @@ elementForm = record { limit = 540; least = 28; «count_place» = 24; fewest = 0
 unfoldable pub contentRules : List ℕ → ℕ → Range → List Rule
 contentRules s place p = listRules elementForm place p (cidCountAt s (p .start))
 
--- pair i of a list with a fixed part, "judged 8 (limit, odd), 6, 7 and then its list"; the limit is 540
-unfoldable pub elementVerdict : List ℕ → ℕ → ℕ → Verdict
-elementVerdict s fixed i =
-    firstOf (pairVerdict ListKind fixed 540 (pairPlace i) (length s) (pairOf s i)) (judge (contentRules s (pairPlace i) (pairOf s i)))
+-- pair i of a list with a fixed part, "judged 8 (limit, odd), 6, 7 and then its list", by the reader's choice; the limit is 540.
+-- 02, order 10: "a services pair of size 0 is 8 by default"
+unfoldable pub elementVerdict : ZeroSize → List ℕ → ℕ → ℕ → Verdict
+elementVerdict z s fixed i =
+    firstOf (pairVerdict z ListKind fixed 540 (pairPlace i) (length s) (pairOf s i)) (judge (contentRules s (pairPlace i) (pairOf s i)))
 
 abbrev pub judgedAs : Verdict → ElementJudged → ElementJudged
 judgedAs Fits x = x
 judgedAs (Fault r) x = element.Refused r
 
 -- element i by itself: the length and the count, then whether the list has it, then its pair and the element
-unfoldable pub elementJudged : List ℕ → ℕ → ElementJudged
-elementJudged s i =
+unfoldable pub elementJudgedWith : ZeroSize → List ℕ → ℕ → ElementJudged
+elementJudgedWith z s i =
     judgedAs (lengthVerdict (length s) (countOf s))
-    (cond (ltb i (countOf s)) (judgedAs (elementVerdict s (fixedPart (countOf s)) i) element.Fits) element.NotListed)
+    (cond (ltb i (countOf s)) (judgedAs (elementVerdict z s (fixedPart (countOf s)) i) element.Fits) element.NotListed)
+
+abbrev pub elementJudged : List ℕ → ℕ → ElementJudged
+elementJudged s i = elementJudgedWith byDefault s i
 
 -- the length, then pair by pair, each with its element
-unfoldable pub verdictOf : List ℕ → Verdict
-verdictOf s = firstOf (lengthVerdict (length s) (countOf s)) (firstFault (elementVerdict s (fixedPart (countOf s))) (countOf s))
+unfoldable pub verdictWith : ZeroSize → List ℕ → Verdict
+verdictWith z s = firstOf (lengthVerdict (length s) (countOf s)) (firstFault (elementVerdict z s (fixedPart (countOf s))) (countOf s))
+
+abbrev pub verdictOf : List ℕ → Verdict
+verdictOf s = verdictWith byDefault s
 
 -- ---- what a reader answers
 
@@ -105,5 +113,8 @@ abbrev pub shown : Verdict → DeviceServices → DeviceServicesRead
 shown Fits p = Info p
 shown (Fault r) p = Refused r
 
-unfoldable pub readOf : List ℕ → DeviceServicesRead
-readOf s = shown (verdictOf s) (headAt s)
+unfoldable pub readWith : ZeroSize → List ℕ → DeviceServicesRead
+readWith z s = shown (verdictWith z s) (headAt s)
+
+abbrev pub readOf : List ℕ → DeviceServicesRead
+readOf s = readWith byDefault s

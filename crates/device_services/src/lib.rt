@@ -2,6 +2,7 @@
 // Questions to the list and the writer stand in crates of their own.
 use lists::ListForm;
 use lists::judge_lists;
+use pairs::ZeroSize;
 use protocol::Refusal;
 use protocol::TOO_SHORT;
 use protocol::Verdict;
@@ -13,7 +14,7 @@ use wire::u32_at;
 ghost use mathlib.Core.Path.{_≡_};
 ghost use Prim.Native.Nat.{_≤_};
 ghost use lib.ListN.{length};
-ghost use Rattle.device_services.specs.DeviceServices.{countOf, headAt, pairPlace, offsetOf, cidCountAt, elementAt, cidAt, lengthVerdict, elementJudged, verdictOf, readOf};
+ghost use Rattle.device_services.specs.DeviceServices.{countOf, headAt, pairPlace, offsetOf, cidCountAt, elementAt, cidAt, lengthVerdict, elementJudgedWith, elementJudged, verdictWith, verdictOf, readWith, readOf};
 
 // What stands before the pairs.
 #[repr(C)]
@@ -84,8 +85,15 @@ const ELEMENT: ListForm = ListForm {
 pub fn read(payload: &[u8]) -> DeviceServicesRead
     ensures { λ r. ⌜ r ≡ readOf (now (payload .entry)) ⌝ }
 {
+    read_with(ZeroSize::Absent, payload)
+}
+
+// `.._with`: by the caller's choice.
+pub fn read_with(zero_size: ZeroSize, payload: &[u8]) -> DeviceServicesRead
+    ensures { λ r. ⌜ r ≡ readWith «zero_size» (now (payload .entry)) ⌝ }
+{
     let info = head_at(payload);
-    match judge_list(payload) {
+    match judge_list_with(zero_size, payload) {
         Verdict::Fits => DeviceServicesRead::Info(info),
         Verdict::Fault(refusal) => DeviceServicesRead::Refused(refusal),
     }
@@ -95,10 +103,17 @@ pub fn read(payload: &[u8]) -> DeviceServicesRead
 pub fn judge_list(payload: &[u8]) -> Verdict
     ensures { λ r. ⌜ r ≡ verdictOf (now (payload .entry)) ⌝ }
 {
+    judge_list_with(ZeroSize::Absent, payload)
+}
+
+pub fn judge_list_with(zero_size: ZeroSize, payload: &[u8]) -> Verdict
+    ensures { λ r. ⌜ r ≡ verdictWith «zero_size» (now (payload .entry)) ⌝ }
+{
     match judge_length(payload) {
         Verdict::Fits => {
             let count = judged_count(payload);
-            judge_lists(payload, listed_place(count), PAIRS, count, ELEMENT)
+            let fixed = listed_place(count);
+            judge_lists(zero_size, payload, fixed, PAIRS, count, ELEMENT)
         }
         Verdict::Fault(refusal) => Verdict::Fault(refusal),
     }
@@ -129,6 +144,12 @@ pub fn judge_length(payload: &[u8]) -> Verdict
 pub fn judge_element(payload: &[u8], number: u32) -> ElementJudged
     ensures { λ r. ⌜ r ≡ elementJudged (now (payload .entry)) number ⌝ }
 {
+    judge_element_with(ZeroSize::Absent, payload, number)
+}
+
+pub fn judge_element_with(zero_size: ZeroSize, payload: &[u8], number: u32) -> ElementJudged
+    ensures { λ r. ⌜ r ≡ elementJudgedWith «zero_size» (now (payload .entry)) number ⌝ }
+{
     if let Verdict::Fault(refusal) = judge_length(payload) {
         return ElementJudged::Refused(refusal);
     }
@@ -137,7 +158,8 @@ pub fn judge_element(payload: &[u8], number: u32) -> ElementJudged
         return ElementJudged::NotListed;
     }
     let fixed = listed_place(count);
-    match lists::judge_list(payload, fixed, listed_place(number), ELEMENT) {
+    let place = listed_place(number);
+    match lists::judge_list(zero_size, payload, fixed, place, ELEMENT) {
         Verdict::Fits => ElementJudged::Fits,
         Verdict::Fault(refusal) => ElementJudged::Refused(refusal),
     }

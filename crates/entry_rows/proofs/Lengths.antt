@@ -13,12 +13,13 @@ use Rattle.protocol.specs.declared.service.ServiceId.{ServiceId}
 use Rattle.protocol.proofs.Services.{length-id}
 use Rattle.rows.specs.Rows.{header}
 use Rattle.rows.proofs.Lengths.{field-le, row-le, indexed-le, refused-le, joined-le}
-use Rattle.signal_state.specs.SignalState.{entryIn, readOf as signalRead}
+use Rattle.pairs.specs.declared.ZeroSize.{ZeroSize}
+use Rattle.signal_state.specs.SignalState.{entryIn, readWith as signalRead}
 use Rattle.signal_state.specs.declared.RsrpSnr.{RsrpSnr}
 use Rattle.signal_state.specs.declared.SignalState.{SignalState}
 use Rattle.signal_state.specs.declared.SignalStateRead.{SignalStateRead}
 use Rattle.signal_state.specs.declared.SignalStateRead.the-variants.{Info as SignalInfo, Refused as SignalRefused}
-use Rattle.device_services.specs.DeviceServices.{offsetOf, cidCountAt, elementAt, cidAt, readOf as servicesRead}
+use Rattle.device_services.specs.DeviceServices.{offsetOf, cidCountAt, elementAt, cidAt, readWith as servicesRead}
 use Rattle.device_services.specs.declared.DeviceServicesRead.{DeviceServicesRead}
 use Rattle.device_services.specs.declared.DeviceServicesRead.the-variants.{Info as ServicesInfo, Refused as ServicesRefused}
 use Rattle.entry_rows.specs.Signals.{countOf, numberRows, entryRows, entriesRows, answerText, signalText}
@@ -42,13 +43,13 @@ entries-le : (es : List RsrpSnr) (n : ℕ) → length (entriesRows es n) ≤ 470
 unfolding entriesRows
 entries-le es n = joined-le (λ i. entryRows i (entryIn es i)) 470 n (λ i l. entry-le i (entryIn es i))
 
-pub signal-le : (v : Version) (s : List ℕ) → length (signalText (signalRead v s)) ≤ 10000
+pub signal-le : (v : Version) (z : ZeroSize) (s : List ℕ) → length (signalText (signalRead v z s)) ≤ 10000
 unfolding answerText header
-signal-le v s = go (signalRead v s .answer) refl
+signal-le v z s = go (signalRead v z s .answer) refl
   where
-    go : (r : SignalStateRead) → signalRead v s .answer ≡ r → length (answerText r (signalRead v s .entries)) ≤ 10000
+    go : (r : SignalStateRead) → signalRead v z s .answer ≡ r → length (answerText r (signalRead v z s .entries)) ≤ 10000
     go (SignalRefused r) e = omega (arith, refused-le r)
-    go (SignalInfo p) e = simp length-append (omega (arith, numbers-le p, entries-le (signalRead v s .entries) (countOf (p .form)), few-entries v s e))
+    go (SignalInfo p) e = simp length-append (omega (arith, numbers-le p, entries-le (signalRead v z s .entries) (countOf (p .form)), few-entries v z s e))
 
 -- ---- device services
 
@@ -69,14 +70,14 @@ unfolding elementRows elementAt
 element-le s at i h =
     simp length-append (omega (arith, id-le i (elementAt s at .«device_service_id»), indexed-le (ascii "DssPayload") i (elementAt s at .«dss_payload») (omega arith), indexed-le (ascii "MaxDssInstances") i (elementAt s at .«max_dss_instances») (omega arith), indexed-le (ascii "CidCount") i (elementAt s at .«cid_count») (omega arith), cids-le s at i (elementAt s at .«cid_count»)))
 
-pub services-le : (s : List ℕ) → length (servicesText s (servicesRead s)) ≤ 524288
+pub services-le : (z : ZeroSize) (s : List ℕ) → length (servicesText s (servicesRead z s)) ≤ 524288
 unfolding servicesText header elementsRows
-services-le s = go (servicesRead s) refl
+services-le z s = go (servicesRead z s) refl
   where
-    go : (r : DeviceServicesRead) → servicesRead s ≡ r → length (servicesText s r) ≤ 524288
+    go : (r : DeviceServicesRead) → servicesRead z s ≡ r → length (servicesText s r) ≤ 524288
     go (ServicesRefused r) e = omega (arith, refused-le r)
     go (ServicesInfo p) e =
-        let k = few-cids s e in
+        let k = few-cids z s e in
         let n = p .«device_services_count» in
         simp length-append
         (omega (arith, k .0, row-le (ascii "DeviceServicesCount") n (omega arith), row-le (ascii "MaxDssSessions") (p .«max_dss_sessions») (omega arith), joined-le (λ i. elementRows s (offsetOf s i) i) 13500 n (λ i l. element-le s (offsetOf s i) i (k .1 i l))))

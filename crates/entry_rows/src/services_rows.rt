@@ -1,8 +1,9 @@
-// The rows of a DEVICE_SERVICES payload.
+// The rows of a DEVICE_SERVICES payload, read strictly.
 use device_services::DeviceServicesRead;
 use device_services::judged_cid;
 use device_services::judged_element;
 use device_services::judged_offset;
+use pairs::ZeroSize;
 use protocol::service::ServiceId;
 use protocol::service::put_id;
 use rows::put_digits;
@@ -15,14 +16,15 @@ use rows::put_text;
 ghost use mathlib.Core.Path.{_≡_};
 ghost use Prim.Native.Nat.{_+_, _<_};
 ghost use Rattle.protocol.specs.Service.{idBytes};
-ghost use Rattle.device_services.specs.DeviceServices.{readOf};
+ghost use Rattle.pairs.specs.declared.ZeroSize.the-variants.{Strict};
+ghost use Rattle.device_services.specs.DeviceServices.{readWith};
 ghost use Rattle.rows.specs.Rows.{Put};
 ghost use Rattle.entry_rows.specs.Services.{idRow, cidRow, cidRows, elementRows, elementsRows, servicesText};
 
 pub fn put(payload: &[u8], out: &mut [u8], at: usize) -> usize
-    ensures { λ r. ⌜ Put (now (out .entry)) at (servicesText (now (payload .entry)) (readOf (now (payload .entry)))) (now (out .exit)) r ⌝ }
+    ensures { λ r. ⌜ Put (now (out .entry)) at (servicesText (now (payload .entry)) (readWith Strict (now (payload .entry)))) (now (out .exit)) r ⌝ }
 {
-    match device_services::read(payload) {
+    match device_services::read_with(ZeroSize::Strict, payload) {
         DeviceServicesRead::Refused(refusal) => put_refused(out, at, refusal),
         DeviceServicesRead::Info(head) => {
             let count = put_text(out, at, b"field\tvalue\n");

@@ -1,4 +1,5 @@
-// The rows of a SIGNAL_STATE payload.
+// The rows of a SIGNAL_STATE payload, read strictly.
+use pairs::ZeroSize;
 use protocol::Version;
 use rows::put_indexed_row;
 use rows::put_refused;
@@ -10,14 +11,15 @@ use signal_state::SignalState;
 use signal_state::SignalStateRead;
 ghost use mathlib.Core.Path.{_≡_};
 ghost use Prim.Native.Nat.{_+_, _≤_};
-ghost use Rattle.signal_state.specs.SignalState.{readOf};
+ghost use Rattle.pairs.specs.declared.ZeroSize.the-variants.{Strict};
+ghost use Rattle.signal_state.specs.SignalState.{readWith};
 ghost use Rattle.rows.specs.Rows.{Put};
 ghost use Rattle.entry_rows.specs.Signals.{countOf, numberRows, entryRows, entriesRows, signalText};
 
 pub fn put(version: Version, payload: &[u8], out: &mut [u8], at: usize) -> usize
-    ensures { λ r. ⌜ Put (now (out .entry)) at (signalText (readOf version (now (payload .entry)))) (now (out .exit)) r ⌝ }
+    ensures { λ r. ⌜ Put (now (out .entry)) at (signalText (readWith version Strict (now (payload .entry)))) (now (out .exit)) r ⌝ }
 {
-    let shown = signal_state::read(version, payload);
+    let shown = signal_state::read_with(version, ZeroSize::Strict, payload);
     let answer = shown.answer;
     let entries = shown.entries;
     match answer {

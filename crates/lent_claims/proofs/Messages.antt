@@ -10,9 +10,9 @@ use Rattle.protocol.specs.MessageType.{COMMAND}
 use Rattle.protocol.specs.Verdict.{faultIf, firstOf, judgeFrom, openLength}
 use Rattle.protocol.specs.Service.{idAt, basicConnect, extensions, sameId, among, kindOf}
 use Rattle.folds.specs.Folds.{firstFault, anyOf}
-use Rattle.pairs.specs.Pair.{rangeAt, rules, verdictOf as pairVerdict}
-use Rattle.device_services.specs.DeviceServices.{elementAt, lengthVerdict, contentRules, elementVerdict, verdictOf}
-use Rattle.services_query.specs.ServicesQuery.{isOf, hasCid, holds, listedOf}
+use Rattle.pairs.specs.Pair.{ifStrict, rangeAt, rules, verdictOf as pairVerdict}
+use Rattle.device_services.specs.DeviceServices.{elementAt, lengthVerdict, contentRules, elementVerdict, verdictWith}
+use Rattle.services_query.specs.ServicesQuery.{isOf, hasCid, holds, listedWith}
 use Rattle.message.specs.declared.MessageHeader.{MessageHeader}
 use Rattle.handshake.specs.Commands.{servicesCid, versionCid, roleOfKind, roleOf, versionListed}
 use Rattle.handshake_claims.specs.Run.{headed, listedAs}
@@ -38,7 +38,7 @@ listing true = withVersion
 listing false = without
 
 pub listing-says : (b : Bool) → versionListed (listing b) ≡ listedAs b
-unfolding listing withVersion without listedOf verdictOf lengthVerdict openLength firstFault anyOf elementVerdict pairVerdict rules contentRules rangeAt elementAt isOf hasCid holds idAt sameId extensions u32At faultIf firstOf judgeFrom
+unfolding listing withVersion without listedWith verdictWith lengthVerdict openLength firstFault anyOf elementVerdict pairVerdict rules ifStrict contentRules rangeAt elementAt isOf hasCid holds idAt sameId extensions u32At faultIf firstOf judgeFrom
 listing-says true = refl
 listing-says false = refl
 

@@ -8,6 +8,7 @@ use lib.ListN.{length, take, drop}
 use Rattle.ascii.specs.Ascii.{ascii, unhexed}
 use Rattle.protocol.specs.declared.Version.{Version}
 use Rattle.rows.proofs.Lengths.{row-le}
+use Rattle.pairs.specs.declared.ZeroSize.the-variants.{Strict}
 use Rattle.payload_rows.proofs.Lengths.{packet-le, version-le, registration-le}
 use Rattle.entry_rows.proofs.Lengths.{signal-le, services-le}
 use Rattle.request_line.specs.Request.{requestOf}
@@ -21,9 +22,9 @@ pub payload-le : (kind : ListingKind) (v : Version) (s : List ℕ) → length (p
 unfolding payloadText
 payload-le PacketService v s = omega (arith, packet-le v s)
 payload-le VersionKind v s = omega (arith, version-le s)
-payload-le Registration v s = omega (arith, registration-le v s)
-payload-le SignalState v s = omega (arith, signal-le v s)
-payload-le DeviceServices v s = services-le s
+payload-le Registration v s = omega (arith, registration-le v Strict s)
+payload-le SignalState v s = omega (arith, signal-le v Strict s)
+payload-le DeviceServices v s = services-le Strict s
 
 request-le : (s : List ℕ) (r : Request) → length (requestText s r) ≤ 524288
 unfolding requestText spelledText badLine

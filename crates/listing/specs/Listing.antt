@@ -7,9 +7,10 @@ use Rattle.ascii.specs.Ascii.{ascii, unhexed}
 use Rattle.protocol.specs.declared.Version.{Version}
 use Rattle.packet_service.specs.PacketService.{readOf as packetRead}
 use Rattle.version_info.specs.VersionInfo.{readOf as versionRead}
-use Rattle.registration.specs.Registration.{readOf as registrationRead}
-use Rattle.signal_state.specs.SignalState.{readOf as signalRead}
-use Rattle.device_services.specs.DeviceServices.{readOf as servicesRead}
+use Rattle.pairs.specs.declared.ZeroSize.the-variants.{Strict}
+use Rattle.registration.specs.Registration.{readWith as registrationRead}
+use Rattle.signal_state.specs.SignalState.{readWith as signalRead}
+use Rattle.device_services.specs.DeviceServices.{readWith as servicesRead}
 use Rattle.rows.specs.Rows.{row}
 use Rattle.payload_rows.specs.Packets.{packetText}
 use Rattle.payload_rows.specs.Versions.{versionText}
@@ -26,9 +27,9 @@ use mathlib.Core.Path.{_≡_}
 unfoldable pub payloadText : ListingKind → Version → List ℕ → List ℕ
 payloadText PacketKind version s = packetText (packetRead version s)
 payloadText VersionKind version s = versionText (versionRead s)
-payloadText RegistrationKind version s = registrationText s (registrationRead version s)
-payloadText SignalKind version s = signalText (signalRead version s)
-payloadText ServicesKind version s = servicesText s (servicesRead s)
+payloadText RegistrationKind version s = registrationText s (registrationRead version Strict s)
+payloadText SignalKind version s = signalText (signalRead version Strict s)
+payloadText ServicesKind version s = servicesText s (servicesRead Strict s)
 
 -- the payload that n digits of a line spell, from a place of it on
 unfoldable pub spelledText : List ℕ → ListingKind → Version → ℕ → ℕ → List ℕ

@@ -16,6 +16,7 @@ use Rattle.protocol.proofs.Tests.{or-none, none-or, cases-and, equal-kept, kept
 use Rattle.protocol.proofs.Verdicts.{left-fits, right-fits, fits-kept, kept-then}
 use Rattle.pairs.specs.declared.Range.{Range}
 use Rattle.pairs.specs.declared.PairKind.the-variants.{List as ListKind}
+use Rattle.pairs.specs.declared.ZeroSize.{ZeroSize}
 use Rattle.lists.specs.declared.ListForm.{ListForm}
 use Rattle.pairs.specs.Pair.{rangeAt, verdictOf}
 use Rattle.lists.specs.Lists.{absentIn, countIn, outside, listRules, listVerdict}
@@ -52,22 +53,22 @@ module _ (f : ListForm) (place : ℕ) (p : Range) (n : ℕ) where
       )
 
 -- the pair and its list
-module _ (f : ListForm) (fixed place : ℕ) (s : List ℕ) where
+module _ (z : ZeroSize) (f : ListForm) (fixed place : ℕ) (s : List ℕ) where
   abbrev pub behind : Range
   behind = rangeAt s place
 
-  pub behind-said : listVerdict f fixed place s ≡ Fits
-      → PairFits ListKind fixed (f .limit) (length s) behind × ((absentIn f behind ≡ true) ⊎ Whole f behind (countIn f s behind))
+  pub behind-said : listVerdict z f fixed place s ≡ Fits
+      → PairFits z ListKind fixed (f .limit) (length s) behind × ((absentIn f behind ≡ true) ⊎ Whole f behind (countIn f s behind))
   behind-said e = (
-    fits-said ListKind fixed (f .limit) place (length s) behind (left-fits _ _ e),
-    list-said f place behind (countIn f s behind) (fits-kept (listRules f place behind (countIn f s behind)) (right-fits (verdictOf ListKind fixed (f .limit) place (length s) behind) _ e)),
+    fits-said z ListKind fixed (f .limit) place (length s) behind (left-fits _ _ e),
+    list-said f place behind (countIn f s behind) (fits-kept (listRules f place behind (countIn f s behind)) (right-fits (verdictOf z ListKind fixed (f .limit) place (length s) behind) _ e)),
   )
 
-  pub said-behind : PairFits ListKind fixed (f .limit) (length s) behind → (absentIn f behind ≡ true) ⊎ Whole f behind (countIn f s behind)
-      → listVerdict f fixed place s ≡ Fits
+  pub said-behind : PairFits z ListKind fixed (f .limit) (length s) behind → (absentIn f behind ≡ true) ⊎ Whole f behind (countIn f s behind)
+      → listVerdict z f fixed place s ≡ Fits
   said-behind a b =
-      kept-then (verdictOf ListKind fixed (f .limit) place (length s) behind) (listRules f place behind (countIn f s behind))
-      (said-fits ListKind fixed (f .limit) place (length s) behind a) (said-list f place behind (countIn f s behind) b)
+      kept-then (verdictOf z ListKind fixed (f .limit) place (length s) behind) (listRules f place behind (countIn f s behind))
+      (said-fits z ListKind fixed (f .limit) place (length s) behind a) (said-list f place behind (countIn f s behind) b)
 
 pub list-exactly : ListExactly
-list-exactly f fixed place s = (behind-said f fixed place s, λ k. said-behind f fixed place s (k .0) (k .1))
+list-exactly z f fixed place s = (behind-said z f fixed place s, λ k. said-behind z f fixed place s (k .0) (k .1))

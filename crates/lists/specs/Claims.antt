@@ -8,6 +8,7 @@ use lib.ListN.{length}
 use Rattle.protocol.specs.declared.Verdict.the-variants.{Fits}
 use Rattle.pairs.specs.declared.Range.{Range}
 use Rattle.pairs.specs.declared.PairKind.the-variants.{List as ListKind}
+use Rattle.pairs.specs.declared.ZeroSize.{ZeroSize}
 use Rattle.pairs.specs.Pair.{rangeAt}
 use Rattle.pairs.specs.Claims.{PairFits}
 use Rattle.lists.specs.declared.ListForm.{ListForm}
@@ -22,6 +23,6 @@ pub record Whole (f : ListForm) (p : Range) (count : ℕ) : Type 0 where
 
 -- a list behind a pair is absent, where its form allows that, or whole
 abbrev pub ListExactly : Type 0
-ListExactly = (f : ListForm) (fixed place : ℕ) (s : List ℕ)
-    → (listVerdict f fixed place s ≡ Fits)
-    ↔ (PairFits ListKind fixed (f .limit) (length s) (rangeAt s place) × ((absentIn f (rangeAt s place) ≡ true) ⊎ Whole f (rangeAt s place) (countIn f s (rangeAt s place))))
+ListExactly = (z : ZeroSize) (f : ListForm) (fixed place : ℕ) (s : List ℕ)
+    → (listVerdict z f fixed place s ≡ Fits)
+    ↔ (PairFits z ListKind fixed (f .limit) (length s) (rangeAt s place) × ((absentIn f (rangeAt s place) ≡ true) ⊎ Whole f (rangeAt s place) (countIn f s (rangeAt s place))))

@@ -14,6 +14,7 @@ use Rattle.folds.specs.Folds.{firstFault}
 use Rattle.pairs.specs.Pair.{rangeAt, verdictOf}
 use Rattle.pairs.specs.declared.Range.{Range}
 use Rattle.pairs.specs.declared.PairKind.the-variants.{List as ListKind}
+use Rattle.pairs.specs.declared.ZeroSize.{ZeroSize}
 use Rattle.lists.specs.declared.ListForm.{ListForm}
 
 -- ---- its count
@@ -49,12 +50,12 @@ listRules f place p count =
     ∷ rule (ifThere f p (not (eqb (p .length) (f .least + f .each * count)))) wrongSize place
     ∷ []
 
--- the pair at `place` of the payload s, and then its list
-abbrev pub listVerdict : ListForm → ℕ → ℕ → List ℕ → Verdict
-listVerdict f fixed place s =
-    firstOf (verdictOf ListKind fixed (f .limit) place (length s) (rangeAt s place))
+-- the pair at `place` of the payload s, by the reader's choice, and then its list
+abbrev pub listVerdict : ZeroSize → ListForm → ℕ → ℕ → List ℕ → Verdict
+listVerdict z f fixed place s =
+    firstOf (verdictOf z ListKind fixed (f .limit) place (length s) (rangeAt s place))
     (judge (listRules f place (rangeAt s place) (countIn f s (rangeAt s place))))
 
 -- the first `count` of the pairs that stand one behind another from `place` on, each with its list
-abbrev pub listsVerdict : ListForm → ℕ → ℕ → List ℕ → ℕ → Verdict
-listsVerdict f fixed place s count = firstFault (λ i. listVerdict f fixed (place + 8 * i) s) count
+abbrev pub listsVerdict : ZeroSize → ListForm → ℕ → ℕ → List ℕ → ℕ → Verdict
+listsVerdict z f fixed place s count = firstFault (λ i. listVerdict z f fixed (place + 8 * i) s) count

@@ -3,6 +3,7 @@
 use pairs::PAIR_SIZE;
 use pairs::PairKind;
 use pairs::Range;
+use pairs::ZeroSize;
 use pairs::judge;
 use pairs::range_at;
 use protocol::Refusal;
@@ -34,13 +35,27 @@ pub struct ListForm {
 }
 
 // The verdict on the pair at `place` of a payload with a fixed part, and on its list.
-pub fn judge_list(payload: &[u8], fixed: u32, place: u32, form: ListForm) -> Verdict
-    ensures { λ r. ⌜ r ≡ listVerdict form fixed place (now (payload .entry)) ⌝ }
+pub fn judge_list(
+    zero_size: ZeroSize,
+    payload: &[u8],
+    fixed: u32,
+    place: u32,
+    form: ListForm,
+) -> Verdict
+    ensures { λ r. ⌜ r ≡ listVerdict «zero_size» form fixed place (now (payload .entry)) ⌝ }
 {
     let at = place as usize;
     let limit = form.limit;
     let pair = range_at(payload, at);
-    let verdict = judge(PairKind::List, fixed, limit, at, payload.len(), pair);
+    let verdict = judge(
+        zero_size,
+        PairKind::List,
+        fixed,
+        limit,
+        at,
+        payload.len(),
+        pair,
+    );
     if let Verdict::Fault(refusal) = verdict {
         return Verdict::Fault(refusal);
     }
@@ -52,13 +67,20 @@ pub fn judge_list(payload: &[u8], fixed: u32, place: u32, form: ListForm) -> Ver
 
 // The verdict on `count` pairs that stand one behind another from `place` on, and on their lists, up
 // to the first fault. None of them may be absent, whatever their form says.
-pub fn judge_lists(payload: &[u8], fixed: u32, place: u32, count: u32, form: ListForm) -> Verdict
-    ensures { λ r. ⌜ r ≡ listsVerdict (there form) fixed place (now (payload .entry)) count ⌝ }
+pub fn judge_lists(
+    zero_size: ZeroSize,
+    payload: &[u8],
+    fixed: u32,
+    place: u32,
+    count: u32,
+    form: ListForm,
+) -> Verdict
+    ensures { λ r. ⌜ r ≡ listsVerdict «zero_size» (there form) fixed place (now (payload .entry)) count ⌝ }
 {
     let mut i: u32 = 0;
     while i < count {
         let at = place as usize + PAIR_SIZE * i as usize;
-        let verdict = judge_there(payload, fixed, at, form);
+        let verdict = judge_there(zero_size, payload, fixed, at, form);
         if let Verdict::Fault(refusal) = verdict {
             return Verdict::Fault(refusal);
         }
@@ -79,12 +101,26 @@ pub fn judged_list_count(payload: &[u8], place: u32, form: ListForm) -> u32
 }
 
 // A pair whose list may not be absent.
-fn judge_there(payload: &[u8], fixed: u32, place: usize, form: ListForm) -> Verdict
-    ensures { λ r. ⌜ r ≡ listVerdict (there form) fixed place (now (payload .entry)) ⌝ }
+fn judge_there(
+    zero_size: ZeroSize,
+    payload: &[u8],
+    fixed: u32,
+    place: usize,
+    form: ListForm,
+) -> Verdict
+    ensures { λ r. ⌜ r ≡ listVerdict «zero_size» (there form) fixed place (now (payload .entry)) ⌝ }
 {
     let limit = form.limit;
     let pair = range_at(payload, place);
-    let verdict = judge(PairKind::List, fixed, limit, place, payload.len(), pair);
+    let verdict = judge(
+        zero_size,
+        PairKind::List,
+        fixed,
+        limit,
+        place,
+        payload.len(),
+        pair,
+    );
     if let Verdict::Fault(refusal) = verdict {
         return Verdict::Fault(refusal);
     }

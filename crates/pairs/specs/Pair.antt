@@ -1,6 +1,7 @@
--- One offset/size pair of a payload (document 01, numbers 6, 7 and 8 of the table; document 02, order 1, numbers 17 and 18).
+-- One offset/size pair of a payload (document 01, numbers 6, 7 and 8 of the table; document 02, order 1, numbers 17 and 18; order 10).
 -- 01: "each pair judged 8 (limit, odd), 6, 7"; 02, where 6 stood: "zero size first, then fixed part, then alignment".
--- The fixed part, the limit and the kind are parameters. In this order: a pair and its place; the rules; where a writer puts a pair.
+-- The reader's choice, the fixed part, the limit and the kind are parameters.
+-- In this order: the choice; a pair and its place; the rules; where a writer puts a pair; how a reader shows one.
 use Prim.Native.Nat.{ℕ, _+_, _*_, _/_, _%_}
 use mathlib.Core.Bool.{Bool, false, not, cond, _&&_, _||_}
 use mathlib.Core.List.{List, [], _∷_, _++_}
@@ -10,9 +11,28 @@ use Rattle.wire.specs.Numbers.{u32At, digits}
 use Rattle.protocol.specs.Refusal.{offsetInFixedPart, pastEnd, wrongSize, misalignedOffset, offsetWithZeroSize}
 use Rattle.protocol.specs.Verdict.{Rule, rule, judge}
 use Rattle.protocol.specs.declared.Verdict.{Verdict}
+use Rattle.protocol.specs.declared.Verdict.the-variants.{Fits, Fault}
 use Rattle.pairs.specs.declared.Range.{Range}
 use Rattle.pairs.specs.declared.PairKind.{PairKind}
 use Rattle.pairs.specs.declared.PairKind.the-variants.{Text, List as ListKind}
+use Rattle.pairs.specs.declared.ZeroSize.{ZeroSize}
+use Rattle.pairs.specs.declared.ZeroSize.the-variants.{Absent, Strict}
+
+-- ---- the choice (02, order 10): "the reader's default is to treat size 0 as absent whatever the offset. The old strictness stays as a
+-- named choice"
+
+abbrev pub byDefault : ZeroSize
+byDefault = Absent
+
+-- a rule that is there under the strict choice only
+unfoldable pub ifStrict : ZeroSize → Bool → Bool
+ifStrict Absent broken = false
+ifStrict Strict broken = broken
+
+-- the fault of what a choice decides, where nothing judged before it is at fault
+abbrev pub reached : Verdict → Verdict → Verdict
+reached Fits w = w
+reached (Fault r) w = Fits
 
 -- ---- a pair and its place: the offset, and behind it the size
 
@@ -56,17 +76,17 @@ misaligned p = ifSized (p .length) (not (eqb (p .start % 4) 0))
 abbrev pub beyondPayload : ℕ → Range → Bool
 beyondPayload n p = ifSized (p .length) (ltb n (p .start + p .length))
 
-unfoldable pub rules : PairKind → ℕ → ℕ → ℕ → ℕ → Range → List Rule
-rules kind fixed limit place n p =
+unfoldable pub rules : ZeroSize → PairKind → ℕ → ℕ → ℕ → ℕ → Range → List Rule
+rules z kind fixed limit place n p =
     rule (unfit kind limit (p .length)) wrongSize place
-    ∷ rule (offsetWithoutSize p) offsetWithZeroSize place
+    ∷ rule (ifStrict z (offsetWithoutSize p)) offsetWithZeroSize place
     ∷ rule (insideFixedPart fixed p) offsetInFixedPart place
     ∷ rule (misaligned p) misalignedOffset place
     ∷ rule (beyondPayload n p) pastEnd place
     ∷ []
 
-unfoldable pub verdictOf : PairKind → ℕ → ℕ → ℕ → ℕ → Range → Verdict
-verdictOf kind fixed limit place n p = judge (rules kind fixed limit place n p)
+unfoldable pub verdictOf : ZeroSize → PairKind → ℕ → ℕ → ℕ → ℕ → Range → Verdict
+verdictOf z kind fixed limit place n p = judge (rules z kind fixed limit place n p)
 
 -- ---- where a writer puts a pair: "each padded with zeros to a multiple of 4"; "size 0 has offset 0"
 
@@ -76,6 +96,16 @@ padded size = (size + 3) / 4 * 4
 -- `size` bytes that come next at `base`
 abbrev pub placed : ℕ → ℕ → Range
 placed base size = range (cond (eqb size 0) 0 base) size
+
+-- ---- how a reader shows the pair at a place: absent is (0, 0) under either choice, so an offset beside size 0 is left out
+
+abbrev pub asShown : Range → Range
+asShown p = placed (p .start) (p .length)
+
+unfoldable pub shownAt : List ℕ → ℕ → Range
+shownAt s place = asShown (rangeAt s place)
+
+-- ---- a pair's bytes
 
 unfoldable pub rangeBytes : Range → List ℕ
 rangeBytes p = digits 4 (p .start) ++ digits 4 (p .length)

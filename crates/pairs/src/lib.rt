@@ -12,7 +12,7 @@ use wire::put_u32;
 use wire::u32_at;
 ghost use mathlib.Core.Path.{_≡_};
 ghost use lib.Seq.{sets};
-ghost use Rattle.pairs.specs.Pair.{rangeAt, partOf, unfit, verdictOf, padded, placed, rangeBytes};
+ghost use Rattle.pairs.specs.Pair.{ifStrict, rangeAt, partOf, unfit, verdictOf, padded, placed, shownAt, rangeBytes};
 
 // 01's pair. An accepted one shows `length` bytes of the payload from `start`; absent is (0, 0).
 #[repr(C)]
@@ -29,6 +29,18 @@ pub enum PairKind {
     Text,
     List,
 }
+
+// The reader's choice: a pair of size 0 is absent whatever its offset, or refused where it has one.
+// What reads without a choice reads by the first.
+pub enum ZeroSize {
+    Absent,
+    Strict,
+}
+
+const ABSENT: Range = Range {
+    start: 0,
+    length: 0,
+};
 
 // The bytes of a payload that a range shows; none where it ends past the payload.
 pub fn part_of(payload: &[u8], range: Range) -> &[u8]
@@ -84,6 +96,7 @@ pub fn put_range(out: &mut [u8], place: usize, pair: Range)
 
 // The verdict on the pair that stands at `place` of a payload of `length` bytes.
 pub fn judge(
+    zero_size: ZeroSize,
     kind: PairKind,
     fixed: u32,
     limit: u32,
@@ -91,7 +104,7 @@ pub fn judge(
     length: usize,
     pair: Range,
 ) -> Verdict
-    ensures { λ r. ⌜ r ≡ verdictOf kind fixed limit place length pair ⌝ }
+    ensures { λ r. ⌜ r ≡ verdictOf «zero_size» kind fixed limit place length pair ⌝ }
 {
     let size = pair.length;
     let end = pair.start as usize + size as usize;
@@ -102,7 +115,8 @@ pub fn judge(
         });
     }
     if size == 0 {
-        return also(Verdict::Fits, pair.start != 0, OFFSET_WITH_ZERO_SIZE, place);
+        let stray = if_strict(zero_size, pair.start != 0);
+        return also(Verdict::Fits, stray, OFFSET_WITH_ZERO_SIZE, place);
     }
     let outside = also(
         Verdict::Fits,
@@ -112,6 +126,16 @@ pub fn judge(
     );
     let aligned = also(outside, pair.start % 4 != 0, MISALIGNED_OFFSET, place);
     also(aligned, length < end, PAST_END, place)
+}
+
+// A rule that is there under the strict choice only.
+fn if_strict(zero_size: ZeroSize, broken: bool) -> bool
+    ensures { λ r. ⌜ r ≡ ifStrict «zero_size» broken ⌝ }
+{
+    match zero_size {
+        ZeroSize::Absent => false,
+        ZeroSize::Strict => broken,
+    }
 }
 
 // The pair at a place of a payload: where all of it is there, one test serves.
@@ -128,15 +152,20 @@ pub fn range_at(payload: &[u8], place: usize) -> Range
         }
     }
     if payload.len() <= place {
-        return Range {
-            start: 0,
-            length: 0,
-        };
+        return ABSENT;
     }
     Range {
         start: u32_at(payload, place),
         length: u32_at(payload, place + 4),
     }
+}
+
+// The pair at a place as a reader shows it: without a size it has no offset either.
+pub fn shown_at(payload: &[u8], place: usize) -> Range
+    ensures { λ r. ⌜ r ≡ shownAt (now (payload .entry)) place ⌝ }
+{
+    let pair = range_at(payload, place);
+    place_at(pair.start, pair.length)
 }
 
 // A size with its padding, to a multiple of 4.

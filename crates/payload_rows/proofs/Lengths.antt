@@ -20,7 +20,8 @@ use Rattle.packet_service.specs.declared.PacketServiceRead.the-variants.{Info a
 use Rattle.version_info.specs.VersionInfo.{readOf as versionRead}
 use Rattle.version_info.specs.declared.VersionInfoRead.{VersionInfoRead}
 use Rattle.version_info.specs.declared.VersionInfoRead.the-variants.{Info as VersionGiven, Refused as VersionRefused}
-use Rattle.registration.specs.Registration.{readOf as registrationRead}
+use Rattle.pairs.specs.declared.ZeroSize.{ZeroSize}
+use Rattle.registration.specs.Registration.{readWith as registrationRead}
 use Rattle.registration.specs.declared.Registration.{Registration}
 use Rattle.registration.specs.declared.RegistrationForm.{RegistrationForm}
 use Rattle.registration.specs.declared.RegistrationForm.the-variants.{V1 as RegistrationForm1, V2 as RegistrationForm2}
@@ -83,10 +84,10 @@ flags-le : (p : Registration) → length (flagRows p) ≤ 144
 unfolding flagRows
 flags-le p = simp length-append (omega (arith, row-le (ascii "RegistrationFlag") (p .«registration_flag») (omega arith), preferred-le (p .form)))
 
-pub registration-le : (v : Version) (s : List ℕ) → length (registrationText s (registrationRead v s)) ≤ 4000
+pub registration-le : (v : Version) (z : ZeroSize) (s : List ℕ) → length (registrationText s (registrationRead v z s)) ≤ 4000
 unfolding registrationText header
-registration-le v s = go (registrationRead v s) refl
+registration-le v z s = go (registrationRead v z s) refl
   where
-    go : (r : RegistrationRead) → registrationRead v s ≡ r → length (registrationText s r) ≤ 4000
+    go : (r : RegistrationRead) → registrationRead v z s ≡ r → length (registrationText s r) ≤ 4000
     go (RegistrationRefused r) e = omega (arith, refused-le r)
-    go (RegistrationInfo p t) e = simp length-append (omega (arith, classes-le p, texts-le s t (listable-texts v s p t e), flags-le p))
+    go (RegistrationInfo p t) e = simp length-append (omega (arith, classes-le p, texts-le s t (listable-texts v z s p t e), flags-le p))

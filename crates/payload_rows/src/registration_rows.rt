@@ -1,5 +1,6 @@
-// The rows of a REGISTER_STATE payload.
+// The rows of a REGISTER_STATE payload, read strictly.
 use pairs::Range;
+use pairs::ZeroSize;
 use pairs::part_of;
 use protocol::Version;
 use registration::Registration;
@@ -11,14 +12,15 @@ use rows::put_row;
 use rows::put_text;
 use rows::put_text_row;
 ghost use Rattle.pairs.specs.Claims.{shownIn};
-ghost use Rattle.registration.specs.Registration.{readOf};
+ghost use Rattle.pairs.specs.declared.ZeroSize.the-variants.{Strict};
+ghost use Rattle.registration.specs.Registration.{readWith};
 ghost use Rattle.rows.specs.Rows.{Put, textRow};
 ghost use Rattle.payload_rows.specs.Registrations.{Listable, ListableTexts, classRows, textRows, flagRows, registrationText};
 
 pub fn put(version: Version, payload: &[u8], out: &mut [u8], at: usize) -> usize
-    ensures { λ r. ⌜ Put (now (out .entry)) at (registrationText (now (payload .entry)) (readOf version (now (payload .entry)))) (now (out .exit)) r ⌝ }
+    ensures { λ r. ⌜ Put (now (out .entry)) at (registrationText (now (payload .entry)) (readWith version Strict (now (payload .entry)))) (now (out .exit)) r ⌝ }
 {
-    match registration::read(version, payload) {
+    match registration::read_with(version, ZeroSize::Strict, payload) {
         RegistrationRead::Refused(refusal) => put_refused(out, at, refusal),
         RegistrationRead::Info(info, texts) => {
             let error = put_text(out, at, b"field\tvalue\n");

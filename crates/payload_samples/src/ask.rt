@@ -23,10 +23,10 @@ pub fn ask(
     let room = word_at(numbers, 1) as usize;
     let input = &all[..n];
     match question {
-        1 | 3 | 5 | 7 | 9 => read(question, numbers, input, list),
+        1 | 3 | 5 | 7 | 9 | 36 | 37 | 38 => read(question, numbers, input, list),
         2 | 4 | 6 | 8 | 13 => lend(question, numbers, input, room, &mut out[..]),
-        10 | 11 => lend_list(question, numbers, input, room, &mut list[..]),
-        12 => listed(numbers, input),
+        10 | 11 | 39 | 40 => lend_list(question, numbers, input, room, &mut list[..]),
+        12 | 41 => listed(question, numbers, input),
         33 | 34 | 35 => reading(question, word_at(numbers, 1)),
         _ => no_question(),
     }

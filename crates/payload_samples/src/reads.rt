@@ -1,8 +1,14 @@
-// Payloads read: questions 1, 3, 5, 7 and 9.
+// Payloads read: questions 1, 3, 5, 7 and 9, and 36 to 38 by the reader's choice.
+use c_structs::registrations::RegistrationAnswer;
+use c_structs::services::DeviceServicesAnswer;
+use c_structs::signals::SignalStateAnswer;
 use culvertroost::packets::cvr_packet_service_read;
 use culvertroost::registrations::cvr_registration_read;
+use culvertroost::registrations::cvr_registration_read_with;
 use culvertroost::services::cvr_device_services_read;
+use culvertroost::services::cvr_device_services_read_with;
 use culvertroost::signals::cvr_signal_state_read;
+use culvertroost::signals::cvr_signal_state_read_with;
 use culvertroost::versions::cvr_version_info_read;
 use sample_lines::answers::Asked;
 use sample_lines::answers::few;
@@ -10,15 +16,21 @@ use sample_lines::answers::half_at;
 use sample_lines::answers::no_question;
 use sample_lines::answers::plain;
 use sample_lines::answers::short;
+use sample_lines::answers::word_at;
 use signal_state::RsrpSnr;
 
 pub fn read(question: u8, arguments: &[u8], input: &[u8], list: &mut [u32; 1024]) -> Asked {
+    let version = half_at(arguments, 1);
+    let choice = word_at(arguments, 2);
     match question {
         1 => version_read(input),
-        3 => packet_read(half_at(arguments, 1), input),
-        5 => registration_read(half_at(arguments, 1), input),
-        7 => signal_read(half_at(arguments, 1), input, list),
-        9 => services_read(input),
+        3 => packet_read(version, input),
+        5 => registration(cvr_registration_read(version, input)),
+        7 => signal(cvr_signal_state_read(version, input), list),
+        9 => services(cvr_device_services_read(input)),
+        36 => registration(cvr_registration_read_with(version, choice, input)),
+        37 => signal(cvr_signal_state_read_with(version, choice, input), list),
+        38 => services(cvr_device_services_read_with(word_at(arguments, 1), input)),
         _ => no_question(),
     }
 }
@@ -56,8 +68,7 @@ fn packet_read(version: u16, input: &[u8]) -> Asked {
     ])
 }
 
-fn registration_read(version: u16, input: &[u8]) -> Asked {
-    let answer = cvr_registration_read(version, input);
+fn registration(answer: RegistrationAnswer) -> Asked {
     let refusal = answer.refusal;
     let info = answer.info;
     let texts = answer.texts;
@@ -84,8 +95,7 @@ fn registration_read(version: u16, input: &[u8]) -> Asked {
     ])
 }
 
-fn signal_read(version: u16, input: &[u8], list: &mut [u32; 1024]) -> Asked {
-    let answer = cvr_signal_state_read(version, input);
+fn signal(answer: SignalStateAnswer, list: &mut [u32; 1024]) -> Asked {
     let refusal = answer.refusal;
     let info = answer.info;
     let entries = info.entries;
@@ -129,8 +139,7 @@ fn put_entries(list: &mut [u32; 1024], entries: [RsrpSnr; 16]) {
     }
 }
 
-fn services_read(input: &[u8]) -> Asked {
-    let answer = cvr_device_services_read(input);
+fn services(answer: DeviceServicesAnswer) -> Asked {
     let refusal = answer.refusal;
     let info = answer.info;
     let count = info.device_services_count;

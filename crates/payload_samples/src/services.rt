@@ -1,9 +1,13 @@
-// The list of services: questions 10 to 13.
+// The list of services: questions 10 to 13, and 39 to 41 by the reader's choice.
 use c_structs::WrittenAnswer;
 use c_structs::services::ElementInfo;
+use c_structs::services::ListedInfo;
 use culvertroost::services::cvr_device_services_cids;
+use culvertroost::services::cvr_device_services_cids_with;
 use culvertroost::services::cvr_device_services_element;
+use culvertroost::services::cvr_device_services_element_with;
 use culvertroost::services::cvr_device_services_listed;
+use culvertroost::services::cvr_device_services_listed_with;
 use culvertroost::services::cvr_device_services_write;
 use device_services::DeviceService;
 use protocol::service::id_at;
@@ -50,20 +54,33 @@ pub fn element(question: u8, arguments: &[u8], input: &[u8], list: &mut [u32]) -
 
 // By its number, or by the service at the front of the input.
 fn chosen(question: u8, arguments: &[u8], input: &[u8], list: &mut [u32]) -> ElementInfo {
-    if question == 10 {
-        return cvr_device_services_element(input, word_at(arguments, 2), list);
-    }
+    let second = word_at(arguments, 2);
     let service = id_at(input, 0);
     let from = least(16, input.len());
-    cvr_device_services_cids(&input[from..], service, list)
+    let payload = &input[from..];
+    match question {
+        10 => cvr_device_services_element(input, second, list),
+        11 => cvr_device_services_cids(payload, service, list),
+        39 => cvr_device_services_element_with(word_at(arguments, 3), input, second, list),
+        _ => cvr_device_services_cids_with(second, payload, service, list),
+    }
 }
 
-pub fn listed(arguments: &[u8], input: &[u8]) -> Asked {
-    let service = id_at(input, 0);
-    let from = least(16, input.len());
-    let answer = cvr_device_services_listed(&input[from..], service, word_at(arguments, 1));
+pub fn listed(question: u8, arguments: &[u8], input: &[u8]) -> Asked {
+    let answer = is_listed(question, arguments, input);
     let refusal = answer.refusal;
     plain(few(refusal.number, refusal.place, answer.listed, 0, 0))
+}
+
+fn is_listed(question: u8, arguments: &[u8], input: &[u8]) -> ListedInfo {
+    let service = id_at(input, 0);
+    let from = least(16, input.len());
+    let payload = &input[from..];
+    let cid = word_at(arguments, 1);
+    if question == 12 {
+        return cvr_device_services_listed(payload, service, cid);
+    }
+    cvr_device_services_listed_with(word_at(arguments, 2), payload, service, cid)
 }
 
 pub fn services_write(arguments: &[u8], input: &[u8], out: &mut [u8]) -> WrittenAnswer {

@@ -1,5 +1,5 @@
 -- A payload is accepted exactly when it meets the rules in words of fields, and then the record and the texts shown are those at their
--- places; no text shown lies outside the payload or inside the fixed part.
+-- places; no text shown lies outside the payload or inside the fixed part. The reader's choice is a parameter.
 -- Assumes nothing.
 use mathlib.Core.Path.{_≡_, refl, sym}
 use mathlib.Core.Logic.{_↔_, _⊎_, ⊎-map}
@@ -21,15 +21,17 @@ use Rattle.protocol.specs.declared.Version.the-variants.{V2}
 use Rattle.protocol.specs.declared.Written.the-variants.{Length}
 use Rattle.protocol.proofs.Tests.{and-cases, cases-and, or-none, none-or, equal-kept, kept-equal}
 use Rattle.protocol.proofs.Verdicts.{left-fits, right-fits, fits-kept, kept-fits, open-length, length-open, written-both, both-written}
-use Rattle.texts.specs.Texts.{rangesAt}
 use Rattle.texts.specs.Claims.{TextsFit}
 use Rattle.texts.proofs.Rows.{texts-said, said-texts, said-sizes}
+use Rattle.pairs.proofs.Laws.{shown-safe}
+use Rattle.pairs.specs.declared.PairKind.the-variants.{Text}
+use Rattle.pairs.specs.declared.ZeroSize.{ZeroSize}
 use Rattle.registration.specs.declared.RegistrationForm.{RegistrationForm}
 use Rattle.registration.specs.declared.RegistrationForm.the-variants.{V1 as Form1, V2 as Form2}
 use Rattle.registration.specs.declared.Registration.{Registration}
 use Rattle.registration.specs.declared.RegistrationTexts.{RegistrationTexts}
 use Rattle.registration.specs.declared.RegistrationRead.the-variants.{Info}
-use Rattle.registration.specs.Registration.{fixedPart, recordAt, textRows, textsAt, frontRules, textsVerdict, unregistered, preferredRules, backRules, shown, readOf, versionOf, three, sizeRules, writtenVerdict, bytesOf, writeOf}
+use Rattle.registration.specs.Registration.{fixedPart, recordAt, textRows, pairsAt, textsAt, frontRules, textsVerdict, unregistered, preferredRules, backRules, shown, verdictWith, readWith, versionOf, three, sizeRules, writtenVerdict, bytesOf, writeOf}
 use Rattle.registration.proofs.Laws.{parts, small}
 use Rattle.registration.specs.Claims.{FormFits, NumbersFit, Acceptable, Writable, TextsSafe, Accepted, AcceptedExactly, EveryTextSafe, WrittenExactly}
 
@@ -92,20 +94,15 @@ module _ (p : Registration) where
 
 -- ---- the parts of the judgement
 
-record Kept-all (v : Version) (s : List ℕ) : Type 0 where
-  long : openLength (fixedPart v) (length s) ≡ Fits
-  front : Kept (frontRules v (recordAt v s))
-  texts : TextsFit (fixedPart v) (length s) textRows (rangesAt s textRows)
-  back : Kept (backRules (recordAt v s))
+pub record Kept-all (v : Version) (z : ZeroSize) (s : List ℕ) : Type 0 where
+  pub long : openLength (fixedPart v) (length s) ≡ Fits
+  pub front : Kept (frontRules v (recordAt v s))
+  pub texts : TextsFit z (fixedPart v) (length s) textRows (pairsAt s)
+  pub back : Kept (backRules (recordAt v s))
 
-verdict : Version → List ℕ → Verdict
-verdict v s =
-    firstOf (openLength (fixedPart v) (length s))
-    (firstOf (judge (frontRules v (recordAt v s))) (firstOf (textsVerdict (fixedPart v) (length s) (textsAt s)) (judge (backRules (recordAt v s)))))
-
-all-kept : (v : Version) (s : List ℕ) → verdict v s ≡ Fits → Kept-all v s
-unfolding verdict textsVerdict textsAt
-all-kept v s e =
+pub all-kept : (v : Version) (z : ZeroSize) (s : List ℕ) → verdictWith v z s ≡ Fits → Kept-all v z s
+unfolding verdictWith textsVerdict
+all-kept v z s e =
     let f = fixedPart v in
     let n = length s in
     let fields = right-fits (openLength f n) _ e in
@@ -113,24 +110,25 @@ all-kept v s e =
     record {
       long = left-fits (openLength f n) _ e;
       front = fits-kept (frontRules v (recordAt v s)) (left-fits _ _ fields);
-      texts = texts-said f n textRows (rangesAt s textRows) (left-fits (textsVerdict f n (textsAt s)) _ later);
-      back = fits-kept (backRules (recordAt v s)) (right-fits (textsVerdict f n (textsAt s)) _ later);
+      texts = texts-said z f n textRows (pairsAt s) (left-fits (textsVerdict z f n (pairsAt s)) _ later);
+      back = fits-kept (backRules (recordAt v s)) (right-fits (textsVerdict z f n (pairsAt s)) _ later);
     }
 
-kept-all : (v : Version) (s : List ℕ) → Kept-all v s → verdict v s ≡ Fits
-unfolding verdict textsVerdict textsAt firstOf
-kept-all v s k =
+pub kept-all : (v : Version) (z : ZeroSize) (s : List ℕ) → Kept-all v z s → verdictWith v z s ≡ Fits
+unfolding verdictWith textsVerdict firstOf
+kept-all v z s k =
     rw (
       k .long,
       kept-fits (frontRules v (recordAt v s)) (k .front),
-      said-texts (fixedPart v) (length s) textRows (rangesAt s textRows) (k .texts),
+      said-texts z (fixedPart v) (length s) textRows (pairsAt s) (k .texts),
       kept-fits (backRules (recordAt v s)) (k .back),
     )
 
 -- ---- the rules of a payload
 
-fields-said : (v : Version) (s : List ℕ) → Kept-all v s → Acceptable v s
-fields-said v s k = record {
+pub fields-said : (v : Version) (z : ZeroSize) (s : List ℕ) → Kept-all v z s → Acceptable v z s
+unfolding pairsAt
+fields-said v z s k = record {
   fixed = open-length (fixedPart v) (length s) (k .long) .0;
   most = open-length (fixedPart v) (length s) (k .long) .1;
   numbers = numbers-said (recordAt v s) v (k .front) (k .back);
@@ -139,8 +137,9 @@ fields-said v s k = record {
   roaming = k .texts .1 .1 .0;
 }
 
-said-fields : (v : Version) (s : List ℕ) → Acceptable v s → Kept-all v s
-said-fields v s a = record {
+pub said-fields : (v : Version) (z : ZeroSize) (s : List ℕ) → Acceptable v z s → Kept-all v z s
+unfolding pairsAt
+said-fields v z s a = record {
   long = length-open (fixedPart v) (length s) (a .fixed) (a .most);
   front = said-front (recordAt v s) v (a .numbers);
   texts = (a .id, (a .name, (a .roaming, tt)));
@@ -155,25 +154,31 @@ shows (Fault r) p q t u e = let z : _≡_ {A = ℕ} 0 1 = cc in absurd (omega ar
 
 -- an accepted payload keeps the rules, and shows the record and the texts at their places
 pub accepted : Accepted
-unfolding readOf verdict
-accepted v s p t e =
-    let d = shows (verdict v s) (recordAt v s) p (textsAt s) t e in
-    (fields-said v s (all-kept v s (d .0)), (sym (d .1 .0), sym (d .1 .1)))
+unfolding readWith
+accepted v z s p t e =
+    let d = shows (verdictWith v z s) (recordAt v s) p (textsAt s) t e in
+    (fields-said v z s (all-kept v z s (d .0)), (sym (d .1 .0), sym (d .1 .1)))
 
-pub acceptable : (v : Version) (s : List ℕ) → Acceptable v s → readOf v s ≡ Info (recordAt v s) (textsAt s)
-unfolding readOf verdict
-acceptable v s a = let f : verdict v s ≡ Fits = kept-all v s (said-fields v s a) in rw f
+pub acceptable : (v : Version) (z : ZeroSize) (s : List ℕ) → Acceptable v z s → readWith v z s ≡ Info (recordAt v s) (textsAt s)
+unfolding readWith
+acceptable v z s a = let f : verdictWith v z s ≡ Fits = kept-all v z s (said-fields v z s a) in rw f
 
 pub accepted-exactly : AcceptedExactly
-accepted-exactly v s = (λ e. accepted v s (recordAt v s) (textsAt s) e .0, acceptable v s)
+accepted-exactly v z s = (λ e. accepted v z s (recordAt v s) (textsAt s) e .0, acceptable v z s)
 
 -- ---- each text shown is absent, or lies behind the fixed part, at a multiple of 4, and inside the payload
 
 pub every-text-safe : EveryTextSafe
-unfolding textsAt
-every-text-safe v s p t e =
-    let k = accepted v s p t e in
-    rw (k .1 .1) (record { id = k .0 .id .safe; name = k .0 .name .safe; roaming = k .0 .roaming .safe })
+unfolding textsAt pairsAt
+every-text-safe v z s p t e =
+    let k = accepted v z s p t e in
+    let n = length s in
+    rw (k .1 .1)
+    (record {
+      id = shown-safe z Text (fixedPart v) 12 n _ (k .0 .id);
+      name = shown-safe z Text (fixedPart v) 40 n _ (k .0 .name);
+      roaming = shown-safe z Text (fixedPart v) 126 n _ (k .0 .roaming);
+    })
 
 -- ---- a writer accepts exactly what its rules allow, where it has room
 

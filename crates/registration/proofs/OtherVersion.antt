@@ -19,6 +19,7 @@ use Rattle.protocol.specs.declared.Version.the-variants.{V1, V2}
 use Rattle.protocol.proofs.Tests.{equal-kept, kept-equal}
 use Rattle.protocol.proofs.Verdicts.{last-fits, fits-kept, kept-fits, open-short}
 use Rattle.protocol.proofs.Classes.{later-classes}
+use Rattle.pairs.specs.declared.ZeroSize.{ZeroSize}
 use Rattle.texts.specs.Texts.{endOf}
 use Rattle.texts.proofs.Rows.{end-behind, end-aligned, laid-inside, none-inside}
 use Rattle.registration.specs.declared.RegistrationForm.{RegistrationForm}
@@ -26,10 +27,10 @@ use Rattle.registration.specs.declared.RegistrationForm.the-variants.{V1
 use Rattle.registration.specs.declared.Registration.{Registration}
 use Rattle.registration.specs.declared.RegistrationTexts.{RegistrationTexts}
 use Rattle.registration.specs.declared.RegistrationRead.the-variants.{Refused}
-use Rattle.registration.specs.Registration.{fixedPart, recordAt, textRows, textsAt, frontRules, textsVerdict, backRules, shown, readOf, versionOf, three, sizeRules, writtenVerdict, laidTexts, laidFor, lengthOf, bytesOf}
+use Rattle.registration.specs.Registration.{fixedPart, recordAt, textRows, pairsAt, frontRules, textsVerdict, backRules, shown, verdictWith, readWith, versionOf, three, sizeRules, writtenVerdict, laidFor, lengthOf, bytesOf}
 use Rattle.registration.specs.Claims.{inForm, shownEarlier, refusedLater, OfWidth, LaterReadEarlier, EarlierReadLater}
 use Rattle.registration.proofs.Laws.{parts, length-bytes}
-use Rattle.registration.proofs.RoundTrip.{read-back, texts-shown, shared-shown, length-fits}
+use Rattle.registration.proofs.RoundTrip.{read-back, pairs-back, shared-shown, length-fits}
 
 -- ---- bytes of 2.00 read at 1.00
 
@@ -51,12 +52,12 @@ earlier-by p t k false e = rw (k .0, k .1 .0, e)
 
 pub later-read-earlier : LaterReadEarlier
 unfolding firstOf
-later-read-earlier p x y z e s ok =
+later-read-earlier choice p x y z e s ok =
     let k = parts p (length x) (length y) (length z) ok in
     let f : 48 ≤ fixedPart (versionOf p) = rw e (omega arith) in
     let front = rw e at (fits-kept (frontRules (versionOf p) p) (k .front)) in
     let back : judge (backRules (inForm Form1 p)) ≡ Fits = back-earlier p (fits-kept (backRules p) (k .back)) in
-    read-back p x y z ok V1 f s
+    read-back p x y z ok V1 choice f s
     ∙ (λ i. shown (firstOf (judge (frontRules V1 p)) (back i)) (inForm Form1 p) (laidFor p x y z))
     ∙ ap (λ (d : Verdict). shown d (inForm Form1 p) (laidFor p x y z)) (last-fits (judge (frontRules V1 p)))
     ∙ earlier-by p (laidFor p x y z) front (onlyClasses V1 (p .«available_data_class»)) refl
@@ -73,17 +74,17 @@ front-later p k =
 
 -- ---- by the sizes of the texts: with none the bytes are too short; else the first one that is there lies in the larger fixed part
 
-module _ (p : Registration) (x y z : List ℕ) (e : versionOf p ≡ V1) where
+module _ (choice : ZeroSize) (p : Registration) (x y z : List ℕ) (e : versionOf p ≡ V1) where
   abbrev sizes : List ℕ
   sizes = three (length x) (length y) (length z)
 
-  none-later : endOf 48 sizes ≡ 48 → readOf V2 (bytesOf p x y z) ≡ Refused (refusedLater (length x) (length y) (length z))
-  unfolding readOf firstOf
+  none-later : endOf 48 sizes ≡ 48 → readWith V2 choice (bytesOf p x y z) ≡ Refused (refusedLater (length x) (length y) (length z))
+  unfolding readWith verdictWith firstOf
   none-later h = rw (length-bytes p x y z, e, h, open-short 52 48 (omega arith), none-inside 48 (refusal tooShort 48) textRows sizes h)
 
   some-later : OfWidth p → writtenVerdict p (length x) (length y) (length z) ≡ Fits → (endOf 48 sizes ≡ 48 → ⊥)
-      → readOf V2 (bytesOf p x y z) ≡ Refused (refusedLater (length x) (length y) (length z))
-  unfolding readOf firstOf frontRules textsVerdict laidTexts sizeRules
+      → readWith V2 choice (bytesOf p x y z) ≡ Refused (refusedLater (length x) (length y) (length z))
+  unfolding readWith verdictWith firstOf frontRules textsVerdict sizeRules
   some-later s ok h =
       let k = parts p (length x) (length y) (length z) ok in
       let n = length (bytesOf p x y z) in
@@ -91,13 +92,13 @@ module _ (p : Registration) (x y z : List ℕ) (e : versionOf p ≡ V1) where
       let o : openLength 52 n ≡ Fits = length-fits p x y z ok V2 enough in
       let front : judge (frontRules V2 (recordAt V2 (bytesOf p x y z))) ≡ Fits =
       ap (λ (r : Registration). judge (frontRules V2 r)) (shared-shown p x y z ok V2 s) ∙ front-later p (rw e at (fits-kept (frontRules (versionOf p) p) (k .front))) in
-      let texts : textsVerdict 52 n (textsAt (bytesOf p x y z)) ≡ Fault (refusedLater (length x) (length y) (length z)) =
-      rw (texts-shown p x y z ok, e) (laid-inside 52 n 48 (refusal tooShort 48) textRows sizes (k .sizes) (omega arith) (omega arith) h) in
+      let texts : textsVerdict choice 52 n (pairsAt (bytesOf p x y z)) ≡ Fault (refusedLater (length x) (length y) (length z)) =
+      rw (pairs-back p x y z ok, e) (laid-inside choice 52 n 48 (refusal tooShort 48) textRows sizes (k .sizes) (omega arith) (omega arith) h) in
       rw (o, front, texts)
 
 pub earlier-read-later : EarlierReadLater
-earlier-read-later p x y z e s ok = by-sizes (eqb (endOf 48 (three (length x) (length y) (length z))) 48) refl
+earlier-read-later choice p x y z e s ok = by-sizes (eqb (endOf 48 (three (length x) (length y) (length z))) 48) refl
   where
-    by-sizes : (b : Bool) → eqb (endOf 48 (three (length x) (length y) (length z))) 48 ≡ b → readOf V2 (bytesOf p x y z) ≡ Refused (refusedLater (length x) (length y) (length z))
-    by-sizes true h = none-later p x y z e (eqb-true (endOf 48 (three (length x) (length y) (length z))) 48 h)
-    by-sizes false h = some-later p x y z e s ok (eqb-false (endOf 48 (three (length x) (length y) (length z))) 48 h)
+    by-sizes : (b : Bool) → eqb (endOf 48 (three (length x) (length y) (length z))) 48 ≡ b → readWith V2 choice (bytesOf p x y z) ≡ Refused (refusedLater (length x) (length y) (length z))
+    by-sizes true h = none-later choice p x y z e (eqb-true (endOf 48 (three (length x) (length y) (length z))) 48 h)
+    by-sizes false h = some-later choice p x y z e s ok (eqb-false (endOf 48 (three (length x) (length y) (length z))) 48 h)

@@ -1,4 +1,4 @@
--- The REGISTER_STATE payload (document 01, "Registration"; source 000, MBIM_REGISTRATION_STATE_INFO_V2).
+-- The REGISTER_STATE payload (document 01, "Registration"; document 02, order 10; source 000, MBIM_REGISTRATION_STATE_INFO_V2).
 -- In this order: the fields and their places; the rules, in the order in which they are judged; what a reader answers; what a writer gives.
 use Prim.Native.Nat.{ℕ}
 use mathlib.Core.Bool.{Bool, not, _&&_, _||_}
@@ -13,10 +13,11 @@ use Rattle.protocol.specs.declared.Verdict.{Verdict}
 use Rattle.protocol.specs.declared.Verdict.the-variants.{Fits, Fault}
 use Rattle.protocol.specs.declared.Version.{Version}
 use Rattle.protocol.specs.declared.Version.the-variants.{V1, V2}
-use Rattle.pairs.specs.Pair.{range}
-use Rattle.texts.specs.Texts.{row, rangesAt, laid, endOf, rangesBytes}
+use Rattle.pairs.specs.Pair.{byDefault, reached, range}
+use Rattle.texts.specs.Texts.{row, rangesAt, allShown, laid, endOf, rangesBytes}
 use Rattle.texts.specs.Texts as pairs
 use Rattle.pairs.specs.declared.Range.{Range}
+use Rattle.pairs.specs.declared.ZeroSize.{ZeroSize}
 use Rattle.registration.specs.declared.RegistrationForm.{RegistrationForm}
 use Rattle.registration.specs.declared.RegistrationForm.the-variants.{V1 as Form1, V2 as Form2}
 use Rattle.registration.specs.declared.Registration.{Registration}
@@ -55,15 +56,16 @@ textRows = row 20 12 ∷ row 28 40 ∷ row 36 126 ∷ []
 abbrev pub texts : Range → Range → Range → RegistrationTexts
 texts id name roaming = record { «provider_id» = id; «provider_name» = name; «roaming_text» = roaming }
 
--- the ranges of the texts in field order, and back
-abbrev pub rangesOf : RegistrationTexts → List Range
-rangesOf t = t .«provider_id» ∷ t .«provider_name» ∷ t .«roaming_text» ∷ []
-
+-- three ranges in field order
 abbrev pub textsOf : List Range → RegistrationTexts
 textsOf ps = texts (getD ps 0 (range 0 0)) (getD ps 1 (range 0 0)) (getD ps 2 (range 0 0))
 
+-- the pairs as they stand, and the texts as they are shown
+unfoldable pub pairsAt : List ℕ → List Range
+pairsAt s = rangesAt s textRows
+
 unfoldable pub textsAt : List ℕ → RegistrationTexts
-textsAt s = textsOf (rangesAt s textRows)
+textsAt s = textsOf (allShown (pairsAt s))
 
 -- ---- rules: broken, number, place; the first broken one decides
 
@@ -76,9 +78,9 @@ frontRules v p =
     ∷ rule (ltb 3 (p .«cellular_class»)) outsideTable 16
     ∷ []
 
--- the pairs, in n bytes
-unfoldable pub textsVerdict : ℕ → ℕ → RegistrationTexts → Verdict
-textsVerdict fixed n t = pairs.textsVerdict fixed n textRows (rangesOf t)
+-- the pairs, in n bytes, by the reader's choice
+unfoldable pub textsVerdict : ZeroSize → ℕ → ℕ → List Range → Verdict
+textsVerdict z fixed n ps = pairs.textsVerdict z fixed n textRows ps
 
 -- the class is not 0 though the state is not 3, 4 or 5
 abbrev pub unregistered : ℕ → ℕ → Bool
@@ -101,15 +103,26 @@ abbrev pub shown : Verdict → Registration → RegistrationTexts → Registrati
 shown Fits p t = Info p t
 shown (Fault r) p t = Refused r
 
-unfoldable pub readOf : Version → List ℕ → RegistrationRead
-readOf v s =
-    shown
-    (firstOf (openLength (fixedPart v) (length s))
+-- before the pairs: the length and the numbers in front of them
+unfoldable pub headVerdict : Version → List ℕ → Verdict
+headVerdict v s = firstOf (openLength (fixedPart v) (length s)) (judge (frontRules v (recordAt v s)))
+
+unfoldable pub verdictWith : Version → ZeroSize → List ℕ → Verdict
+verdictWith v z s =
+    firstOf (openLength (fixedPart v) (length s))
     (firstOf (judge (frontRules v (recordAt v s)))
-    (firstOf (textsVerdict (fixedPart v) (length s) (textsAt s))
-    (judge (backRules (recordAt v s))))))
-    (recordAt v s)
-    (textsAt s)
+    (firstOf (textsVerdict z (fixedPart v) (length s) (pairsAt s))
+    (judge (backRules (recordAt v s)))))
+
+-- what a choice decides
+abbrev pub choiceVerdict : Version → ZeroSize → List ℕ → Verdict
+choiceVerdict v z s = reached (headVerdict v s) (textsVerdict z (fixedPart v) (length s) (pairsAt s))
+
+unfoldable pub readWith : Version → ZeroSize → List ℕ → RegistrationRead
+readWith v z s = shown (verdictWith v z s) (recordAt v s) (textsAt s)
+
+abbrev pub readOf : Version → List ℕ → RegistrationRead
+readOf v s = readWith v byDefault s
 
 -- ---- what a writer gives
 

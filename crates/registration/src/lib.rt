@@ -1,6 +1,7 @@
 // The REGISTER_STATE payload: its record, and a reader of both forms; the writer is in
 // `registration_writer`. Texts are shown as ranges of the payload; what stands in one is not judged.
 use pairs::Range;
+use pairs::ZeroSize;
 use protocol::CONTRADICTION;
 use protocol::OUTSIDE_TABLE;
 use protocol::Refusal;
@@ -17,7 +18,7 @@ ghost use mathlib.Core.Path.{_≡_};
 ghost use lib.ListN.{length};
 ghost use Rattle.protocol.specs.Verdict.{firstOf, judge};
 ghost use Rattle.protocol.specs.declared.Verdict.the-variants.{Fits};
-ghost use Rattle.registration.specs.Registration.{fixedPart, formAt, recordAt, textsAt, frontRules, textsVerdict, unregistered, backRules, readOf, versionOf};
+ghost use Rattle.registration.specs.Registration.{fixedPart, formAt, recordAt, pairsAt, textsAt, frontRules, textsVerdict, unregistered, backRules, headVerdict, choiceVerdict, readWith, readOf, versionOf};
 
 // What only one form has.
 pub enum RegistrationForm {
@@ -86,7 +87,44 @@ const CELLULAR_CLASS_MASK: u32 = 3;
 
 const REGISTRATION_FLAG_MASK: u32 = 3;
 
-// The length is judged first, so that the reads after it need no test of their own.
+// By the caller's choice. Where it finds no fault, the answer is the one by default.
+pub fn read_with(version: Version, zero_size: ZeroSize, payload: &[u8]) -> RegistrationRead
+    ensures { λ r. ⌜ r ≡ readWith version «zero_size» (now (payload .entry)) ⌝ }
+{
+    match judge_choice(version, zero_size, payload) {
+        Verdict::Fits => read(version, payload),
+        Verdict::Fault(refusal) => RegistrationRead::Refused(refusal),
+    }
+}
+
+// The fault of the pairs by a choice, where nothing judged before them is at fault.
+pub fn judge_choice(version: Version, zero_size: ZeroSize, payload: &[u8]) -> Verdict
+    ensures { λ r. ⌜ r ≡ choiceVerdict version «zero_size» (now (payload .entry)) ⌝ }
+{
+    match judge_head(version, payload) {
+        Verdict::Fits => judge_texts(zero_size, payload, fixed_part(version), &TEXTS),
+        Verdict::Fault(_) => Verdict::Fits,
+    }
+}
+
+// The length, and the numbers in front of the pairs.
+fn judge_head(version: Version, payload: &[u8]) -> Verdict
+    ensures { λ r. ⌜ r ≡ headVerdict version (now (payload .entry)) ⌝ }
+{
+    let length = judge_open_length(fixed_part(version) as usize, payload.len());
+    let front = Registration {
+        nw_error: 0,
+        register_state: u32_at(payload, REGISTER_STATE),
+        register_mode: u32_at(payload, REGISTER_MODE),
+        available_data_class: u32_at(payload, AVAILABLE_DATA_CLASS),
+        cellular_class: u32_at(payload, CELLULAR_CLASS),
+        registration_flag: 0,
+        form: RegistrationForm::V1,
+    };
+    first(length, judge_front(version, front))
+}
+
+// By default. The length is judged first, so that the reads after it need no test of their own.
 pub fn read(version: Version, payload: &[u8]) -> RegistrationRead
     ensures { λ r. ⌜ r ≡ readOf version (now (payload .entry)) ⌝ }
 {
@@ -95,7 +133,7 @@ pub fn read(version: Version, payload: &[u8]) -> RegistrationRead
         return RegistrationRead::Refused(refusal);
     }
     let info = record_at(version, payload);
-    match judge_fields(version, payload, info) {
+    match judge_fields(version, ZeroSize::Absent, payload, info) {
         Verdict::Fits => {
             let texts = texts_at(payload);
             RegistrationRead::Info(info, texts)
@@ -165,13 +203,19 @@ fn texts_at(s: &[u8]) -> RegistrationTexts
 }
 
 // The fields of a payload whose record is `info`.
-fn judge_fields(version: Version, payload: &[u8], info: Registration) -> Verdict
-    ensures { λ r. ⌜ r ≡ firstOf (judge (frontRules version info)) (firstOf (textsVerdict (fixedPart version) (length (now (payload .entry))) (textsAt (now (payload .entry)))) (judge (backRules info))) ⌝ }
+fn judge_fields(
+    version: Version,
+    zero_size: ZeroSize,
+    payload: &[u8],
+    info: Registration,
+) -> Verdict
+    ensures { λ r. ⌜ r ≡ firstOf (judge (frontRules version info)) (firstOf (textsVerdict «zero_size» (fixedPart version) (length (now (payload .entry))) (pairsAt (now (payload .entry)))) (judge (backRules info))) ⌝ }
 {
     if let Verdict::Fault(refusal) = judge_front(version, info) {
         return Verdict::Fault(refusal);
     }
-    if let Verdict::Fault(refusal) = judge_texts(payload, fixed_part(version), &TEXTS) {
+    let fixed = fixed_part(version);
+    if let Verdict::Fault(refusal) = judge_texts(zero_size, payload, fixed, &TEXTS) {
         return Verdict::Fault(refusal);
     }
     judge_back(info)

@@ -27,10 +27,10 @@ packet-returned p z s (Refused r) out e q = tt
 
 pub registration-returned : (p : Registration) (x y z : List ℕ) → RegistrationOfWidth p → (s : List ℕ) (a : Written) (out : List ℕ)
     → a ≡ registration.writeOf p x y z s .answer → out ≡ registration.writeOf p x y z s .output → RegistrationBack a p x y z out
-registration-returned p x y z w s (Length n) out e q = rw q (registrationTrip.round-trip p x y z s n w (sym e))
+registration-returned p x y z w s (Length n) out e q = λ choice. rw q (registrationTrip.round-trip choice p x y z s n w (sym e))
 registration-returned p x y z w s (Refused r) out e q = tt
 
 pub signal-returned : (p : SignalState) (es : List RsrpSnr) → SignalOfWidth p → EntriesOfWidth es → (s : List ℕ) (a : Written) (out : List ℕ)
     → a ≡ signal.writeOf p es s .answer → out ≡ signal.writeOf p es s .output → SignalBack a p es out
-signal-returned p es z zs s (Length n) out e q = rw q (signalTrip.round-trip p es z zs s n (sym e))
+signal-returned p es z zs s (Length n) out e q = λ choice. rw q (signalTrip.round-trip choice p es z zs s n (sym e))
 signal-returned p es z zs s (Refused r) out e q = tt

@@ -1,4 +1,5 @@
--- The answers in words of elements: a CID is listed exactly when an element holds both; the element shown for a service is its first.
+-- The answers in words of elements, whichever choice the reader makes: a CID is listed exactly when an element holds both; the element
+-- shown for a service is its first.
 -- Assumes nothing.
 use mathlib.Core.Path.{_≡_, refl, ap}
 use mathlib.Core.Logic.{_↔_}
@@ -16,14 +17,15 @@ use Rattle.folds.specs.Folds.{anyOf, firstIndex}
 use Rattle.folds.proofs.Laws.{some-of, each-none, any-at, index-at, index-below, index-none}
 use Rattle.wire.specs.Output.{over}
 use Rattle.protocol.specs.Refusal.{refusal, outputTooSmall}
-use Rattle.device_services.specs.DeviceServices.{countOf, offsetOf, cidCountAt, elementAt, cidsAt, verdictOf}
+use Rattle.device_services.specs.DeviceServices.{countOf, offsetOf, cidCountAt, elementAt, cidsAt, verdictWith}
+use Rattle.pairs.specs.declared.ZeroSize.{ZeroSize}
 use lib.Dec.{ltb}
 use lib.ListN.{length}
 use borrow.Author.Tests.{ltb-false}
 use Rattle.services_query.specs.declared.ElementAnswer.the-variants.{NotListed, Refused, Listed as Shows}
 use Rattle.services_query.specs.declared.ListedAnswer.the-variants.{Listed}
 use Rattle.services_query.specs.declared.ListedAnswer.the-variants as list
-use Rattle.services_query.specs.ServicesQuery.{Shown, isOf, isCid, hasCid, holds, plain, judged, elementShown, chosenShown, elementOf, cidsOf, told, listedOf}
+use Rattle.services_query.specs.ServicesQuery.{Shown, isOf, isCid, hasCid, holds, plain, judged, elementShown, chosenShown, elementWith, cidsWith, told, listedWith}
 use Rattle.services_query.specs.Claims.{Serves, Held, First, ElementNotListed, CidsNotListed, ListedExactly, NotListedExactly, FirstShown, ElementShown}
 
 -- ---- a service and a CID
@@ -58,9 +60,9 @@ told-listed (Fault r) b e = let z : _≡_ {A = ℕ} 0 1 = cc in absurd (omega ar
 
 -- listed exactly when the list is accepted and one of its elements holds both
 pub listed-exactly : ListedExactly
-unfolding listedOf
-listed-exactly s service cid = (
-  λ e. let d = told-listed (verdictOf s) (anyOf (holds s service cid) (countOf s)) e in (d .0, held-said s service cid (d .1)),
+unfolding listedWith
+listed-exactly z s service cid = (
+  λ e. let d = told-listed (verdictWith z s) (anyOf (holds s service cid) (countOf s)) e in (d .0, held-said s service cid (d .1)),
   λ k. rw (k .0, said-held s service cid (k .1)),
 )
 
@@ -71,17 +73,17 @@ told-not (Fault r) b e = let z : _≡_ {A = ℕ} 0 1 = cc in absurd (omega arith
 
 -- not listed exactly when the list is accepted and none of its elements holds both
 pub not-listed-exactly : NotListedExactly
-unfolding listedOf
-not-listed-exactly s service cid = (
-  λ e. let d = told-not (verdictOf s) (anyOf (holds s service cid) (countOf s)) e in (d .0, λ h. let y = said-held s service cid h in let z : _≡_ {A = Bool} true false = cc in apart z),
+unfolding listedWith
+not-listed-exactly z s service cid = (
+  λ e. let d = told-not (verdictWith z s) (anyOf (holds s service cid) (countOf s)) e in (d .0, λ h. let y = said-held s service cid h in let z : _≡_ {A = Bool} true false = cc in apart z),
   λ k. none (anyOf (holds s service cid) (countOf s)) refl (k .0) (k .1),
 )
   where
     apart : _≡_ {A = Bool} true false → ⊥
     apart e = let z : _≡_ {A = ℕ} 0 1 = cc in absurd (omega arith)
 
-    none : (b : Bool) → anyOf (holds s service cid) (countOf s) ≡ b → verdictOf s ≡ Fits → (Held s service cid → ⊥)
-        → told (verdictOf s) (anyOf (holds s service cid) (countOf s)) ≡ list.NotListed
+    none : (b : Bool) → anyOf (holds s service cid) (countOf s) ≡ b → verdictWith z s ≡ Fits → (Held s service cid → ⊥)
+        → told (verdictWith z s) (anyOf (holds s service cid) (countOf s)) ≡ list.NotListed
     none true e f h = absurd (h (held-said s service cid e))
     none false e f h = rw (f, e)
 
@@ -96,27 +98,27 @@ none-serves s service n l h = each-none (isOf s service) n (λ j k. by-test (isO
 
 -- the element with a number below the count is shown, and no other is listed
 pub element-shown : ElementShown
-unfolding elementOf chosenShown
-element-shown s i out e l = rw (e, lt-ltb i (countOf s) l)
+unfolding elementWith chosenShown
+element-shown z s i out e l = rw (e, lt-ltb i (countOf s) l)
 
-pub element-none : (s : List ℕ) (i : ℕ) (out : List ℕ) → verdictOf s ≡ Fits → countOf s ≤ i → elementOf s i out ≡ plain NotListed out
-unfolding elementOf chosenShown
-element-none s i out e l = rw (e, le-ltb i (countOf s) l)
+pub element-none : (z : ZeroSize) (s : List ℕ) (i : ℕ) (out : List ℕ) → verdictWith z s ≡ Fits → countOf s ≤ i → elementWith z s i out ≡ plain NotListed out
+unfolding elementWith chosenShown
+element-none z s i out e l = rw (e, le-ltb i (countOf s) l)
 
 -- the first element of a service is shown
 pub first-shown : FirstShown
-unfolding cidsOf chosenShown
-first-shown s service i out e f =
+unfolding cidsWith chosenShown
+first-shown z s service i out e f =
     let l : i < countOf s = f .serves .below in
     let x : firstIndex (isOf s service) (countOf s) ≡ i =
     index-at (isOf s service) (countOf s) i (none-serves s service i (omega arith) (f .before)) l (said-serves s service i (f .serves)) in
     rw (e, x, lt-ltb i (countOf s) l)
 
 -- a service that no element is of is not listed
-pub first-none : (s : List ℕ) (service : ServiceId) (out : List ℕ) → verdictOf s ≡ Fits → ((j : ℕ) → Serves s service j → ⊥)
-    → cidsOf s service out ≡ plain NotListed out
-unfolding cidsOf chosenShown
-first-none s service out e h =
+pub first-none : (z : ZeroSize) (s : List ℕ) (service : ServiceId) (out : List ℕ) → verdictWith z s ≡ Fits → ((j : ℕ) → Serves s service j → ⊥)
+    → cidsWith z s service out ≡ plain NotListed out
+unfolding cidsWith chosenShown
+first-none z s service out e h =
     let x : firstIndex (isOf s service) (countOf s) ≡ countOf s =
     index-none (isOf s service) (countOf s) (none-serves s service (countOf s) (omega arith) (λ j k. h j)) in
     rw (e, x, le-ltb (countOf s) (countOf s) (omega arith))
@@ -145,18 +147,18 @@ judged-none Fits x out e = (refl, e)
 judged-none (Fault r) x out e = let z : _≡_ {A = ℕ} 0 1 = cc in absurd (omega arith)
 
 pub element-not-listed-exactly : ElementNotListed
-unfolding elementOf
-element-not-listed-exactly s i out = (
-  λ e. let d = judged-none (verdictOf s) (chosenShown s i out) out e in (d .0, chosen-none s i out (d .1)),
-  λ k. ap (λ (x : Shown). x .answer) (element-none s i out (k .0) (k .1)),
+unfolding elementWith
+element-not-listed-exactly z s i out = (
+  λ e. let d = judged-none (verdictWith z s) (chosenShown s i out) out e in (d .0, chosen-none s i out (d .1)),
+  λ k. ap (λ (x : Shown). x .answer) (element-none z s i out (k .0) (k .1)),
 )
 
 pub cids-not-listed-exactly : CidsNotListed
-unfolding cidsOf
-cids-not-listed-exactly s service out = (
-  λ e. let d = judged-none (verdictOf s) (chosenShown s (firstIndex (isOf s service) (countOf s)) out) out e in
+unfolding cidsWith
+cids-not-listed-exactly z s service out = (
+  λ e. let d = judged-none (verdictWith z s) (chosenShown s (firstIndex (isOf s service) (countOf s)) out) out e in
       (d .0, λ j h. none-below (anyOf (isOf s service) (countOf s)) refl (chosen-none s (firstIndex (isOf s service) (countOf s)) out (d .1)) j h),
-  λ k. ap (λ (x : Shown). x .answer) (first-none s service out (k .0) (k .1)),
+  λ k. ap (λ (x : Shown). x .answer) (first-none z s service out (k .0) (k .1)),
 )
   where
     none-below : (b : Bool) → anyOf (isOf s service) (countOf s) ≡ b → countOf s ≤ firstIndex (isOf s service) (countOf s) → (j : ℕ) → Serves s service j → ⊥

@@ -10,8 +10,9 @@ use Rattle.protocol.specs.declared.Verdict.the-variants.{Fits}
 use Rattle.protocol.proofs.Verdicts.{left-fits}
 use Rattle.folds.specs.Folds.{sumOf}
 use Rattle.folds.proofs.Laws.{length-list, length-joined, joined-sum, join-next, sum-next}
-use Rattle.device_services.specs.DeviceServices.{countOf, offsetOf, cidCountAt, cidsAt, verdictOf}
+use Rattle.device_services.specs.DeviceServices.{countOf, offsetOf, cidCountAt, cidsAt, verdictWith}
 use Rattle.device_services.proofs.Laws.{few}
+use Rattle.pairs.specs.declared.ZeroSize.{ZeroSize}
 use Rattle.services_query.specs.ServicesQuery.{wordsAt, cidsOfElement, allFields, allCids}
 
 pub length-words : (s : List ℕ) (at n : ℕ) → length (wordsAt s at n) ≡ n
@@ -32,9 +33,9 @@ unfolding allCids cidsAt
 length-cids s n = joined-sum (λ i. cidsAt s (offsetOf s i)) (cidsOfElement s) n (λ i. length-list _ (cidsOfElement s i))
 
 -- a list that fits has at most 32 elements
-pub few-listed : (s : List ℕ) → verdictOf s ≡ Fits → countOf s ≤ 32
-unfolding verdictOf
-few-listed s e = few (length s) (countOf s) (left-fits _ _ e)
+pub few-listed : (z : ZeroSize) (s : List ℕ) → verdictWith z s ≡ Fits → countOf s ≤ 32
+unfolding verdictWith
+few-listed z s e = few (length s) (countOf s) (left-fits _ _ e)
 
 pub fields-next : (s out : List ℕ) (i : ℕ) {o : ℕ} {t u : List ℕ} → o ≡ offsetOf s i → t ≡ sets out 0 (allFields s i) → u ≡ sets t (7 * i) (wordsAt s o 7)
     → u ≡ sets out 0 (allFields s (i + 1))

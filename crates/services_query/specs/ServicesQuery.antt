@@ -1,4 +1,4 @@
--- What is asked of a DEVICE_SERVICES payload (document 01, "Device services"). The whole list is judged first.
+-- What is asked of a DEVICE_SERVICES payload (document 01, "Device services"). The whole list is judged first, by the reader's choice.
 -- In this order: the tests of an element; an element shown; the three questions; all elements in one pass.
 use Prim.Native.Nat.{ℕ, _+_, _*_}
 use mathlib.Core.Bool.{Bool, cond, _&&_}
@@ -13,7 +13,9 @@ use Rattle.protocol.specs.declared.Verdict.{Verdict}
 use Rattle.protocol.specs.declared.Verdict.the-variants.{Fits, Fault}
 use Rattle.protocol.specs.declared.service.ServiceId.{ServiceId}
 use Rattle.folds.specs.Folds.{anyOf, firstIndex, listOf, joined, sumOf}
-use Rattle.device_services.specs.DeviceServices.{countOf, offsetOf, cidCountAt, elementAt, cidAt, cidsAt, verdictOf}
+use Rattle.device_services.specs.DeviceServices.{countOf, offsetOf, cidCountAt, elementAt, cidAt, cidsAt, verdictWith}
+use Rattle.pairs.specs.Pair.{byDefault}
+use Rattle.pairs.specs.declared.ZeroSize.{ZeroSize}
 use Rattle.services_query.specs.declared.all.AllAnswer.{AllAnswer}
 use Rattle.services_query.specs.declared.all.AllAnswer.the-variants.{Listed as AllListed, Refused as AllRefused}
 use Rattle.services_query.specs.declared.ElementAnswer.{ElementAnswer}
@@ -66,20 +68,29 @@ judged Fits x out = x
 judged (Fault r) x out = plain (Refused r) out
 
 -- "an element may also be chosen by its number, from 0"
-unfoldable pub elementOf : List ℕ → ℕ → List ℕ → Shown
-elementOf s number out = judged (verdictOf s) (chosenShown s number out) out
+unfoldable pub elementWith : ZeroSize → List ℕ → ℕ → List ℕ → Shown
+elementWith z s number out = judged (verdictWith z s) (chosenShown s number out) out
+
+abbrev pub elementOf : List ℕ → ℕ → List ℕ → Shown
+elementOf s number out = elementWith byDefault s number out
 
 -- "the CIDs of a chosen service: first matching element, in listed order"
-unfoldable pub cidsOf : List ℕ → ServiceId → List ℕ → Shown
-cidsOf s service out = judged (verdictOf s) (chosenShown s (firstIndex (isOf s service) (countOf s)) out) out
+unfoldable pub cidsWith : ZeroSize → List ℕ → ServiceId → List ℕ → Shown
+cidsWith z s service out = judged (verdictWith z s) (chosenShown s (firstIndex (isOf s service) (countOf s)) out) out
+
+abbrev pub cidsOf : List ℕ → ServiceId → List ℕ → Shown
+cidsOf s service out = cidsWith byDefault s service out
 
 abbrev pub told : Verdict → Bool → ListedAnswer
 told Fits any = cond any IsListed IsNotListed
 told (Fault r) any = IsRefused r
 
 -- whether any element holds both
-unfoldable pub listedOf : List ℕ → ServiceId → ℕ → ListedAnswer
-listedOf s service cid = told (verdictOf s) (anyOf (holds s service cid) (countOf s))
+unfoldable pub listedWith : ZeroSize → List ℕ → ServiceId → ℕ → ListedAnswer
+listedWith z s service cid = told (verdictWith z s) (anyOf (holds s service cid) (countOf s))
+
+abbrev pub listedOf : List ℕ → ServiceId → ℕ → ListedAnswer
+listedOf s service cid = listedWith byDefault s service cid
 
 -- ---- all elements in one pass: the answer, and the caller's two lists at exit
 
@@ -121,5 +132,8 @@ abbrev pub allJudged : Verdict → AllShown → List ℕ → List ℕ → AllSho
 allJudged Fits x fields cids = x
 allJudged (Fault r) x fields cids = noneShown (AllRefused r) fields cids
 
-unfoldable pub allOf : List ℕ → List ℕ → List ℕ → AllShown
-allOf s fields cids = allJudged (verdictOf s) (allShown s fields cids) fields cids
+unfoldable pub allWith : ZeroSize → List ℕ → List ℕ → List ℕ → AllShown
+allWith z s fields cids = allJudged (verdictWith z s) (allShown s fields cids) fields cids
+
+abbrev pub allOf : List ℕ → List ℕ → List ℕ → AllShown
+allOf s fields cids = allWith byDefault s fields cids

@@ -1,10 +1,11 @@
 // All elements of a DEVICE_SERVICES payload in one pass: what costs one judgement.
 use crate::copy_words;
 use device_services::ELEMENT_FIXED_PART;
-use device_services::judge_list;
+use device_services::judge_list_with;
 use device_services::judged_cid_count;
 use device_services::judged_count;
 use device_services::judged_offset;
+use pairs::ZeroSize;
 use protocol::OUTPUT_TOO_SMALL;
 use protocol::Refusal;
 use protocol::Verdict;
@@ -13,9 +14,8 @@ ghost use Prim.Native.Nat.{_*_, _≤_};
 ghost use lib.ListN.{length};
 ghost use lib.Seq.{sets};
 ghost use Rattle.folds.specs.Folds.{sumOf};
-ghost use Rattle.protocol.specs.declared.Verdict.the-variants.{Fits};
-ghost use Rattle.device_services.specs.DeviceServices.{verdictOf};
-ghost use Rattle.services_query.specs.ServicesQuery.{cidsOfElement, allFields, allCids, allShown, allOf};
+ghost use Rattle.device_services.specs.DeviceServices.{countOf};
+ghost use Rattle.services_query.specs.ServicesQuery.{cidsOfElement, allFields, allCids, allShown, allWith, allOf};
 
 // How many elements and CIDs stand at the fronts of the caller's lists.
 pub enum AllAnswer {
@@ -33,7 +33,21 @@ pub fn all_elements(payload: &[u8], fields: &mut [u32], cids: &mut [u32]) -> All
     ensures { λ _. ⌜ now (fields .exit) ≡ allOf (now (payload .entry)) (now (fields .entry)) (now (cids .entry)) .fields ⌝ }
     ensures { λ _. ⌜ now (cids .exit) ≡ allOf (now (payload .entry)) (now (fields .entry)) (now (cids .entry)) .cids ⌝ }
 {
-    match judge_list(payload) {
+    all_elements_with(ZeroSize::Absent, payload, fields, cids)
+}
+
+// By the caller's choice.
+pub fn all_elements_with(
+    zero_size: ZeroSize,
+    payload: &[u8],
+    fields: &mut [u32],
+    cids: &mut [u32],
+) -> AllAnswer
+    ensures { λ r. ⌜ r ≡ allWith «zero_size» (now (payload .entry)) (now (fields .entry)) (now (cids .entry)) .answer ⌝ }
+    ensures { λ _. ⌜ now (fields .exit) ≡ allWith «zero_size» (now (payload .entry)) (now (fields .entry)) (now (cids .entry)) .fields ⌝ }
+    ensures { λ _. ⌜ now (cids .exit) ≡ allWith «zero_size» (now (payload .entry)) (now (fields .entry)) (now (cids .entry)) .cids ⌝ }
+{
+    match judge_list_with(zero_size, payload) {
         Verdict::Fits => show_all(payload, fields, cids),
         Verdict::Fault(refusal) => AllAnswer::Refused(refusal),
     }
@@ -41,7 +55,7 @@ pub fn all_elements(payload: &[u8], fields: &mut [u32], cids: &mut [u32]) -> All
 
 // The room of both lists is judged, that of the elements first.
 fn show_all(payload: &[u8], fields: &mut [u32], cids: &mut [u32]) -> AllAnswer
-    requires { ⌜ verdictOf (now payload) ≡ Fits ⌝ }
+    requires { ⌜ countOf (now payload) ≤ 32 ⌝ }
     ensures { λ r. ⌜ r ≡ allShown (now (payload .entry)) (now (fields .entry)) (now (cids .entry)) .answer ⌝ }
     ensures { λ _. ⌜ now (fields .exit) ≡ allShown (now (payload .entry)) (now (fields .entry)) (now (cids .entry)) .fields ⌝ }
     ensures { λ _. ⌜ now (cids .exit) ≡ allShown (now (payload .entry)) (now (fields .entry)) (now (cids .entry)) .cids ⌝ }

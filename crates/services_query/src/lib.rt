@@ -5,11 +5,13 @@ pub mod all;
 use device_services::DeviceService;
 use device_services::ELEMENT_FIXED_PART;
 use device_services::judge_list;
+use device_services::judge_list_with;
 use device_services::judged_cid;
 use device_services::judged_cid_count;
 use device_services::judged_count;
 use device_services::judged_element;
 use device_services::judged_offset;
+use pairs::ZeroSize;
 use protocol::OUTPUT_TOO_SMALL;
 use protocol::Refusal;
 use protocol::Verdict;
@@ -24,7 +26,7 @@ ghost use lib.ListN.{length};
 ghost use lib.Seq.{sets};
 ghost use Rattle.folds.specs.Folds.{anyOf, firstIndex};
 ghost use Rattle.device_services.specs.DeviceServices.{offsetOf};
-ghost use Rattle.services_query.specs.ServicesQuery.{wordsAt, isOf, isCid, hasCid, holds, elementShown, chosenShown, elementOf, cidsOf, listedOf};
+ghost use Rattle.services_query.specs.ServicesQuery.{wordsAt, isOf, isCid, hasCid, holds, elementShown, chosenShown, elementWith, elementOf, cidsWith, cidsOf, listedWith, listedOf};
 
 // An element's fields; its CIDs stand at the front of the caller's list.
 pub enum ElementAnswer {
@@ -44,7 +46,20 @@ pub fn element(payload: &[u8], number: u32, cids: &mut [u32]) -> ElementAnswer
     ensures { λ r. ⌜ r ≡ elementOf (now (payload .entry)) number (now (cids .entry)) .answer ⌝ }
     ensures { λ _. ⌜ now (cids .exit) ≡ elementOf (now (payload .entry)) number (now (cids .entry)) .output ⌝ }
 {
-    match judge_list(payload) {
+    element_with(ZeroSize::Absent, payload, number, cids)
+}
+
+// `.._with`: by the caller's choice.
+pub fn element_with(
+    zero_size: ZeroSize,
+    payload: &[u8],
+    number: u32,
+    cids: &mut [u32],
+) -> ElementAnswer
+    ensures { λ r. ⌜ r ≡ elementWith «zero_size» (now (payload .entry)) number (now (cids .entry)) .answer ⌝ }
+    ensures { λ _. ⌜ now (cids .exit) ≡ elementWith «zero_size» (now (payload .entry)) number (now (cids .entry)) .output ⌝ }
+{
+    match judge_list_with(zero_size, payload) {
         Verdict::Fits => show_chosen(payload, number, cids),
         Verdict::Fault(refusal) => ElementAnswer::Refused(refusal),
     }
@@ -64,11 +79,41 @@ pub fn cids_of(payload: &[u8], service: ServiceId, cids: &mut [u32]) -> ElementA
     }
 }
 
+// Said again, so that neither answer is copied on its way.
+pub fn cids_of_with(
+    zero_size: ZeroSize,
+    payload: &[u8],
+    service: ServiceId,
+    cids: &mut [u32],
+) -> ElementAnswer
+    ensures { λ r. ⌜ r ≡ cidsWith «zero_size» (now (payload .entry)) service (now (cids .entry)) .answer ⌝ }
+    ensures { λ _. ⌜ now (cids .exit) ≡ cidsWith «zero_size» (now (payload .entry)) service (now (cids .entry)) .output ⌝ }
+{
+    match judge_list_with(zero_size, payload) {
+        Verdict::Fits => {
+            let number = index_of(payload, service, judged_count(payload));
+            show_chosen(payload, number, cids)
+        }
+        Verdict::Fault(refusal) => ElementAnswer::Refused(refusal),
+    }
+}
+
 // Whether any element is of the service and holds the CID.
 pub fn is_listed(payload: &[u8], service: ServiceId, cid: u32) -> ListedAnswer
     ensures { λ r. ⌜ r ≡ listedOf (now (payload .entry)) service cid ⌝ }
 {
-    match judge_list(payload) {
+    is_listed_with(ZeroSize::Absent, payload, service, cid)
+}
+
+pub fn is_listed_with(
+    zero_size: ZeroSize,
+    payload: &[u8],
+    service: ServiceId,
+    cid: u32,
+) -> ListedAnswer
+    ensures { λ r. ⌜ r ≡ listedWith «zero_size» (now (payload .entry)) service cid ⌝ }
+{
+    match judge_list_with(zero_size, payload) {
         Verdict::Fits => {
             if is_any_holding(payload, service, cid, judged_count(payload)) {
                 return ListedAnswer::Listed;

@@ -19,7 +19,7 @@ use Rattle.folds.specs.Stands.{Stands}
 use Rattle.folds.proofs.Laws.{join-same, sum-same, sum-within, list-same, list-take}
 use Rattle.folds.proofs.Standing.{left, part, word}
 use Rattle.device_services.specs.DeviceServices.{offsetOf, cidCountAt, cidsAt, countOf as countAt}
-use Rattle.services_query.specs.ServicesQuery.{wordsAt, allFields, cidsOfElement, allCids, allShown, allOf}
+use Rattle.services_query.specs.ServicesQuery.{wordsAt, allFields, cidsOfElement, allCids, allShown, allWith}
 use Rattle.services_writer.specs.declared.ServiceElement.{ServiceElement}
 use Rattle.services_writer.specs.declared.ServiceList.{ServiceList}
 use Rattle.services_writer.specs.ServicesWriter.{startOf, writtenVerdict, fieldBytes, cidPiece, cidBytes, elementBytes, bytesOf}
@@ -109,15 +109,15 @@ module _ (max : ℕ) (fields cids : List ℕ) (sessions : max < 2 ^ 32) (wf : Nu
   listed-back = count-back p width fit
 
 pub all-read-back : AllReadBack
-unfolding writeAllOf allOf allShown p
-all-read-back max fields cids s n m wf wc e f c rf rc =
+unfolding writeAllOf allWith allShown p
+all-read-back choice max fields cids s n m wf wc e f c rf rc =
     let b = bytesOf (recordOf max fields cids) in
     let ok = written-fits (listsVerdict max fields cids) b s n e in
     let room : ltb (length f) (7 * countOf fields) ≡ false = le-ltb (length f) (7 * countOf fields) (omega (arith, whole max fields cids m wf wc ok)) in
     let room2 : ltb (length c) (length cids) ≡ false = le-ltb (length c) (length cids) rc in
     rw (
       written-front (listsVerdict max fields cids) b s n e,
-      bytes-fit (recordOf max fields cids) (width max fields cids m wf wc ok) (fit max fields cids m wf wc ok),
+      bytes-fit (recordOf max fields cids) (width max fields cids m wf wc ok) (fit max fields cids m wf wc ok) choice,
       listed-back max fields cids m wf wc ok,
       room,
       total-back max fields cids m wf wc ok,

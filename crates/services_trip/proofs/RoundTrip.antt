@@ -22,12 +22,14 @@ use Rattle.folds.specs.Stands.{Stands}
 use Rattle.folds.proofs.Laws.{any-same, index-same, list-same, list-take}
 use Rattle.folds.proofs.Standing.{whole, left, right, part, inside, word}
 use Rattle.pairs.specs.Pair.{rangeAt, rangeBytes}
-use Rattle.device_services.specs.DeviceServices.{headAt, pairPlace, fixedPart, offsetOf, cidCountAt, elementAt, cidAt, cidsAt, verdictOf, readOf}
+use Rattle.device_services.specs.DeviceServices.{headAt, pairPlace, fixedPart, offsetOf, cidCountAt, elementAt, cidAt, cidsAt, verdictWith, readWith}
+use Rattle.pairs.specs.Pair.{byDefault}
+use Rattle.pairs.specs.declared.ZeroSize.{ZeroSize}
 use Rattle.device_services.specs.Claims.{ElementFits}
 use Rattle.device_services.proofs.Acceptance.{said-list}
 use Rattle.services_query.specs.declared.ElementAnswer.the-variants.{NotListed}
 use Rattle.services_query.specs.declared.ListedAnswer.the-variants.{Listed, NotListed as IsNotListed}
-use Rattle.services_query.specs.ServicesQuery.{isOf, isCid, hasCid, holds, plain, elementShown, chosenShown, elementOf as shownOf, cidsOf, listedOf}
+use Rattle.services_query.specs.ServicesQuery.{isOf, isCid, hasCid, holds, plain, elementShown, chosenShown, elementWith as shownWith, cidsWith, listedWith, listedOf}
 use Rattle.services_writer.specs.declared.ServiceList.{ServiceList}
 use Rattle.services_writer.specs.ServicesWriter.{elementOf, sizeOf, startOf, lengthOf, writtenVerdict, fieldBytes, cidPiece, cidBytes, elementBytes, headBytes, pairBytes, piece, bytesOf, writeOf}
 use Rattle.services_writer.proofs.Laws.{length-fields, length-cids, length-pairs, length-pieces, length-bytes, start-within, Fitting, fitting, size-within}
@@ -160,10 +162,10 @@ module _ (p : ServiceList) (z : OfWidth p) (ok : writtenVerdict p ≡ Fits) wher
   -- ---- the list
 
   -- what the writer gives keeps the reader's rules
-  pub bytes-fit : verdictOf (bytesOf p) ≡ Fits
+  pub bytes-fit : (choice : ZeroSize) → verdictWith choice (bytesOf p) ≡ Fits
   unfolding startOf
-  bytes-fit =
-      said-list (bytesOf p)
+  bytes-fit choice =
+      said-list choice (bytesOf p)
       (record {
         few = omega (arith, count-back, fits .few);
         fixed = omega (arith, count-back, length-bytes p);
@@ -180,20 +182,20 @@ module _ (p : ServiceList) (z : OfWidth p) (ok : writtenVerdict p ≡ Fits) wher
       by-test true t = shown-back i (ltb-true i (p .«device_services_count») t) out
       by-test false t = refl
 
-  pub bytes-read : Returned p (bytesOf p)
-  unfolding readOf headAt shownOf cidsOf listedOf
-  bytes-read = record {
-    read = rw (bytes-fit, count-back, sessions-back);
-    element = λ i out. rw bytes-fit (chosen-back i out);
-    service = λ service out. rw (bytes-fit, count-back, index-same (isOf (bytesOf p) service) (servesIn p service) (p .«device_services_count») (λ i l. serves-back i l service)) (chosen-back _ out);
-    listed = λ service cid. rw (bytes-fit, count-back, any-same (holds (bytesOf p) service cid) (holdsIn p service cid) (p .«device_services_count») (λ i l. holds-back i l service cid));
+  pub bytes-read : (choice : ZeroSize) → Returned choice p (bytesOf p)
+  unfolding readWith headAt shownWith cidsWith listedWith
+  bytes-read choice = record {
+    read = rw (bytes-fit choice, count-back, sessions-back);
+    element = λ i out. rw (bytes-fit choice) (chosen-back i out);
+    service = λ service out. rw (bytes-fit choice, count-back, index-same (isOf (bytesOf p) service) (servesIn p service) (p .«device_services_count») (λ i l. serves-back i l service)) (chosen-back _ out);
+    listed = λ service cid. rw (bytes-fit choice, count-back, any-same (holds (bytesOf p) service cid) (holdsIn p service cid) (p .«device_services_count») (λ i l. holds-back i l service cid));
   }
 
 -- what the writer puts into an output returns the record
 pub round-trip : RoundTrip
 unfolding writeOf
-round-trip p s n z e =
-    rw (written-front (writtenVerdict p) (bytesOf p) s n e) (bytes-read p z (written-fits (writtenVerdict p) (bytesOf p) s n e))
+round-trip choice p s n z e =
+    rw (written-front (writtenVerdict p) (bytesOf p) s n e) (bytes-read p z (written-fits (writtenVerdict p) (bytesOf p) s n e) choice)
 
 -- what is written has room
 pub written-within : (p : ServiceList) (s : List ℕ) (n : ℕ) → writeOf p s .answer ≡ Length n → n ≤ length s
@@ -210,4 +212,4 @@ written-few p s n e = fitting p (written-fits (writtenVerdict p) (bytesOf p) s n
 -- what is listed in an output t as the writer leaves it
 pub listed-written : (p : ServiceList) (s t : List ℕ) (n : ℕ) (service : ServiceId) (cid : ℕ) → OfWidth p → writeOf p s .answer ≡ Length n → t ≡ writeOf p s .output
     → listedOf (take n t) service cid ≡ cond (anyOf (holdsIn p service cid) (p .«device_services_count»)) Listed IsNotListed
-listed-written p s t n service cid z e q = rw q (round-trip p s n z e .listed service cid)
+listed-written p s t n service cid z e q = rw q (round-trip byDefault p s n z e .listed service cid)

@@ -6,7 +6,8 @@ use lib.ListN.{length, getD, take}
 use Rattle.wire.specs.Output.{over}
 use Rattle.protocol.specs.declared.Written.the-variants.{Length}
 use Rattle.services_query.specs.declared.all.AllAnswer.the-variants.{Listed}
-use Rattle.services_query.specs.ServicesQuery.{allOf}
+use Rattle.services_query.specs.ServicesQuery.{allWith}
+use Rattle.pairs.specs.declared.ZeroSize.{ZeroSize}
 use Rattle.services_lists.specs.ServicesLists.{countOf, writeAllOf}
 
 -- each number of a list is of its width
@@ -15,7 +16,7 @@ NumbersOfWidth xs = (k : ℕ) → getD xs k 0 < 2 ^ 32
 
 -- what is written of two lists gives both back, at the fronts of lists f and c with room for them
 abbrev pub AllReadBack : Type 0
-AllReadBack = (max : ℕ) (fields cids s : List ℕ) (n : ℕ) → max < 2 ^ 32 → NumbersOfWidth fields → NumbersOfWidth cids
+AllReadBack = (choice : ZeroSize) (max : ℕ) (fields cids s : List ℕ) (n : ℕ) → max < 2 ^ 32 → NumbersOfWidth fields → NumbersOfWidth cids
     → writeAllOf max fields cids s .answer ≡ Length n → (f c : List ℕ) → length fields ≤ length f → length cids ≤ length c
-    → allOf (take n (writeAllOf max fields cids s .output)) f c
+    → allWith choice (take n (writeAllOf max fields cids s .output)) f c
     ≡ record { answer = Listed (countOf fields) (length cids); fields = over fields f; cids = over cids c }

@@ -16,11 +16,12 @@ use Rattle.folds.specs.Folds.{anyOf, firstIndex}
 use Rattle.device_services.specs.declared.DeviceServices.{DeviceServices}
 use Rattle.device_services.specs.declared.DeviceService.{DeviceService}
 use Rattle.device_services.specs.declared.DeviceServicesRead.the-variants.{Info}
-use Rattle.device_services.specs.DeviceServices.{readOf}
+use Rattle.device_services.specs.DeviceServices.{readWith}
+use Rattle.pairs.specs.declared.ZeroSize.{ZeroSize}
 use Rattle.services_query.specs.declared.ElementAnswer.the-variants.{Listed, NotListed, Refused}
 use Rattle.services_query.specs.declared.ListedAnswer.{ListedAnswer}
 use Rattle.services_query.specs.declared.ListedAnswer.the-variants.{Listed as IsListed, NotListed as IsNotListed, Refused as IsRefused}
-use Rattle.services_query.specs.ServicesQuery.{Shown, plain, elementOf as shownOf, cidsOf, listedOf}
+use Rattle.services_query.specs.ServicesQuery.{Shown, plain, elementWith as shownWith, cidsWith, listedWith}
 use Rattle.services_writer.specs.declared.ServiceElement.{ServiceElement}
 use Rattle.services_writer.specs.declared.ServiceList.{ServiceList}
 use Rattle.services_writer.specs.ServicesWriter.{elementOf, writeOf}
@@ -52,13 +53,13 @@ servesIn p service i = sameId (elementOf p i .fields .«device_service_id») ser
 unfoldable pub holdsIn : ServiceList → ServiceId → ℕ → ℕ → Bool
 holdsIn p service cid i = servesIn p service i && anyOf (λ k. eqb (getD (elementOf p i .cids) k 0) cid) (elementOf p i .fields .«cid_count»)
 
--- ---- the bytes s return the record: its numbers, every element, every CID, and what it lists
+-- ---- the bytes s return the record, by the reader's choice: its numbers, every element, every CID, and what it lists
 
-pub record Returned (p : ServiceList) (s : List ℕ) : Type 0 where
-  pub read : readOf s ≡ Info (headOf p)
-  pub element : (i : ℕ) (out : List ℕ) → shownOf s i out ≡ chosenIn p i out
-  pub service : (service : ServiceId) (out : List ℕ) → cidsOf s service out ≡ chosenIn p (firstIndex (servesIn p service) (p .«device_services_count»)) out
-  pub listed : (service : ServiceId) (cid : ℕ) → listedOf s service cid ≡ cond (anyOf (holdsIn p service cid) (p .«device_services_count»)) IsListed IsNotListed
+pub record Returned (choice : ZeroSize) (p : ServiceList) (s : List ℕ) : Type 0 where
+  pub read : readWith choice s ≡ Info (headOf p)
+  pub element : (i : ℕ) (out : List ℕ) → shownWith choice s i out ≡ chosenIn p i out
+  pub service : (service : ServiceId) (out : List ℕ) → cidsWith choice s service out ≡ chosenIn p (firstIndex (servesIn p service) (p .«device_services_count»)) out
+  pub listed : (service : ServiceId) (cid : ℕ) → listedWith choice s service cid ≡ cond (anyOf (holdsIn p service cid) (p .«device_services_count»)) IsListed IsNotListed
 
 -- ---- written and asked: the writer's refusal, or whether the record holds both
 
@@ -91,4 +92,5 @@ pub record OfWidth (p : ServiceList) : Type 0 where
 
 -- what the writer puts into an output returns the record
 abbrev pub RoundTrip : Type 0
-RoundTrip = (p : ServiceList) (s : List ℕ) (n : ℕ) → OfWidth p → writeOf p s .answer ≡ Length n → Returned p (take n (writeOf p s .output))
+RoundTrip =
+    (choice : ZeroSize) (p : ServiceList) (s : List ℕ) (n : ℕ) → OfWidth p → writeOf p s .answer ≡ Length n → Returned choice p (take n (writeOf p s .output))

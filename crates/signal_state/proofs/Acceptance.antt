@@ -1,5 +1,5 @@
 -- A payload is accepted exactly when it meets the rules in words of fields, and then the record and the entries shown are those at their
--- places.
+-- places. The reader's choice is a parameter.
 -- Assumes nothing.
 use mathlib.Core.Path.{_≡_, refl, sym, ap, _∙_}
 use mathlib.Core.Logic.{_↔_, _⊎_, inl, inr, ⊎-map, ⊎-elim}
@@ -30,6 +30,7 @@ use Rattle.lists.specs.Lists.{absentIn}
 use Rattle.lists.specs.Claims.{Whole}
 use Rattle.pairs.specs.declared.Range.{Range}
 use Rattle.pairs.specs.declared.PairKind.the-variants.{List as ListKind}
+use Rattle.pairs.specs.declared.ZeroSize.{ZeroSize}
 use Rattle.pairs.proofs.Laws.{size-said, said-size}
 use Rattle.lists.proofs.Behind.{behind-said, said-behind}
 use Rattle.signal_state.specs.declared.RsrpSnr.{RsrpSnr}
@@ -38,7 +39,7 @@ use Rattle.signal_state.specs.declared.SignalForm.the-variants.{V1 as Fo
 use Rattle.signal_state.specs.declared.SignalState.{SignalState}
 use Rattle.signal_state.specs.declared.SignalStateRead.the-variants.{Info, Refused}
 use Rattle.signal_state.specs.declared.SignalStateShown.{SignalStateShown}
-use Rattle.signal_state.specs.SignalState.{listForm, countAt, listPlace, entryPlace, entryAt, unmarked, numberRules, listRules, entryRules, entriesVerdict, isKnown, anyKnown, contradicts, bodyVerdict, headOf, headVerdict, verdictAt, shown, recordAt, shownEntries, readOf, entryIn, sizeOf, limitVerdict, listedVerdict, verdictIn, bytesOf, writtenVerdict, writeOf}
+use Rattle.signal_state.specs.SignalState.{listForm, countAt, listPlace, entryPlace, entryAt, unmarked, numberRules, listRules, entryRules, entriesVerdict, isKnown, anyKnown, contradicts, bodyVerdict, headOf, headVerdict, verdictAt, shown, recordAt, shownEntries, readWith, entryIn, sizeOf, limitVerdict, listedVerdict, verdictIn, bytesOf, writtenVerdict, writeOf}
 use Rattle.signal_state.specs.Claims.{info, Marked, CountFits, EntryFits, Unknown, Acceptable, FormWritable, Writable, Accepted, AcceptedExactly, WrittenExactly, OneSystemBit}
 use Rattle.signal_state.proofs.Laws.{size-small, small-size}
 
@@ -118,20 +119,20 @@ said-numbers : (rssi rate : ℕ) → Marked 31 rssi → Marked 7 rate → Kept (
 unfolding numberRules
 said-numbers rssi rate a b = (said-marked 31 rssi a, (said-marked 7 rate b, tt))
 
-fields-said : (v : Version) (s : List ℕ) → verdictAt v s ≡ Fits → Acceptable v s
+fields-said : (v : Version) (z : ZeroSize) (s : List ℕ) → verdictAt v z s ≡ Fits → Acceptable v z s
 unfolding verdictAt headOf listRules
-fields-said V1 s e =
+fields-said V1 z s e =
     let k = then-kept (exactLength 20 (length s)) (numberRules (u32At s 0) (u32At s 4)) e in
     let n = numbers-said (u32At s 0) (u32At s 4) (k .1) in
     record { rssi = n .0; rate = n .1; form = exact-length 20 (length s) (k .0) }
-fields-said V2 s e =
-    let head = left-fits (headVerdict s) _ e in
-    let body = right-fits (headVerdict s) _ e in
+fields-said V2 z s e =
+    let head = left-fits (headVerdict z s) _ e in
+    let body = right-fits (headVerdict z s) _ e in
     let fields = right-fits (openLength 28 (length s)) _ head in
     let later = right-fits (judge (numberRules (u32At s 0) (u32At s 4))) _ fields in
     let long = open-length 28 (length s) (left-fits _ _ head) in
     let n = numbers-said (u32At s 0) (u32At s 4) (fits-kept (numberRules (u32At s 0) (u32At s 4)) (left-fits _ _ fields)) in
-    let list = behind-said listForm 28 20 s later in
+    let list = behind-said z listForm 28 20 s later in
     record {
       rssi = n .0;
       rate = n .1;
@@ -149,22 +150,22 @@ fields-said V2 s e =
       );
     }
 
-said-fields : (v : Version) (s : List ℕ) → Acceptable v s → verdictAt v s ≡ Fits
+pub said-fields : (v : Version) (z : ZeroSize) (s : List ℕ) → Acceptable v z s → verdictAt v z s ≡ Fits
 unfolding verdictAt headOf listRules firstOf
-said-fields V1 s a =
+said-fields V1 z s a =
     kept-then (exactLength 20 (length s)) (numberRules (u32At s 0) (u32At s 4)) (length-exact 20 (length s) (a .form)) (said-numbers (u32At s 0) (u32At s 4) (a .rssi) (a .rate))
-said-fields V2 s a =
+said-fields V2 z s a =
     let l = a .form .1 .1 in
     rw (
       length-open 28 (length s) (a .form .0) (a .form .1 .0),
       kept-fits (numberRules (u32At s 0) (u32At s 4)) (said-numbers (u32At s 0) (u32At s 4) (a .rssi) (a .rate)),
-      said-behind listForm 28 20 s (l .pair) (said-list (rangeAt s 20) (countAt s) (l .list)),
+      said-behind z listForm 28 20 s (l .pair) (said-list (rangeAt s 20) (countAt s) (l .list)),
     )
     (said-body (u32At s 0) (listPlace s) (entryAt s (listPlace s)) (countAt s) (l .entries) (l .alone))
 
 -- ---- accepted exactly when the rules hold
 
-shows : (d : Verdict) (p q : SignalState) (es fs : List RsrpSnr) → shown d p es ≡ info q fs → (d ≡ Fits) × ((p ≡ q) × (es ≡ fs))
+pub shows : (d : Verdict) (p q : SignalState) (es fs : List RsrpSnr) → shown d p es ≡ info q fs → (d ≡ Fits) × ((p ≡ q) × (es ≡ fs))
 shows Fits p q es fs e =
     let a : Info p ≡ Info q = ap (λ (x : SignalStateShown). x .answer) e in
     (refl, (cc, ap (λ (x : SignalStateShown). x .entries) e))
@@ -174,17 +175,17 @@ shows (Fault r) p q es fs e =
 
 -- an accepted payload keeps the rules, and shows the record and the entries at their places
 pub accepted : Accepted
-unfolding readOf
-accepted v s p es e =
-    let d = shows (verdictAt v s) (recordAt v s) p (shownEntries v s) es e in
-    (fields-said v s (d .0), (sym (d .1 .0), sym (d .1 .1)))
+unfolding readWith
+accepted v z s p es e =
+    let d = shows (verdictAt v z s) (recordAt v s) p (shownEntries v s) es e in
+    (fields-said v z s (d .0), (sym (d .1 .0), sym (d .1 .1)))
 
-pub acceptable : (v : Version) (s : List ℕ) → Acceptable v s → readOf v s ≡ info (recordAt v s) (shownEntries v s)
-unfolding readOf
-acceptable v s a = ap (λ (d : Verdict). shown d (recordAt v s) (shownEntries v s)) (said-fields v s a)
+pub acceptable : (v : Version) (z : ZeroSize) (s : List ℕ) → Acceptable v z s → readWith v z s ≡ info (recordAt v s) (shownEntries v s)
+unfolding readWith
+acceptable v z s a = ap (λ (d : Verdict). shown d (recordAt v s) (shownEntries v s)) (said-fields v z s a)
 
 pub accepted-exactly : AcceptedExactly
-accepted-exactly v s = (λ e. accepted v s (recordAt v s) (shownEntries v s) e .0, acceptable v s)
+accepted-exactly v z s = (λ e. accepted v z s (recordAt v s) (shownEntries v s) e .0, acceptable v z s)
 
 -- ---- a writer accepts exactly what its rules allow, where it has room
 

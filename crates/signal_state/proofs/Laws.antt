@@ -22,18 +22,19 @@ use Rattle.protocol.specs.declared.Written.{Written}
 use Rattle.protocol.proofs.Verdicts.{left-fits, right-fits, not-broken, open-length}
 use Rattle.folds.specs.Folds.{listOf, joined}
 use Rattle.folds.proofs.Laws.{fits-next, fault-at, any-next, fault-same, any-same, length-list, length-joined}
-use Rattle.pairs.specs.Pair.{rangeAt, placed, rangeBytes}
+use Rattle.pairs.specs.Pair.{rangeAt, shownAt, placed, rangeBytes}
+use Rattle.pairs.specs.declared.ZeroSize.{ZeroSize}
 use Rattle.lists.specs.Lists.{listVerdict}
-use Rattle.pairs.specs.Claims.{Absent, Inside}
+use Rattle.pairs.specs.Claims.{Safe}
 use Rattle.lists.specs.Claims.{Whole}
 use Rattle.pairs.specs.declared.Range.{Range}
 use Rattle.pairs.specs.declared.PairKind.the-variants.{List as ListKind}
-use Rattle.pairs.proofs.Laws.{size-said}
+use Rattle.pairs.proofs.Laws.{size-said, shown-safe}
 use Rattle.lists.proofs.Behind.{behind-said}
 use Rattle.signal_state.specs.declared.RsrpSnr.{RsrpSnr}
 use Rattle.signal_state.specs.declared.SignalForm.{SignalForm}
 use Rattle.signal_state.specs.declared.SignalState.{SignalState}
-use Rattle.signal_state.specs.SignalState.{listForm, countAt, entryPlace, zeroEntry, noEntries, sixteen, numberRules, listRules, entryRules, entriesVerdict, isKnown, anyKnown, contradicts, bodyVerdict, headOf, headVerdict, entryIn, sizeOf, limitVerdict, listedVerdict, numberBytes, entryBytes, entriesBytes, listBytes, listedBytes, listPlace, verdictAt, refused, readEntries, readOf, verdictIn, bytesIn, writeOf}
+use Rattle.signal_state.specs.SignalState.{listForm, countAt, entryPlace, zeroEntry, noEntries, sixteen, numberRules, listRules, entryRules, entriesVerdict, isKnown, anyKnown, contradicts, bodyVerdict, headOf, headVerdict, entryIn, sizeOf, limitVerdict, listedVerdict, numberBytes, entryBytes, entriesBytes, listBytes, listedBytes, listPlace, verdictAt, refused, readEntries, readWith, verdictIn, bytesIn, writeOf}
 
 -- ---- entries one by one
 
@@ -97,26 +98,27 @@ unfolding limitVerdict
 limit-small p n e = size-small n (size-said ListKind 324 (sizeOf n) (not-broken _ wrongSize 20 (right-fits _ _ e)) .small)
 
 -- a list that fits is absent, or has from 1 to 16 entries
-listed : (s : List ℕ) → headVerdict s ≡ Fits → listVerdict listForm 28 20 s ≡ Fits
+listed : (z : ZeroSize) (s : List ℕ) → headVerdict z s ≡ Fits → listVerdict z listForm 28 20 s ≡ Fits
 unfolding headOf listRules
-listed s e = right-fits (judge (numberRules _ _)) _ (right-fits (openLength 28 (length s)) _ e)
+listed z s e = right-fits (judge (numberRules _ _)) _ (right-fits (openLength 28 (length s)) _ e)
 
-pub count-small : (s : List ℕ) → headVerdict s ≡ Fits → countAt s ≤ 16
-count-small s e = ⊎-elim (λ a. rw a (omega arith)) (λ w. w .most) (behind-said listForm 28 20 s (listed s e) .1)
+pub count-small : (z : ZeroSize) (s : List ℕ) → headVerdict z s ≡ Fits → countAt s ≤ 16
+count-small z s e = ⊎-elim (λ a. rw a (omega arith)) (λ w. w .most) (behind-said z listForm 28 20 s (listed z s e) .1)
 
 -- and it stands within the payload
-within : (s : List ℕ) (p : Range) (n : ℕ) → 28 ≤ length s → Absent p ⊎ Inside 28 (length s) p → ((n ≡ 0) × (p .length ≡ 0)) ⊎ Whole listForm p n → p .start + 4 + 20 * n ≤ length s
+within : (s : List ℕ) (p : Range) (n : ℕ) → 28 ≤ length s → Safe 28 (length s) p → ((n ≡ 0) × (p .length ≡ 0)) ⊎ Whole listForm p n → p .start + 4 + 20 * n ≤ length s
 within s p n l (inl a) (inl z) = omega (arith, a .nowhere, z .0)
 within s p n l (inl a) (inr w) = absurd (omega (arith, a .empty, w .size))
 within s p n l (inr i) (inl z) = absurd (omega (arith, i .some, z .1))
 within s p n l (inr i) (inr w) = omega (arith, i .within, w .size)
 
-pub list-within : (s : List ℕ) → headVerdict s ≡ Fits → listPlace s + 4 + 20 * countAt s ≤ length s
-unfolding headOf
-list-within s e =
+pub list-within : (z : ZeroSize) (s : List ℕ) → headVerdict z s ≡ Fits → listPlace s + 4 + 20 * countAt s ≤ length s
+unfolding headOf shownAt
+list-within z s e =
     let long = open-length 28 (length s) (left-fits (openLength 28 (length s)) _ e) .0 in
-    let k = behind-said listForm 28 20 s (listed s e) in
-    within s (rangeAt s 20) (countAt s) long (k .0 .safe) (⊎-map (λ a. (rw a refl, eqb-true (rangeAt s 20 .length) 0 a)) (λ w. w) (k .1))
+    let k = behind-said z listForm 28 20 s (listed z s e) in
+    within s (shownAt s 20) (countAt s) long (shown-safe z ListKind 28 324 (length s) (rangeAt s 20) (k .0))
+    (⊎-map (λ a. (rw a refl, eqb-true (rangeAt s 20 .length) 0 a)) (λ w. record { some = w .some; most = w .most; size = w .size }) (k .1))
 
 -- ---- lengths
 
@@ -148,13 +150,13 @@ bytes-most p n f e = omega (arith, length-listed p n f, small-size n (limit-smal
 
 -- ---- what a reader shows behind the head
 
-pub read-through : (s : List ℕ) → headVerdict s ≡ Fits → readEntries s (listPlace s) (countAt s) ≡ readOf V2 s
-unfolding readOf verdictAt readEntries firstOf
-read-through s e = rw e
+pub read-through : (z : ZeroSize) (s : List ℕ) → headVerdict z s ≡ Fits → readEntries s (listPlace s) (countAt s) ≡ readWith V2 z s
+unfolding readWith verdictAt readEntries firstOf
+read-through z s e = rw e
 
-pub read-refused : (s : List ℕ) (r : Refusal) → headVerdict s ≡ Fault r → refused r ≡ readOf V2 s
-unfolding readOf verdictAt firstOf
-read-refused s r e = rw e
+pub read-refused : (z : ZeroSize) (s : List ℕ) (r : Refusal) → headVerdict z s ≡ Fault r → refused r ≡ readWith V2 z s
+unfolding readWith verdictAt firstOf
+read-refused z s r e = rw e
 
 -- ---- what a writer stores and answers
 

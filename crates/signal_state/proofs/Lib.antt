@@ -1,4 +1,5 @@
 pub mod Laws
 pub mod Acceptance
+pub mod Choices
 pub mod RoundTrip
 pub mod OtherVersion

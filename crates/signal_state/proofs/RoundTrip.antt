@@ -1,4 +1,4 @@
--- Reading what the writer gives returns the record and the entries, zero past the count.
+-- Reading what the writer gives returns the record and the entries, zero past the count, by either choice.
 -- Assumes nothing.
 use mathlib.Core.Path.{_≡_, refl, sym, ap, _∙_}
 use mathlib.Core.Logic.{_⊎_, inl, inr}
@@ -22,10 +22,11 @@ use Rattle.folds.specs.Folds.{firstFault, anyOf, listOf}
 use Rattle.folds.specs.Stands.{Stands}
 use Rattle.folds.proofs.Laws.{list-same}
 use Rattle.folds.proofs.Standing.{whole, left, right, part, word}
-use Rattle.pairs.specs.Pair.{range, rangeAt, unfit, placed, rangeBytes}
+use Rattle.pairs.specs.Pair.{range, rangeAt, unfit, placed, asShown, shownAt, rangeBytes}
 use Rattle.pairs.specs.Claims.{RangeOfWidth}
 use Rattle.pairs.specs.declared.Range.{Range}
 use Rattle.pairs.specs.declared.PairKind.the-variants.{List as ListKind}
+use Rattle.pairs.specs.declared.ZeroSize.{ZeroSize}
 use Rattle.pairs.proofs.Laws.{placed-fits, placed-sized, range-back}
 use Rattle.lists.proofs.Behind.{said-list as said-behind}
 use Rattle.signal_state.specs.declared.RsrpSnr.{RsrpSnr}
@@ -34,7 +35,7 @@ use Rattle.signal_state.specs.declared.SignalForm.the-variants.{V1 as Fo
 use Rattle.signal_state.specs.declared.SignalState.{SignalState}
 use Rattle.signal_state.specs.declared.SignalStateRead.the-variants.{Info}
 use Rattle.signal_state.specs.declared.SignalStateShown.{SignalStateShown}
-use Rattle.signal_state.specs.SignalState.{stateAt, listForm, countIn, entryPlace, entryAt, noEntries, sixteen, entriesAt, numberRules, listRules, entriesVerdict, anyKnown, bodyVerdict, headOf, verdictAt, shown, readOf, versionIn, versionOf, entryIn, sizeOf, limitVerdict, listedVerdict, numberBytes, entryBytes, entriesBytes, listBytes, listedBytes, verdictIn, bytesIn, bytesOf, writtenVerdict, writeOf}
+use Rattle.signal_state.specs.SignalState.{stateAt, listForm, countIn, entryPlace, entryAt, noEntries, sixteen, entriesAt, numberRules, listRules, entriesVerdict, anyKnown, bodyVerdict, headOf, verdictAt, shown, readWith, versionIn, versionOf, entryIn, sizeOf, limitVerdict, listedVerdict, numberBytes, entryBytes, entriesBytes, listBytes, listedBytes, verdictIn, bytesIn, bytesOf, writtenVerdict, writeOf}
 use Rattle.signal_state.specs.Claims.{CountFits, keptIn, OfWidth, EntryOfWidth, EntriesOfWidth, RoundTrip}
 use Rattle.signal_state.proofs.Laws.{body-same, size-is, small-size, limit-small, length-numbers, length-entries, length-listed}
 use Rattle.signal_state.proofs.Acceptance.{said-list}
@@ -110,13 +111,13 @@ module _ (p : SignalState) (m : ℕ) (f : ℕ → RsrpSnr) where
 -- ---- the reader on a writer's bytes
 
 -- what it shows, put together
-read-fits : (s : List ℕ) (p : SignalState) (r : Range) (n : ℕ) (es : List RsrpSnr) → rangeAt s 20 ≡ r → countIn s r ≡ n → headOf s r n ≡ Fits
-    → bodyVerdict (u32At s 0) (r .start) (entryAt s (r .start)) n ≡ Fits → stateAt (Form2 n) s ≡ p → entriesAt s (r .start) n ≡ es
-    → readOf V2 s ≡ record { answer = Info p; entries = es }
-unfolding readOf verdictAt firstOf
-read-fits s p r n es a b c d e f =
+read-fits : (z : ZeroSize) (s : List ℕ) (p : SignalState) (r : Range) (n : ℕ) (es : List RsrpSnr) → rangeAt s 20 ≡ r → countIn s r ≡ n → headOf z s r n ≡ Fits
+    → bodyVerdict (u32At s 0) (asShown r .start) (entryAt s (asShown r .start)) n ≡ Fits → stateAt (Form2 n) s ≡ p → entriesAt s (asShown r .start) n ≡ es
+    → readWith V2 z s ≡ record { answer = Info p; entries = es }
+unfolding readWith verdictAt firstOf shownAt
+read-fits z s p r n es a b c d e f =
     let at : Range → ℕ → SignalStateShown =
-    λ q k. shown (firstOf (headOf s q k) (bodyVerdict (u32At s 0) (q .start) (entryAt s (q .start)) k)) (stateAt (Form2 k) s) (entriesAt s (q .start) k) in
+    λ q k. shown (firstOf (headOf z s q k) (bodyVerdict (u32At s 0) (asShown q .start) (entryAt s (asShown q .start)) k)) (stateAt (Form2 k) s) (entriesAt s (asShown q .start) k) in
     (λ i. at (a i) (countIn s (a i))) ∙ ap (at r) b ∙ (λ i. shown (firstOf (c i) (d i)) (e i) (f i))
 
 size-said : (n : ℕ) → n ≤ 16 → (sizeOf n ≡ 0) ⊎ CountFits (placed 28 (sizeOf n)) n
@@ -127,9 +128,10 @@ list-kept : (p : Range) (n : ℕ) → (p .length ≡ 0) ⊎ CountFits p n → Ke
 unfolding listRules
 list-kept p n h = said-behind listForm 20 p n (said-list p n h)
 
-head-fits : (p : SignalState) (n : ℕ) (f : ℕ → RsrpSnr) → OfWidth p → limitVerdict p n ≡ Fits → headOf (listedBytes p n f) (placed 28 (sizeOf n)) n ≡ Fits
+head-fits : (choice : ZeroSize) (p : SignalState) (n : ℕ) (f : ℕ → RsrpSnr) → OfWidth p → limitVerdict p n ≡ Fits
+    → headOf choice (listedBytes p n f) (placed 28 (sizeOf n)) n ≡ Fits
 unfolding headOf firstOf limitVerdict listedBytes
-head-fits p n f z e =
+head-fits choice p n f z e =
     let s = numberBytes p ++ listBytes n f in
     let l : length s ≡ 28 + sizeOf n = length-listed p n f in
     let few = limit-small p n e in
@@ -140,24 +142,24 @@ head-fits p n f z e =
       rssi-back p (listBytes n f) z,
       rate-back p (listBytes n f) z,
       left-fits (judge (numberRules (p .rssi) (p .«error_rate»))) _ e,
-      placed-fits ListKind 28 324 20 (length s) 28 (sizeOf n) u (omega arith) refl (omega arith),
+      placed-fits choice ListKind 28 324 20 (length s) 28 (sizeOf n) u (omega arith) refl (omega arith),
       kept-fits (listRules (placed 28 (sizeOf n)) n) (list-kept (placed 28 (sizeOf n)) n (size-said n few)),
     )
 
 -- no list: no entries
-none-read : (p : SignalState) (f : ℕ → RsrpSnr) → OfWidth p → p .form ≡ Form2 0 → limitVerdict p 0 ≡ Fits
-    → readOf V2 (listedBytes p 0 f) ≡ record { answer = Info p; entries = sixteen f 0 }
+none-read : (choice : ZeroSize) (p : SignalState) (f : ℕ → RsrpSnr) → OfWidth p → p .form ≡ Form2 0 → limitVerdict p 0 ≡ Fits
+    → readWith V2 choice (listedBytes p 0 f) ≡ record { answer = Info p; entries = sixteen f 0 }
 unfolding listedBytes listBytes bodyVerdict entriesVerdict anyKnown firstFault anyOf listOf firstOf faultIf
-none-read p f z e limit =
+none-read choice p f z e limit =
     let rest = rangeBytes (placed 28 0) ++ [] in
-    read-fits (listedBytes p 0 f) p (placed 28 0) 0 (sixteen f 0) (pair-back p (placed 28 0) [] (placed-sized 28 0 (omega arith) (omega arith))) refl
-    (head-fits p 0 f z limit) refl (state-back p (Form2 0) rest z e) refl
+    read-fits choice (listedBytes p 0 f) p (placed 28 0) 0 (sixteen f 0) (pair-back p (placed 28 0) [] (placed-sized 28 0 (omega arith) (omega arith))) refl
+    (head-fits choice p 0 f z limit) refl (state-back p (Form2 0) rest z e) refl
 
 -- one entry or more
-some-read : (p : SignalState) (m : ℕ) (f : ℕ → RsrpSnr) → OfWidth p → ((i : ℕ) → EntryOfWidth (f i)) → p .form ≡ Form2 (suc m) → limitVerdict p (suc m) ≡ Fits
-    → bodyVerdict (p .rssi) 28 f (suc m) ≡ Fits → readOf V2 (listedBytes p (suc m) f) ≡ record { answer = Info p; entries = sixteen f (suc m) }
+some-read : (choice : ZeroSize) (p : SignalState) (m : ℕ) (f : ℕ → RsrpSnr) → OfWidth p → ((i : ℕ) → EntryOfWidth (f i)) → p .form ≡ Form2 (suc m) → limitVerdict p (suc m) ≡ Fits
+    → bodyVerdict (p .rssi) 28 f (suc m) ≡ Fits → readWith V2 choice (listedBytes p (suc m) f) ≡ record { answer = Info p; entries = sixteen f (suc m) }
 unfolding listedBytes listBytes
-some-read p m f z zs e limit body =
+some-read choice p m f z zs e limit body =
     let n = suc m in
     let s = some p m f in
     let few = limit-small p n limit in
@@ -167,26 +169,29 @@ some-read p m f z zs e limit body =
     let pair : rangeAt s 20 ≡ placed 28 (sizeOf n) = pair-back p (placed 28 (sizeOf n)) _ (placed-sized 28 (sizeOf n) (omega arith) (omega (arith, small-size n few))) in
     let there : eqb (sizeOf n) 0 ≡ false = ne-eqb (sizeOf n) 0 (λ q. omega (arith, size-is m)) in
     let count : countIn s (range 28 (sizeOf n)) ≡ n = ap (λ (b : Bool). cond b 0 (u32At s 28)) there ∙ count-back p m f few in
+    let at : asShown (range 28 (sizeOf n)) .start ≡ 28 = ap (λ (b : Bool). cond b 0 28) there in
     let each = entries-back p m f zs in
-    let head : headOf s (range 28 (sizeOf n)) n ≡ Fits = (λ i. headOf (sym shape i) (sym r i) n) ∙ head-fits p n f z limit in
+    let head : headOf choice s (range 28 (sizeOf n)) n ≡ Fits = (λ i. headOf choice (sym shape i) (sym r i) n) ∙ head-fits choice p n f z limit in
     let all : bodyVerdict (u32At s 0) 28 (entryAt s 28) n ≡ Fits =
     ap (λ (x : ℕ). bodyVerdict x 28 (entryAt s 28) n) (rssi-back p rest z) ∙ body-same (p .rssi) 28 (entryAt s 28) f n each ∙ body in
     let entries : entriesAt s 28 n ≡ sixteen f n = ap (λ (l : List RsrpSnr). l ++ noEntries (16 - n)) (list-same (entryAt s 28) f n each) in
-    ap (readOf V2) shape ∙ read-fits s p (range 28 (sizeOf n)) n (sixteen f n) (pair ∙ r) count head all (state-back p (Form2 n) rest z e) entries
+    ap (readWith V2 choice) shape
+    ∙ read-fits choice s p (range 28 (sizeOf n)) n (sixteen f n) (pair ∙ r) count head (ap (λ (k : ℕ). bodyVerdict (u32At s 0) k (entryAt s k) n) at ∙ all)
+    (state-back p (Form2 n) rest z e) (ap (λ (k : ℕ). entriesAt s k n) at ∙ entries)
 
 -- ---- the round trip
 
-module _ (p : SignalState) (es : List RsrpSnr) (z : OfWidth p) (zs : EntriesOfWidth es) where
+module _ (choice : ZeroSize) (p : SignalState) (es : List RsrpSnr) (z : OfWidth p) (zs : EntriesOfWidth es) where
   listed-read : (n : ℕ) → p .form ≡ Form2 n → listedVerdict p n (entryIn es) ≡ Fits
-      → readOf V2 (listedBytes p n (entryIn es)) ≡ record { answer = Info p; entries = sixteen (entryIn es) n }
+      → readWith V2 choice (listedBytes p n (entryIn es)) ≡ record { answer = Info p; entries = sixteen (entryIn es) n }
   unfolding listedVerdict
-  listed-read zero e v = none-read p (entryIn es) z e (left-fits (limitVerdict p 0) _ v)
+  listed-read zero e v = none-read choice p (entryIn es) z e (left-fits (limitVerdict p 0) _ v)
   listed-read (suc m) e v =
-      some-read p m (entryIn es) z zs e (left-fits (limitVerdict p (suc m)) _ v) (right-fits (limitVerdict p (suc m)) _ v)
+      some-read choice p m (entryIn es) z zs e (left-fits (limitVerdict p (suc m)) _ v) (right-fits (limitVerdict p (suc m)) _ v)
 
   numbers-read : p .form ≡ Form1 → judge (numberRules (p .rssi) (p .«error_rate»)) ≡ Fits
-      → readOf V1 (numberBytes p) ≡ record { answer = Info p; entries = noEntries 16 }
-  unfolding readOf verdictAt firstOf
+      → readWith V1 choice (numberBytes p) ≡ record { answer = Info p; entries = noEntries 16 }
+  unfolding readWith verdictAt firstOf
   numbers-read e v =
       let s = numberBytes p in
       let n : s ++ [] ≡ s = append-nil s in
@@ -198,16 +203,16 @@ module _ (p : SignalState) (es : List RsrpSnr) (z : OfWidth p) (zs : EntriesOfWi
       ∙ ap (λ (d : Verdict). shown d p (noEntries 16)) v
 
   form-read : (g : SignalForm) → p .form ≡ g → verdictIn g p (entryIn es) ≡ Fits
-      → readOf (versionIn g) (bytesIn g p (entryIn es)) ≡ record { answer = Info p; entries = keptIn g es }
+      → readWith (versionIn g) choice (bytesIn g p (entryIn es)) ≡ record { answer = Info p; entries = keptIn g es }
   form-read Form1 e v = numbers-read e v
   form-read (Form2 n) e v = listed-read n e v
 
   -- the bytes of a record that fits, read at its version, show the record and its entries
-  pub bytes-read : writtenVerdict p es ≡ Fits → readOf (versionOf p) (bytesOf p es) ≡ record { answer = Info p; entries = keptIn (p .form) es }
+  pub bytes-read : writtenVerdict p es ≡ Fits → readWith (versionOf p) choice (bytesOf p es) ≡ record { answer = Info p; entries = keptIn (p .form) es }
   bytes-read v = form-read (p .form) refl v
 
 pub round-trip : RoundTrip
 unfolding writeOf
-round-trip p es z zs s n e =
-    ap (readOf (versionOf p)) (written-front (writtenVerdict p es) (bytesOf p es) s n e)
-    ∙ bytes-read p es z zs (written-fits (writtenVerdict p es) (bytesOf p es) s n e)
+round-trip choice p es z zs s n e =
+    ap (readWith (versionOf p) choice) (written-front (writtenVerdict p es) (bytesOf p es) s n e)
+    ∙ bytes-read choice p es z zs (written-fits (writtenVerdict p es) (bytesOf p es) s n e)

@@ -1,4 +1,4 @@
--- The SIGNAL_STATE payload (document 01, "Signal"; source 000, MBIM_SIGNAL_STATE_INFO_V2, MBIM_RSRP_SNR and MBIM_RSRP_SNR_INFO).
+-- The SIGNAL_STATE payload (document 01, "Signal"; document 02, order 10; source 000, MBIM_SIGNAL_STATE_INFO_V2, MBIM_RSRP_SNR and MBIM_RSRP_SNR_INFO).
 -- In this order: the fields and their places; the rules, in the order in which they are judged; what a reader answers; what a writer gives.
 use Prim.Native.Nat.{ℕ, _+_, _*_, _-_}
 use mathlib.Core.Bool.{Bool, true, not, cond, _&&_, _||_}
@@ -15,11 +15,12 @@ use Rattle.protocol.specs.declared.Verdict.the-variants.{Fits, Fault}
 use Rattle.protocol.specs.declared.Version.{Version}
 use Rattle.protocol.specs.declared.Version.the-variants.{V1, V2}
 use Rattle.folds.specs.Folds.{firstFault, anyOf, listOf, joined}
-use Rattle.pairs.specs.Pair.{rangeAt, unfit, verdictOf, placed, rangeBytes}
+use Rattle.pairs.specs.Pair.{byDefault, reached, rangeAt, unfit, verdictOf, placed, shownAt, rangeBytes}
 use Rattle.lists.specs.Lists as lists
 use Rattle.pairs.specs.declared.Range.{Range}
 use Rattle.lists.specs.declared.ListForm.{ListForm}
 use Rattle.pairs.specs.declared.PairKind.the-variants.{List as ListKind}
+use Rattle.pairs.specs.declared.ZeroSize.{ZeroSize}
 use Rattle.signal_state.specs.declared.RsrpSnr.{RsrpSnr}
 use Rattle.signal_state.specs.declared.SignalForm.{SignalForm}
 use Rattle.signal_state.specs.declared.SignalForm.the-variants.{V1 as Form1, V2 as Form2}
@@ -53,8 +54,9 @@ countIn s p = lists.countIn listForm s p
 abbrev pub countAt : List ℕ → ℕ
 countAt s = countIn s (rangeAt s 20)
 
+-- where it is shown; 02, order 10: "For an optional signal list, absent means no entries"
 abbrev pub listPlace : List ℕ → ℕ
-listPlace s = rangeAt s 20 .start
+listPlace s = shownAt s 20 .start
 
 -- entry i of the list at `offset`: RSRP, SNR, two thresholds, SystemType
 abbrev pub entryPlace : ℕ → ℕ → ℕ
@@ -123,21 +125,27 @@ contradicts rssi known = known && not (eqb rssi 99)
 unfoldable pub bodyVerdict : ℕ → ℕ → (ℕ → RsrpSnr) → ℕ → Verdict
 bodyVerdict rssi offset f n = firstOf (entriesVerdict offset f n) (faultIf (contradicts rssi (anyKnown f n)) contradiction 0)
 
--- at 2.00, all that comes before the entries, with the pair p: the fixed part is 28, the limit 324
-unfoldable pub headOf : List ℕ → Range → ℕ → Verdict
-headOf s p count =
+-- at 2.00, all that comes before the entries, with the pair p, by the reader's choice: the fixed part is 28, the limit 324
+unfoldable pub headOf : ZeroSize → List ℕ → Range → ℕ → Verdict
+headOf z s p count =
     firstOf (openLength 28 (length s))
     (firstOf (judge (numberRules (u32At s 0) (u32At s 4)))
-    (firstOf (verdictOf ListKind 28 324 20 (length s) p)
+    (firstOf (verdictOf z ListKind 28 324 20 (length s) p)
     (judge (listRules p count))))
 
-abbrev pub headVerdict : List ℕ → Verdict
-headVerdict s = headOf s (rangeAt s 20) (countAt s)
+abbrev pub headVerdict : ZeroSize → List ℕ → Verdict
+headVerdict z s = headOf z s (rangeAt s 20) (countAt s)
+
+-- what a choice decides: at 1.00 nothing, at 2.00 the pair
+abbrev pub choiceVerdict : Version → ZeroSize → List ℕ → Verdict
+choiceVerdict V1 z s = Fits
+choiceVerdict V2 z s =
+    reached (firstOf (openLength 28 (length s)) (judge (numberRules (u32At s 0) (u32At s 4)))) (verdictOf z ListKind 28 324 20 (length s) (rangeAt s 20))
 
 -- "length 20 at 1.00"
-unfoldable pub verdictAt : Version → List ℕ → Verdict
-verdictAt V1 s = firstOf (exactLength 20 (length s)) (judge (numberRules (u32At s 0) (u32At s 4)))
-verdictAt V2 s = firstOf (headVerdict s) (bodyVerdict (u32At s 0) (listPlace s) (entryAt s (listPlace s)) (countAt s))
+unfoldable pub verdictAt : Version → ZeroSize → List ℕ → Verdict
+verdictAt V1 z s = firstOf (exactLength 20 (length s)) (judge (numberRules (u32At s 0) (u32At s 4)))
+verdictAt V2 z s = firstOf (headVerdict z s) (bodyVerdict (u32At s 0) (listPlace s) (entryAt s (listPlace s)) (countAt s))
 
 -- ---- what a reader answers
 
@@ -156,8 +164,11 @@ abbrev pub shownEntries : Version → List ℕ → List RsrpSnr
 shownEntries V1 s = noEntries 16
 shownEntries V2 s = entriesAt s (listPlace s) (countAt s)
 
-unfoldable pub readOf : Version → List ℕ → SignalStateShown
-readOf v s = shown (verdictAt v s) (recordAt v s) (shownEntries v s)
+unfoldable pub readWith : Version → ZeroSize → List ℕ → SignalStateShown
+readWith v z s = shown (verdictAt v z s) (recordAt v s) (shownEntries v s)
+
+abbrev pub readOf : Version → List ℕ → SignalStateShown
+readOf v s = readWith v byDefault s
 
 -- the reader's part behind the rules of the list
 unfoldable pub readEntries : List ℕ → ℕ → ℕ → SignalStateShown

@@ -3,6 +3,11 @@
 use lists::ListForm;
 use lists::judge_list;
 use lists::judged_list_count;
+use pairs::PairKind;
+use pairs::ZeroSize;
+use pairs::judge;
+use pairs::range_at;
+use pairs::shown_at;
 use protocol::CONTRADICTION;
 use protocol::OUTSIDE_TABLE;
 use protocol::Refusal;
@@ -18,10 +23,11 @@ ghost use mathlib.Core.Path.{_≡_};
 ghost use mathlib.Core.Bool.{_||_};
 ghost use Prim.Native.Nat.{_+_, _*_, _≤_};
 ghost use lib.ListN.{length};
-ghost use Rattle.protocol.specs.Verdict.{judge};
+ghost use Rattle.protocol.specs.Verdict.{judge as judged};
+ghost use Rattle.pairs.specs.Pair.{byDefault};
 ghost use Rattle.protocol.specs.declared.Verdict.the-variants.{Fits};
 ghost use Rattle.protocol.specs.declared.Version.the-variants.{V1, V2};
-ghost use Rattle.signal_state.specs.SignalState.{entryPlace, entryAt, noEntries, entriesAt, stateAt, unmarked, numberRules, entryRules, isKnown, contradicts, bodyVerdict, headVerdict, refused, readEntries, readOf, versionOf};
+ghost use Rattle.signal_state.specs.SignalState.{entryPlace, entryAt, noEntries, entriesAt, stateAt, unmarked, numberRules, entryRules, isKnown, contradicts, bodyVerdict, headVerdict, choiceVerdict, refused, readEntries, readWith, readOf, versionOf};
 
 // One entry of the list.
 #[repr(C)]
@@ -104,6 +110,46 @@ const RSRP_UNKNOWN: u32 = 127;
 
 const SNR_UNKNOWN: u32 = 128;
 
+// By the caller's choice. Where it finds no fault, the answer is the one by default.
+pub fn read_with(version: Version, zero_size: ZeroSize, payload: &[u8]) -> SignalStateShown
+    ensures { λ r. ⌜ r ≡ readWith version «zero_size» (now (payload .entry)) ⌝ }
+{
+    match judge_choice(version, zero_size, payload) {
+        Verdict::Fits => read(version, payload),
+        Verdict::Fault(refusal) => refuse(refusal),
+    }
+}
+
+// The fault of the pair by a choice, where nothing judged before it is at fault; at 1.00 none.
+pub fn judge_choice(version: Version, zero_size: ZeroSize, payload: &[u8]) -> Verdict
+    ensures { λ r. ⌜ r ≡ choiceVerdict version «zero_size» (now (payload .entry)) ⌝ }
+{
+    match version {
+        Version::V1 => Verdict::Fits,
+        Version::V2 => judge_pair(zero_size, payload),
+    }
+}
+
+fn judge_pair(zero_size: ZeroSize, s: &[u8]) -> Verdict
+    ensures { λ r. ⌜ r ≡ choiceVerdict V2 «zero_size» (now (s .entry)) ⌝ }
+{
+    let length = judge_open_length(FIXED_PART_V2 as usize, s.len());
+    let numbers = judge_numbers(u32_at(s, RSSI), u32_at(s, ERROR_RATE));
+    match first(length, numbers) {
+        Verdict::Fits => judge(
+            zero_size,
+            PairKind::List,
+            FIXED_PART_V2,
+            LIST_LIMIT,
+            RSRP_SNR,
+            s.len(),
+            range_at(s, RSRP_SNR),
+        ),
+        Verdict::Fault(_) => Verdict::Fits,
+    }
+}
+
+// By default.
 pub fn read(version: Version, payload: &[u8]) -> SignalStateShown
     ensures { λ r. ⌜ r ≡ readOf version (now (payload .entry)) ⌝ }
 {
@@ -149,20 +195,22 @@ fn read_listed(s: &[u8]) -> SignalStateShown
     match judge_head(s) {
         Verdict::Fits => {
             let count = judged_list_count(s, RSRP_SNR as u32, LIST);
-            read_entries(s, u32_at(s, RSRP_SNR), count)
+            let pair = shown_at(s, RSRP_SNR);
+            read_entries(s, pair.start, count)
         }
         Verdict::Fault(refusal) => refuse(refusal),
     }
 }
 
 fn judge_head(s: &[u8]) -> Verdict
-    ensures { λ r. ⌜ r ≡ headVerdict (now (s .entry)) ⌝ }
+    ensures { λ r. ⌜ r ≡ headVerdict byDefault (now (s .entry)) ⌝ }
 {
     if let Verdict::Fault(refusal) = judge_open_length(FIXED_PART_V2 as usize, s.len()) {
         return Verdict::Fault(refusal);
     }
     let numbers = judge_numbers(u32_at(s, RSSI), u32_at(s, ERROR_RATE));
-    let list = judge_list(s, FIXED_PART_V2, RSRP_SNR as u32, LIST);
+    let place = RSRP_SNR as u32;
+    let list = judge_list(ZeroSize::Absent, s, FIXED_PART_V2, place, LIST);
     first(numbers, list)
 }
 
@@ -254,7 +302,7 @@ fn entries_at(s: &[u8], offset: u32, n: u32) -> [RsrpSnr; 16]
 }
 
 pub fn judge_numbers(rssi: u32, error_rate: u32) -> Verdict
-    ensures { λ r. ⌜ r ≡ judge (numberRules rssi «error_rate») ⌝ }
+    ensures { λ r. ⌜ r ≡ judged (numberRules rssi «error_rate») ⌝ }
 {
     let rssi_known = also(
         Verdict::Fits,
@@ -305,7 +353,7 @@ fn judge_body_at(s: &[u8], rssi: u32, offset: u32, n: u32) -> Verdict
 }
 
 pub fn judge_entry(offset: u32, i: u32, entry: RsrpSnr) -> Verdict
-    ensures { λ r. ⌜ r ≡ judge (entryRules (entryPlace offset i) entry) ⌝ }
+    ensures { λ r. ⌜ r ≡ judged (entryRules (entryPlace offset i) entry) ⌝ }
 {
     let at = entry_place(offset, i);
     let rsrp_known = also(Verdict::Fits, RSRP_UNKNOWN < entry.rsrp, OUTSIDE_TABLE, at);

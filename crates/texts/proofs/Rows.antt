@@ -12,18 +12,20 @@ use lib.Dec.{ltb}
 use lib.ListN.{length, getD, drop, drop-of-length-le, length-append}
 use lib.Seq.{drop-cons, sets}
 use Rattle.wire.proofs.Laws.{sets-then, length-fitted}
-use Rattle.protocol.specs.Refusal.{wrongSize}
-use Rattle.protocol.specs.Verdict.{Rule, Kept, judgeFrom, firstOf, faultIf}
+use Rattle.protocol.specs.Refusal.{refusal, wrongSize, offsetWithZeroSize}
+use Rattle.protocol.specs.Verdict.{Rule, rule, Kept, judge, judgeFrom, firstOf, faultIf}
 use Rattle.protocol.specs.declared.Refusal.{Refusal}
 use Rattle.protocol.specs.declared.Verdict.{Verdict}
 use Rattle.protocol.specs.declared.Verdict.the-variants.{Fits, Fault}
-use Rattle.protocol.proofs.Verdicts.{left-fits, right-fits, last-fits}
+use Rattle.protocol.proofs.Verdicts.{left-fits, right-fits, last-fits, fault-stays}
 use Rattle.pairs.specs.declared.Range.{Range}
 use Rattle.pairs.specs.declared.PairKind.the-variants.{Text}
-use Rattle.pairs.specs.Pair.{rangeAt, unfit, verdictOf, padded, rangeBytes}
-use Rattle.texts.specs.Texts.{placeOf, limitOf, rangesAt, inTurn, eachVerdict, textsVerdict, sizeRules, laid, endOf, startOf, rangesBytes, textBytes, textsBytes, sizesOf}
-use Rattle.texts.specs.Claims.{TextsFit, SizesFit, TextsShown, Adjoining, RangesOfWidth, firstInside, TextsExactly}
-use Rattle.pairs.proofs.Laws.{size-said, said-size, fits-said, said-fits, absent-fits, placed-fits, placed-inside, placed-sized, placed-back, range-back}
+use Rattle.pairs.specs.declared.ZeroSize.{ZeroSize}
+use Rattle.pairs.specs.declared.ZeroSize.the-variants.{Absent, Strict}
+use Rattle.pairs.specs.Pair.{rangeAt, unfit, offsetWithoutSize, verdictOf, padded, shownAt, rangeBytes}
+use Rattle.texts.specs.Texts.{placeOf, limitOf, rangesAt, allShown, inTurn, eachVerdict, textsVerdict, sizeRules, laid, endOf, startOf, rangesBytes, textBytes, textsBytes, sizesOf}
+use Rattle.texts.specs.Claims.{TextsFit, SizesFit, TextsShown, Adjoining, RangesOfWidth, firstInside, strayRules, TextsExactly, StrictOfTexts}
+use Rattle.pairs.proofs.Laws.{size-said, said-size, fits-said, said-fits, absent-fits, strict-of-fitting, placed-fits, placed-inside, placed-sized, placed-shown, placed-back, range-back}
 
 -- ---- verdicts in turn
 
@@ -34,22 +36,43 @@ turn v (w ∷ ws) = refl
 
 -- ---- pairs fit exactly where each does, and sizes too
 
-pub texts-said : (fixed n : ℕ) (rows : List (List ℕ)) (ps : List Range) → textsVerdict fixed n rows ps ≡ Fits → TextsFit fixed n rows ps
-texts-said fixed n [] ps e = tt
-texts-said fixed n (x ∷ xs) [] e = tt
-texts-said fixed n (x ∷ xs) (p ∷ ps) e =
-    let k = sym (turn (verdictOf Text fixed (limitOf x) (placeOf x) n p) (eachVerdict fixed n xs ps)) ∙ e in
-    (fits-said Text fixed (limitOf x) (placeOf x) n p (left-fits _ _ k), texts-said fixed n xs ps (right-fits _ _ k))
+module _ (z : ZeroSize) (fixed n : ℕ) where
+  pub texts-said : (rows : List (List ℕ)) (ps : List Range) → textsVerdict z fixed n rows ps ≡ Fits → TextsFit z fixed n rows ps
+  texts-said [] ps e = tt
+  texts-said (x ∷ xs) [] e = tt
+  texts-said (x ∷ xs) (p ∷ ps) e =
+      let k = sym (turn (verdictOf z Text fixed (limitOf x) (placeOf x) n p) (eachVerdict z fixed n xs ps)) ∙ e in
+      (fits-said z Text fixed (limitOf x) (placeOf x) n p (left-fits _ _ k), texts-said xs ps (right-fits _ _ k))
 
-pub said-texts : (fixed n : ℕ) (rows : List (List ℕ)) (ps : List Range) → TextsFit fixed n rows ps → textsVerdict fixed n rows ps ≡ Fits
-unfolding firstOf
-said-texts fixed n [] ps f = refl
-said-texts fixed n (x ∷ xs) [] f = refl
-said-texts fixed n (x ∷ xs) (p ∷ ps) f =
-    turn _ (eachVerdict fixed n xs ps) ∙ rw (said-fits Text fixed (limitOf x) (placeOf x) n p (f .0)) (said-texts fixed n xs ps (f .1))
+  pub said-texts : (rows : List (List ℕ)) (ps : List Range) → TextsFit z fixed n rows ps → textsVerdict z fixed n rows ps ≡ Fits
+  unfolding firstOf
+  said-texts [] ps f = refl
+  said-texts (x ∷ xs) [] f = refl
+  said-texts (x ∷ xs) (p ∷ ps) f =
+      turn _ (eachVerdict z fixed n xs ps) ∙ rw (said-fits z Text fixed (limitOf x) (placeOf x) n p (f .0)) (said-texts xs ps (f .1))
 
 pub texts-exactly : TextsExactly
-texts-exactly fixed n rows ps = (texts-said fixed n rows ps, said-texts fixed n rows ps)
+texts-exactly z fixed n rows ps = (texts-said z fixed n rows ps, said-texts z fixed n rows ps)
+
+-- ---- what the strict choice says of pairs that fit by default
+
+-- the first rule, then the others
+rule-turn : (b : Bool) (number place : ℕ) (rs : List Rule) → judge (rule b number place ∷ rs) ≡ firstOf (judge (rule b number place ∷ [])) (judge rs)
+unfolding judgeFrom faultIf firstOf
+rule-turn true number place rs = fault-stays (refusal number place) rs
+rule-turn false number place rs = refl
+
+pub strict-of-texts : StrictOfTexts
+unfolding judgeFrom
+strict-of-texts fixed n [] ps e = refl
+strict-of-texts fixed n (x ∷ xs) [] e = refl
+strict-of-texts fixed n (x ∷ xs) (p ∷ ps) e =
+    let k = sym (turn (verdictOf Absent Text fixed (limitOf x) (placeOf x) n p) (eachVerdict Absent fixed n xs ps)) ∙ e in
+    let here = strict-of-fitting Text fixed (limitOf x) (placeOf x) n p (left-fits _ _ k) in
+    let others = strict-of-texts fixed n xs ps (right-fits _ _ k) in
+    turn _ (eachVerdict Strict fixed n xs ps)
+    ∙ (λ i. firstOf (here i) (others i))
+    ∙ sym (rule-turn (offsetWithoutSize p) offsetWithZeroSize (placeOf x) (strayRules xs ps))
 
 pub sizes-said : (rows : List (List ℕ)) (ks : List ℕ) → Kept (sizeRules rows ks) → SizesFit rows ks
 sizes-said [] ks k = tt
@@ -63,12 +86,12 @@ said-sizes (x ∷ xs) (a ∷ ks) f = (said-size Text (limitOf x) a (f .0), said-
 
 -- ---- a reader's loop over the rows
 
-module _ (fixed : ℕ) (s : List ℕ) where
+module _ (z : ZeroSize) (fixed : ℕ) (s : List ℕ) where
   abbrev pub verdictAt : List ℕ → Verdict
-  verdictAt x = verdictOf Text fixed (limitOf x) (placeOf x) (length s) (rangeAt s (placeOf x))
+  verdictAt x = verdictOf z Text fixed (limitOf x) (placeOf x) (length s) (rangeAt s (placeOf x))
 
   abbrev pub verdictFrom : List (List ℕ) → ℕ → Verdict
-  verdictFrom rows i = textsVerdict fixed (length s) (drop i rows) (rangesAt s (drop i rows))
+  verdictFrom rows i = textsVerdict z fixed (length s) (drop i rows) (rangesAt s (drop i rows))
 
   -- a row that fits is passed
   pub row-passed : (rows : List (List ℕ)) (i : ℕ) → i < length rows → verdictAt (getD rows i []) ≡ Fits → verdictFrom rows i ≡ verdictFrom rows (i + 1)
@@ -81,12 +104,13 @@ module _ (fixed : ℕ) (s : List ℕ) where
   row-decides rows i h e = rw (drop-cons rows i [] h, turn, e)
 
 -- the pair of one row
-pub text-at : (s : List ℕ) (rows : List (List ℕ)) (i : ℕ) (d : Range) → i < length rows → getD (rangesAt s rows) i d ≡ rangeAt s (placeOf (getD rows i []))
+pub text-at : (s : List ℕ) (rows : List (List ℕ)) (i : ℕ) (d : Range) → i < length rows → getD (allShown (rangesAt s rows)) i d ≡ shownAt s (placeOf (getD rows i []))
+unfolding shownAt
 text-at s [] i d h = absurd (omega arith)
 text-at s (x ∷ xs) zero d h = refl
 text-at s (x ∷ xs) (suc i) d h = text-at s xs i d (omega arith)
 
-pub text-past : (s : List ℕ) (rows : List (List ℕ)) (i : ℕ) (d : Range) → length rows ≤ i → getD (rangesAt s rows) i d ≡ d
+pub text-past : (s : List ℕ) (rows : List (List ℕ)) (i : ℕ) (d : Range) → length rows ≤ i → getD (allShown (rangesAt s rows)) i d ≡ d
 text-past s [] i d h = refl
 text-past s (x ∷ xs) zero d h = absurd (omega arith)
 text-past s (x ∷ xs) (suc i) d h = text-past s xs i d (omega arith)
@@ -152,28 +176,33 @@ end-within base most (x ∷ xs) (k ∷ ks) f l h =
 -- ---- texts that a writer lays out
 
 -- are accepted behind the fixed part
-pub laid-fit : (fixed n base : ℕ) (rows : List (List ℕ)) (ks : List ℕ) → Kept (sizeRules rows ks) → fixed ≤ base → base % 4 ≡ 0 → endOf base ks ≤ n
-    → textsVerdict fixed n rows (laid base ks) ≡ Fits
+pub laid-fit : (z : ZeroSize) (fixed n base : ℕ) (rows : List (List ℕ)) (ks : List ℕ) → Kept (sizeRules rows ks) → fixed ≤ base → base % 4 ≡ 0 → endOf base ks ≤ n
+    → textsVerdict z fixed n rows (laid base ks) ≡ Fits
 unfolding firstOf
-laid-fit fixed n base [] ks k f a e = refl
-laid-fit fixed n base (x ∷ xs) [] k f a e = refl
-laid-fit fixed n base (x ∷ xs) (m ∷ ks) k f a e =
+laid-fit z fixed n base [] ks k f a e = refl
+laid-fit z fixed n base (x ∷ xs) [] k f a e = refl
+laid-fit z fixed n base (x ∷ xs) (m ∷ ks) k f a e =
     let b = end-behind (base + padded m) ks in
-    turn _ (eachVerdict fixed n xs (laid (base + padded m) ks))
-    ∙ rw (placed-fits Text fixed (limitOf x) (placeOf x) n base m (k .0) f a (omega arith)) (laid-fit fixed n (base + padded m) xs ks (k .1) (omega arith) (omega arith) e)
+    turn _ (eachVerdict z fixed n xs (laid (base + padded m) ks))
+    ∙ rw (placed-fits z Text fixed (limitOf x) (placeOf x) n base m (k .0) f a (omega arith)) (laid-fit z fixed n (base + padded m) xs ks (k .1) (omega arith) (omega arith) e)
+
+-- and shown as they are laid
+pub laid-shown : (base : ℕ) (ks : List ℕ) → allShown (laid base ks) ≡ laid base ks
+laid-shown base [] = refl
+laid-shown base (k ∷ ks) = λ i. placed-shown base k i ∷ laid-shown (base + padded k) ks i
 
 -- and the first of them is refused as one in the fixed part where that reaches further
-pub laid-inside : (fixed n base : ℕ) (r : Refusal) (rows : List (List ℕ)) (ks : List ℕ) → Kept (sizeRules rows ks) → length ks ≤ length rows → base < fixed
-    → (endOf base ks ≡ base → ⊥) → textsVerdict fixed n rows (laid base ks) ≡ Fault (firstInside r rows ks)
+pub laid-inside : (z : ZeroSize) (fixed n base : ℕ) (r : Refusal) (rows : List (List ℕ)) (ks : List ℕ) → Kept (sizeRules rows ks) → length ks ≤ length rows → base < fixed
+    → (endOf base ks ≡ base → ⊥) → textsVerdict z fixed n rows (laid base ks) ≡ Fault (firstInside r rows ks)
 unfolding firstOf
-laid-inside fixed n base r rows [] k l b h = absurd (h refl)
-laid-inside fixed n base r [] (m ∷ ks) k l b h = absurd (omega arith)
-laid-inside fixed n base r (x ∷ xs) (zero ∷ ks) k l b h =
-    turn _ (eachVerdict fixed n xs (laid (base + padded 0) ks))
-    ∙ rw (absent-fits Text fixed (limitOf x) (placeOf x) n) (laid-inside fixed n (base + padded 0) r xs ks (k .1) (omega arith) (omega arith) (λ e. h (omega (arith, e))))
-laid-inside fixed n base r (x ∷ xs) (suc m ∷ ks) k l b h =
-    turn _ (eachVerdict fixed n xs (laid (base + padded (suc m)) ks))
-    ∙ rw (placed-inside Text fixed (limitOf x) (placeOf x) n base (suc m) (k .0) (omega arith) b, ne-eqb (suc m) 0 (omega arith))
+laid-inside z fixed n base r rows [] k l b h = absurd (h refl)
+laid-inside z fixed n base r [] (m ∷ ks) k l b h = absurd (omega arith)
+laid-inside z fixed n base r (x ∷ xs) (zero ∷ ks) k l b h =
+    turn _ (eachVerdict z fixed n xs (laid (base + padded 0) ks))
+    ∙ rw (absent-fits z Text fixed (limitOf x) (placeOf x) n) (laid-inside z fixed n (base + padded 0) r xs ks (k .1) (omega arith) (omega arith) (λ e. h (omega (arith, e))))
+laid-inside z fixed n base r (x ∷ xs) (suc m ∷ ks) k l b h =
+    turn _ (eachVerdict z fixed n xs (laid (base + padded (suc m)) ks))
+    ∙ rw (placed-inside z Text fixed (limitOf x) (placeOf x) n base (suc m) (k .0) (omega arith) b, ne-eqb (suc m) 0 (omega arith))
 
 pub none-inside : (base : ℕ) (r : Refusal) (rows : List (List ℕ)) (ks : List ℕ) → endOf base ks ≡ base → firstInside r rows ks ≡ r
 none-inside base r [] ks h = refl

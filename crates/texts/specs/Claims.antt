@@ -5,19 +5,29 @@ use mathlib.Core.Logic.{_↔_}
 use mathlib.Core.Bool.{cond}
 use mathlib.Core.List.{List, [], _∷_}
 use lib.Dec.{eqb}
-use Rattle.protocol.specs.Refusal.{refusal, offsetInFixedPart}
+use Rattle.protocol.specs.Refusal.{refusal, offsetInFixedPart, offsetWithZeroSize}
+use Rattle.protocol.specs.Verdict.{Rule, rule, judge}
 use Rattle.protocol.specs.declared.Refusal.{Refusal}
 use Rattle.protocol.specs.declared.Verdict.the-variants.{Fits}
 use Rattle.pairs.specs.declared.Range.{Range}
 use Rattle.pairs.specs.declared.PairKind.the-variants.{Text}
+use Rattle.pairs.specs.declared.ZeroSize.{ZeroSize}
+use Rattle.pairs.specs.declared.ZeroSize.the-variants.{Absent, Strict}
+use Rattle.pairs.specs.Pair.{offsetWithoutSize}
 use Rattle.pairs.specs.Claims.{SizeFits, PairFits, RangeOfWidth, shownIn}
 use Rattle.texts.specs.Texts.{placeOf, limitOf, textsVerdict}
 
 -- each pair is accepted
-abbrev pub TextsFit : ℕ → ℕ → List (List ℕ) → List Range → Type 0
-TextsFit fixed n [] ps = Unit
-TextsFit fixed n (x ∷ xs) [] = Unit
-TextsFit fixed n (x ∷ xs) (p ∷ ps) = PairFits Text fixed (limitOf x) n p × TextsFit fixed n xs ps
+abbrev pub TextsFit : ZeroSize → ℕ → ℕ → List (List ℕ) → List Range → Type 0
+TextsFit z fixed n [] ps = Unit
+TextsFit z fixed n (x ∷ xs) [] = Unit
+TextsFit z fixed n (x ∷ xs) (p ∷ ps) = PairFits z Text fixed (limitOf x) n p × TextsFit z fixed n xs ps
+
+-- the one rule that the strict choice has beside the default: no offset beside size 0
+abbrev pub strayRules : List (List ℕ) → List Range → List Rule
+strayRules [] ps = []
+strayRules (x ∷ xs) [] = []
+strayRules (x ∷ xs) (p ∷ ps) = rule (offsetWithoutSize p) offsetWithZeroSize (placeOf x) ∷ strayRules xs ps
 
 -- each size is one that a writer takes
 abbrev pub SizesFit : List (List ℕ) → List ℕ → Type 0
@@ -49,4 +59,10 @@ firstInside r (x ∷ xs) (k ∷ ks) = cond (eqb k 0) (firstInside r xs ks) (refu
 -- ---- what is proved (proofs/Rows)
 
 abbrev pub TextsExactly : Type 0
-TextsExactly = (fixed n : ℕ) (rows : List (List ℕ)) (ps : List Range) → (textsVerdict fixed n rows ps ≡ Fits) ↔ TextsFit fixed n rows ps
+TextsExactly =
+    (z : ZeroSize) (fixed n : ℕ) (rows : List (List ℕ)) (ps : List Range) → (textsVerdict z fixed n rows ps ≡ Fits) ↔ TextsFit z fixed n rows ps
+
+-- of pairs that fit by default the strict choice refuses the first that has an offset beside size 0, and nothing else
+abbrev pub StrictOfTexts : Type 0
+StrictOfTexts = (fixed n : ℕ) (rows : List (List ℕ)) (ps : List Range) → textsVerdict Absent fixed n rows ps ≡ Fits
+    → textsVerdict Strict fixed n rows ps ≡ judge (strayRules rows ps)

@@ -9,8 +9,9 @@ use Rattle.protocol.specs.Refusal.{wrongSize}
 use Rattle.protocol.specs.Verdict.{Rule, rule, firstOf}
 use Rattle.protocol.specs.declared.Verdict.{Verdict}
 use Rattle.protocol.specs.declared.Verdict.the-variants.{Fits}
-use Rattle.pairs.specs.Pair.{rangeAt, unfit, verdictOf, padded, placed, rangeBytes}
+use Rattle.pairs.specs.Pair.{rangeAt, unfit, verdictOf, padded, placed, asShown, rangeBytes}
 use Rattle.pairs.specs.declared.Range.{Range}
+use Rattle.pairs.specs.declared.ZeroSize.{ZeroSize}
 use Rattle.pairs.specs.declared.PairKind.the-variants.{Text}
 
 -- ---- rows
@@ -29,6 +30,11 @@ abbrev pub rangesAt : List ℕ → List (List ℕ) → List Range
 rangesAt s [] = []
 rangesAt s (x ∷ xs) = rangeAt s (placeOf x) ∷ rangesAt s xs
 
+-- and as a reader shows them
+abbrev pub allShown : List Range → List Range
+allShown [] = []
+allShown (p ∷ ps) = asShown p ∷ allShown ps
+
 -- ---- rules: pair by pair; the first fault decides
 
 -- v, then the others
@@ -40,14 +46,14 @@ abbrev pub inTurn : List Verdict → Verdict
 inTurn [] = Fits
 inTurn (v ∷ vs) = firstFrom v vs
 
--- each pair by its own row, in n bytes
-abbrev pub eachVerdict : ℕ → ℕ → List (List ℕ) → List Range → List Verdict
-eachVerdict fixed n [] ps = []
-eachVerdict fixed n (x ∷ xs) [] = []
-eachVerdict fixed n (x ∷ xs) (p ∷ ps) = verdictOf Text fixed (limitOf x) (placeOf x) n p ∷ eachVerdict fixed n xs ps
+-- each pair by its own row, in n bytes, by the reader's choice
+abbrev pub eachVerdict : ZeroSize → ℕ → ℕ → List (List ℕ) → List Range → List Verdict
+eachVerdict z fixed n [] ps = []
+eachVerdict z fixed n (x ∷ xs) [] = []
+eachVerdict z fixed n (x ∷ xs) (p ∷ ps) = verdictOf z Text fixed (limitOf x) (placeOf x) n p ∷ eachVerdict z fixed n xs ps
 
-abbrev pub textsVerdict : ℕ → ℕ → List (List ℕ) → List Range → Verdict
-textsVerdict fixed n rows ps = inTurn (eachVerdict fixed n rows ps)
+abbrev pub textsVerdict : ZeroSize → ℕ → ℕ → List (List ℕ) → List Range → Verdict
+textsVerdict z fixed n rows ps = inTurn (eachVerdict z fixed n rows ps)
 
 -- what is left of them for a writer, who sets the offsets: the sizes of the texts
 abbrev pub sizeRules : List (List ℕ) → List ℕ → List Rule

@@ -2,12 +2,14 @@
 // its limit; rows stand in field order. What stands in a text is not judged.
 use pairs::PairKind;
 use pairs::Range;
+use pairs::ZeroSize;
 use pairs::is_unfit;
 use pairs::judge;
 use pairs::padded_size;
 use pairs::place_at;
 use pairs::put_range;
 use pairs::range_at;
+use pairs::shown_at;
 use protocol::Verdict;
 use protocol::WRONG_SIZE;
 use protocol::also;
@@ -19,11 +21,11 @@ ghost use lib.Seq.{sets};
 ghost use Rattle.wire.specs.Output.{fitted};
 ghost use Rattle.protocol.specs.Verdict.{judge as judged};
 ghost use Rattle.pairs.specs.Pair.{range, padded, rangeBytes};
-ghost use Rattle.texts.specs.Texts.{rangesAt, textsVerdict, sizeRules, startOf, laidAt};
+ghost use Rattle.texts.specs.Texts.{rangesAt, allShown, textsVerdict, sizeRules, startOf, laidAt};
 
 // The verdict on the pairs of a payload with a fixed part.
-pub fn judge_texts(payload: &[u8], fixed: u16, rows: &[[u32; 2]]) -> Verdict
-    ensures { λ r. ⌜ r ≡ textsVerdict fixed (length (now (payload .entry))) (now (rows .entry)) (rangesAt (now (payload .entry)) (now (rows .entry))) ⌝ }
+pub fn judge_texts(zero_size: ZeroSize, payload: &[u8], fixed: u16, rows: &[[u32; 2]]) -> Verdict
+    ensures { λ r. ⌜ r ≡ textsVerdict «zero_size» fixed (length (now (payload .entry))) (now (rows .entry)) (rangesAt (now (payload .entry)) (now (rows .entry))) ⌝ }
 {
     let mut i: usize = 0;
     while i < rows.len() {
@@ -31,6 +33,7 @@ pub fn judge_texts(payload: &[u8], fixed: u16, rows: &[[u32; 2]]) -> Verdict
         let pair = range_at(payload, place);
         let limit = rows[i][1];
         let verdict = judge(
+            zero_size,
             PairKind::Text,
             fixed as u32,
             limit,
@@ -46,14 +49,14 @@ pub fn judge_texts(payload: &[u8], fixed: u16, rows: &[[u32; 2]]) -> Verdict
     Verdict::Fits
 }
 
-// The range of a text by its number, in a payload whose pairs were judged before; absent past the
-// last row.
+// The range of a text by its number, in a payload whose pairs were judged before; absent without a
+// size, and past the last row.
 pub fn judged_text(payload: &[u8], rows: &[[u32; 2]], number: u8) -> Range
-    ensures { λ r. ⌜ r ≡ getD (rangesAt (now (payload .entry)) (now (rows .entry))) number (range 0 0) ⌝ }
+    ensures { λ r. ⌜ r ≡ getD (allShown (rangesAt (now (payload .entry)) (now (rows .entry)))) number (range 0 0) ⌝ }
 {
     let i = number as usize;
     if i < rows.len() {
-        return range_at(payload, wide(rows[i][0]));
+        return shown_at(payload, wide(rows[i][0]));
     }
     Range {
         start: 0,

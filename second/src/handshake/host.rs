@@ -252,7 +252,7 @@ mod tests {
 
     #[test]
     fn a_list_with_an_offset_fault_changes_nothing() {
-        for (offset, size, number) in [(13, 32, 6), (17, 32, 17), (16, 0, 18)] {
+        for (offset, size, number) in [(13, 32, 6), (17, 32, 17), (52, 0, 8), (0, 0, 8)] {
             let mut list = list(&[15]);
             list[8] = offset;
             list[12] = size;

@@ -230,7 +230,7 @@ mod tests {
         assert_eq!(Modem::make(0x0200, 0x0100, &[]), Err(Refusal::new(1, 0)));
         let bad = [33, 0, 0, 0, 0, 0, 0, 0];
         assert_eq!(Modem::make(0x0200, 0x0100, &bad), Err(Refusal::new(15, 0)));
-        for (offset, size, number) in [(13, 32, 6), (17, 32, 17), (16, 0, 18)] {
+        for (offset, size, number) in [(13, 32, 6), (17, 32, 17), (52, 0, 8), (0, 0, 8)] {
             let mut bad = list(&[15]);
             bad[8] = offset;
             bad[12] = size;

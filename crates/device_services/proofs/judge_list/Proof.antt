@@ -1,23 +1,7 @@
--- The length is judged, then pair by pair; a length that fits has a count of at most 32.
+-- By default.
 use borrow.Author.Needs.{needs}
-use mathlib.Core.Path.{sym, _∙_}
-use native.Mathlib.Omega.{arith}
-use Rattle.protocol.specs.Verdict.{firstOf}
-use Rattle.device_services.specs.DeviceServices.{contentRules, elementVerdict, verdictOf}
-use Rattle.device_services.proofs.Laws.{few}
 use Rattle.device_services.proofs.judge_list.Statement.{statement}
 use Rattle.device_services.proofs.judge_list.Tie as tie
 
-listed-place-requires : tie.Need-listed-place-requires
-listed-place-requires c κs = omega (arith, few _ _ (sym (c .before .before .before .judge-length .ensures) ∙ c .before .enum-told .given .1), c .judged-count .ensures)
-
-returns : tie.Need-returns
-unfolding verdictOf firstOf elementVerdict contentRules
-returns c = rw (← c .before .before .before .before .before .judge-length .ensures, c .before .before .before .enum-told .given .1, ← c .before .before .judged-count .ensures, ← c .before .listed-place .ensures) (c .judge-lists .ensures)
-
-returns-2 : tie.Need-returns-2
-unfolding verdictOf firstOf
-returns-2 c = rw (← c .before .before .before .judge-length .ensures, c .before .refusal .given .1)
-
 pub judge-list-spec : {M : Type 1} → statement M
-judge-list-spec = tie.close (tie.spec (λ c. search needs) (λ c. search needs) (λ c. search needs) listed-place-requires (λ c. search needs) (λ c. search needs) returns returns-2)
+judge-list-spec = tie.close (tie.spec (λ c. search needs) (λ c. c .judge-list-with .ensures))

@@ -1,16 +1,7 @@
--- The list is judged; the numbers shown are those at their places.
+-- By default.
 use borrow.Author.Needs.{needs}
-use Rattle.device_services.specs.DeviceServices.{readOf}
 use Rattle.device_services.proofs.read.Statement.{statement}
 use Rattle.device_services.proofs.read.Tie as tie
 
-returns : tie.Need-returns
-unfolding readOf
-returns c = rw (← c .before .before .before .head-at .ensures, ← c .before .before .judge-list .ensures, c .enum-told .given .1)
-
-returns-2 : tie.Need-returns-2
-unfolding readOf
-returns-2 c = rw (← c .before .before .before .judge-list .ensures, c .before .refusal .given .1)
-
 pub read-spec : {M : Type 1} → statement M
-read-spec = tie.close (tie.spec (λ c. search needs) (λ c. search needs) (λ c. search needs) (λ c. search needs) returns returns-2)
+read-spec = tie.close (tie.spec (λ c. search needs) (λ c. c .read-with .ensures))

@@ -1,17 +1,7 @@
--- The list is judged, then the element with the number is shown.
+-- By default.
 use borrow.Author.Needs.{needs}
-use mathlib.Core.Path.{refl}
-use Rattle.services_query.specs.ServicesQuery.{elementOf}
 use Rattle.services_query.proofs.element.Statement.{statement}
 use Rattle.services_query.proofs.element.Tie as tie
 
-returns : tie.Need-returns
-unfolding elementOf
-returns c = rw (← c .before .before .before .before .before .before .judge-list .ensures, c .before .before .before .before .enum-told .given .1) (c .before .before .show-chosen .ensures)
-
-returns-2 : tie.Need-returns-2
-unfolding elementOf
-returns-2 c = rw (← c .before .before .before .judge-list .ensures, c .before .refusal .given .1) (refl, refl)
-
 pub element-spec : {M : Type 1} → statement M
-element-spec = tie.close (tie.spec (λ c. search needs) (λ c. search needs) (λ c. search needs) (λ c. search needs) (λ c. search needs) returns returns-2)
+element-spec = tie.close (tie.spec (λ c. search needs) (λ c. search needs) (λ c. c .before .before .element-with .ensures))

@@ -8,10 +8,10 @@ use Rattle.texts.proofs.judge_texts.Statement.{statement}
 use Rattle.texts.proofs.judge_texts.Tie as tie
 
 abbrev Inv-loop : tie.InvT-loop
-Inv-loop s fixed rows i₀ i = (i ≤ length rows) × (verdictFrom fixed s rows 0 ≡ verdictFrom fixed s rows i)
+Inv-loop z s fixed rows i₀ i = (i ≤ length rows) × (verdictFrom z fixed s rows 0 ≡ verdictFrom z fixed s rows i)
 
 abbrev μ-loop : tie.MeasureT-loop
-μ-loop s fixed rows i₀ i = length rows - i
+μ-loop z s fixed rows i₀ i = length rows - i
 
 loop-holds : tie.Need-loop-holds Inv-loop μ-loop
 loop-holds c = (search needs, refl)
@@ -19,12 +19,12 @@ loop-holds c = (search needs, refl)
 returns : tie.Need-returns Inv-loop μ-loop
 returns c =
     let a = c .before .before .before .before .before .before .before .before .before .before .before .args in
-    sym (c .before .before .before .before .before .before .before .before .before .loop .inv .1 ∙ row-decides (a .fixed) (a .payload .now) (a .rows .now) (c .before .before .before .before .before .before .before .before .before .loop .i) (c .before .before .before .before .before .before .before .before .loop-test .taken) (rw (← c .before .before .before .before .before .before .wide .ensures, ← c .before .before .before .before .before .range-at .ensures, ← c .before .before .before .judge .ensures) (c .before .verdict .given .1)))
+    sym (c .before .before .before .before .before .before .before .before .before .loop .inv .1 ∙ row-decides (a .zero-size) (a .fixed) (a .payload .now) (a .rows .now) (c .before .before .before .before .before .before .before .before .before .loop .i) (c .before .before .before .before .before .before .before .before .loop-test .taken) (rw (← c .before .before .before .before .before .before .wide .ensures, ← c .before .before .before .before .before .range-at .ensures, ← c .before .before .before .judge .ensures) (c .before .verdict .given .1)))
 
 loop-again : tie.Need-loop-again Inv-loop μ-loop
 loop-again c =
     let a = c .before .before .before .before .before .before .before .before .before .before .args in
-    (search needs, c .before .before .before .before .before .before .before .before .loop .inv .1 ∙ row-passed (a .fixed) (a .payload .now) (a .rows .now) (c .before .before .before .before .before .before .before .before .loop .i) (c .before .before .before .before .before .before .before .loop-test .taken) (rw (← c .before .before .before .before .before .wide .ensures, ← c .before .before .before .before .range-at .ensures, ← c .before .before .judge .ensures) (c .enum-told .given .1)))
+    (search needs, c .before .before .before .before .before .before .before .before .loop .inv .1 ∙ row-passed (a .zero-size) (a .fixed) (a .payload .now) (a .rows .now) (c .before .before .before .before .before .before .before .before .loop .i) (c .before .before .before .before .before .before .before .loop-test .taken) (rw (← c .before .before .before .before .before .wide .ensures, ← c .before .before .before .before .range-at .ensures, ← c .before .before .judge .ensures) (c .enum-told .given .1)))
 
 returns-2 : tie.Need-returns-2 Inv-loop μ-loop
 returns-2 c =

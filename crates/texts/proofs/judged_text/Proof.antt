@@ -6,7 +6,7 @@ use Rattle.texts.proofs.judged_text.Statement.{statement}
 use Rattle.texts.proofs.judged_text.Tie as tie
 
 returns : tie.Need-returns
-returns c = rw (c .range-at .ensures, c .before .wide .ensures) (sym (text-at (c .before .before .before .before .before .args .payload .now) (c .before .before .before .before .before .args .rows .now) (c .before .before .before .before .before .args .number) _ (c .before .before .before .if1 .taken)))
+returns c = rw (c .shown-at .ensures, c .before .wide .ensures) (sym (text-at (c .before .before .before .before .before .args .payload .now) (c .before .before .before .before .before .args .rows .now) (c .before .before .before .before .before .args .number) _ (c .before .before .before .if1 .taken)))
 
 returns-2 : tie.Need-returns-2
 returns-2 c = sym (text-past (c .before .before .args .payload .now) (c .before .before .args .rows .now) (c .before .before .args .number) _ (c .if1 .left))

@@ -3,6 +3,15 @@
 use crate::random::Random;
 use crate::samples::Samples;
 
+/// Offsets that may stand beside a size of 0: in fixed parts, after them, past every payload,
+/// and misaligned.
+pub const STRAYS: [u32; 14] =
+    [1, 3, 4, 19, 20, 28, 47, 48, 51, 52, 53, 4096, 0xFFFF_FFFC, 0xFFFF_FFFF];
+/// What a size of 0 is: absent or strict.
+pub const CHOICES: [u64; 2] = [0, 1];
+/// Numbers that say no such thing.
+pub const NO_CHOICES: [u64; 3] = [2, 0xFFFF_FFFF, 256];
+
 /// Words as little-endian bytes.
 pub fn words(words: &[u32]) -> Vec<u8> {
     words.iter().flat_map(|word| word.to_le_bytes()).collect()
@@ -98,5 +107,40 @@ pub fn change_bytes(
             _ => 1 << random.below(8),
         };
         samples.ask(question, arguments, &bad);
+    }
+}
+
+/// Asks by each of these choices, the last argument.
+pub fn by_choices(
+    samples: &mut Samples,
+    question: u32,
+    arguments: &[u64],
+    choices: &[u64],
+    input: &[u8],
+) {
+    for choice in choices {
+        samples.ask(question, &[arguments, &[*choice]].concat(), input);
+    }
+}
+
+/// Asks one of three ways, by the number's remainder: the plain question, or the one with a
+/// choice, absent or strict.
+pub fn one_way(
+    samples: &mut Samples,
+    number: usize,
+    [plain, with]: [u32; 2],
+    arguments: &[u64],
+    input: &[u8],
+) {
+    match number % 3 {
+        0 => drop(samples.ask(plain, arguments, input)),
+        other => by_choices(samples, with, arguments, &CHOICES[other - 1..other], input),
+    }
+}
+
+/// Asks all three ways.
+pub fn each_way(samples: &mut Samples, questions: [u32; 2], arguments: &[u64], input: &[u8]) {
+    for number in 0..3 {
+        one_way(samples, number, questions, arguments, input);
     }
 }

@@ -41,6 +41,7 @@ pub fn all(samples: &mut Samples) {
     }
     offsets(samples);
     walk(samples);
+    strays(samples);
 }
 
 /// Gives the host a message: type, transaction, CID and word.
@@ -64,15 +65,16 @@ pub fn list(service: [u8; 16], cids: &[u32]) -> Vec<u8> {
     [head, service.to_vec(), numbers, words(cids)].concat()
 }
 
+/// A list of two elements, of which the second has VERSION.
+pub fn twice() -> Vec<u8> {
+    let head = words(&[2, 0, 24, 32, 56, 32]);
+    let [first, second] = [14, 15].map(|cid| list(EXTENSIONS, &[cid])[16..].to_vec());
+    [head, first, second].concat()
+}
+
 /// Lists with VERSION and without it, and refused ones.
 fn lists() -> Vec<Vec<u8>> {
     let good = list(EXTENSIONS, &[15]);
-    let mut twice = with_word(&resized(&[], 24), 0, 2);
-    for (place, word) in [(8, 24), (12, 32), (16, 56), (20, 32)] {
-        twice = with_word(&twice, place, word);
-    }
-    twice.extend(&list(EXTENSIONS, &[14])[16..]);
-    twice.extend(&good[16..]);
     vec![
         vec![],
         with_word(&good, 12, 28),
@@ -81,7 +83,7 @@ fn lists() -> Vec<Vec<u8>> {
         words(&[0, 0]),
         list(BASIC_CONNECT, &[15]),
         list(EXTENSIONS, &[14, 16]),
-        twice,
+        twice(),
         good,
     ]
 }
@@ -94,6 +96,17 @@ pub fn offset_faults() -> Vec<Vec<u8>> {
     let with_zero_size = [(16, 0), (3, 0)];
     let pairs = in_fixed_part.into_iter().chain(misaligned).chain(with_zero_size);
     pairs.map(|(offset, size)| with_words(&good, &[(8, offset), (12, size)])).collect()
+}
+
+/// Lists with a size of 0 beside an offset: of one element, and of two in either pair.
+pub fn stray_lists() -> Vec<Vec<u8>> {
+    let one = list(EXTENSIONS, &[15]);
+    vec![
+        with_words(&one, &[(8, 52), (12, 0)]),
+        with_words(&one, &[(8, 0xFFFF_FFFF), (12, 0)]),
+        with_words(&twice(), &[(12, 0)]),
+        with_words(&twice(), &[(16, 3), (20, 0)]),
+    ]
 }
 
 /// Replies to VERSION: status and payload.
@@ -234,4 +247,16 @@ fn walk(samples: &mut Samples) {
         };
         show(samples);
     }
+}
+
+/// Lists with a size of 0 beside an offset change nothing, and a good one counts after them.
+fn strays(samples: &mut Samples) {
+    at_stage(samples, 1);
+    for list in stray_lists() {
+        services_reply(samples, 0, &list);
+    }
+    services_reply(samples, 9, &stray_lists()[0]);
+    show(samples);
+    services_reply(samples, 0, &twice());
+    show(samples);
 }

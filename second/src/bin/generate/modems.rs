@@ -1,7 +1,7 @@
 //! Samples of the modem's end of the handshake.
 
 use crate::damage::{resized, with_word, words};
-use crate::hosts::{list, offset_faults};
+use crate::hosts::{list, offset_faults, stray_lists, twice};
 use crate::random::Random;
 use crate::samples::Samples;
 use second::flat::question::{MAKE_MODEM, MODEM_CLOSE, MODEM_OPEN, MODEM_RECEIVE, SHOW_MODEM};
@@ -39,6 +39,7 @@ pub fn all(samples: &mut Samples) {
     }
     no_commands(samples);
     walk(samples);
+    strays(samples);
 }
 
 fn show(samples: &mut Samples) {
@@ -86,16 +87,13 @@ fn made(samples: &mut Samples) {
 /// Lists with VERSION and without it, and refused ones, at a modem that stands already.
 fn lists(samples: &mut Samples) {
     let good = list(EXTENSIONS, &[15]);
-    let mut twice = words(&[2, 0, 24, 32, 56, 32]);
-    twice.extend(&list(EXTENSIONS, &[14])[16..]);
-    twice.extend(&good[16..]);
     let lists = [
         words(&[0, 0]),
         list(BASIC_CONNECT, &[15]),
         list(EXTENSIONS, &[]),
         list(EXTENSIONS, &[14, 16, 0x10F]),
         list(EXTENSIONS, &[14, 15, 16]),
-        twice,
+        twice(),
         resized(&good, 4096),
         vec![],
         good[..7].to_vec(),
@@ -261,4 +259,16 @@ fn walk(samples: &mut Samples) {
         }
         show(samples);
     }
+}
+
+/// Lists with a size of 0 beside an offset: after 12, before memory too small.
+fn strays(samples: &mut Samples) {
+    make(samples, (0x0200, 0x0200, true));
+    for services in stray_lists() {
+        samples.ask(MAKE_MODEM, &[0x0200, 0x0100, MODEM_SIZE], &services);
+    }
+    let services = &stray_lists()[0];
+    samples.ask(MAKE_MODEM, &[0x0100, 0x0200, MODEM_SIZE], services);
+    samples.ask(MAKE_MODEM, &[0x0200, 0x0100, 0], services);
+    show(samples);
 }

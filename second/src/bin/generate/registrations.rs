@@ -1,10 +1,13 @@
 //! Samples of the REGISTER_STATE payload.
 
-use crate::damage::{around, change_bytes, lengths, resized, set_word, two_faults, with_words};
+use crate::damage::{
+    around, by_choices, change_bytes, each_way, lengths, one_way, resized, set_word, two_faults,
+    with_words, CHOICES, NO_CHOICES, STRAYS,
+};
 use crate::random::Random;
 use crate::samples::Samples;
 use second::data_class::HSPA;
-use second::flat::question::{REGISTRATION_READ, REGISTRATION_WRITE};
+use second::flat::question::{REGISTRATION_READ, REGISTRATION_READ_WITH, REGISTRATION_WRITE};
 
 const FORMS: [(u64, usize); 2] = [(0x0100, 48), (0x0200, 52)];
 const PAIRS: [(usize, usize); 3] = [(20, 12), (28, 40), (36, 126)];
@@ -32,6 +35,8 @@ const SIZES: [[usize; 3]; 21] = [
     [0, 5000, 0],
     [0, 0, 4100],
 ];
+/// The plain question and the one with a choice.
+const READS: [u32; 2] = [REGISTRATION_READ, REGISTRATION_READ_WITH];
 const ID: &[u8] = b"0\x000\x001\x000\x001\0";
 
 pub fn all(samples: &mut Samples) {
@@ -51,6 +56,11 @@ pub fn all(samples: &mut Samples) {
     writes(samples);
     random_records(samples, &mut random);
     several_bits(samples);
+    for (place, form) in FORMS.into_iter().enumerate() {
+        strays(samples, place, form);
+        choices(samples, form);
+    }
+    stray_faults(samples);
 }
 
 /// The worked cases, and each byte of them changed.
@@ -246,5 +256,70 @@ fn several_bits(samples: &mut Samples) {
                 samples.ask(REGISTRATION_WRITE, &arguments, &[]);
             }
         }
+    }
+}
+
+/// A payload in a registered state with three short texts.
+fn three_texts(fixed: usize) -> Vec<u8> {
+    let [id, name, roaming] = [0, 4, 8].map(|after| fixed as u32 + after);
+    let pairs = [(20, id), (24, 4), (28, name), (32, 2), (36, roaming), (40, 4)];
+    let front = with_words(&resized(&[], fixed), &[(4, 3), (12, 1)]);
+    [with_words(&front, &pairs), ID[..6].to_vec(), vec![0; 2], ID[6..].to_vec()].concat()
+}
+
+/// Size 0 beside an offset in each pair, alone and beside two texts; then in all three.
+fn strays(samples: &mut Samples, place: usize, (version, fixed): (u64, usize)) {
+    let alone = resized(&[], fixed);
+    let beside = three_texts(fixed);
+    for (number, offset) in STRAYS.into_iter().enumerate() {
+        let good = if number % 2 == 0 { &alone } else { &beside };
+        for (pair, (field, _)) in PAIRS.into_iter().enumerate() {
+            let payload = with_words(good, &[(field, offset), (field + 4, 0)]);
+            one_way(samples, number + pair + place, READS, &[version], &payload);
+        }
+    }
+    let sizes = [(24, 0), (32, 0), (40, 0)];
+    let offsets = [(20, fixed as u32), (28, 3), (36, 0xFFFF_FFFC)];
+    let payload = with_words(&beside, &[offsets, sizes].concat());
+    each_way(samples, READS, &[version], &payload);
+}
+
+/// Payloads without a stray offset by each choice, and numbers that are none.
+fn choices(samples: &mut Samples, (version, fixed): (u64, usize)) {
+    let mut ask = |version, choices: &[u64], payload: &[u8]| {
+        by_choices(samples, REGISTRATION_READ_WITH, &[version], choices, payload);
+    };
+    let good = three_texts(fixed);
+    let stray = with_words(&good, &[(40, 0)]);
+    let short = &good[..fixed - 1];
+    ask(version, &CHOICES, &good);
+    ask(0x0300 - version, &CHOICES[1..], &good);
+    ask(version, &CHOICES[1..], short);
+    ask(version, &NO_CHOICES[..2], &stray);
+    ask(version, &NO_CHOICES[2..], short);
+    ask(version + 1, &NO_CHOICES[..1], &stray);
+}
+
+/// A stray offset beside another fault, before it or after it: the order of the rules decides.
+fn stray_faults(samples: &mut Samples) {
+    let [first, middle, last] = PAIRS.map(|(field, _)| [(field, 53), (field + 4, 0)]);
+    let cases = [
+        (first, (4, 7)),
+        (first, (28, 57)),
+        (first, (28, 44)),
+        (first, (28, 64)),
+        (first, (32, 42)),
+        (first, (40, 3)),
+        (first, (44, 4)),
+        (first, (48, 0x100)),
+        (first, (4, 2)),
+        (middle, (20, 57)),
+        (middle, (36, 57)),
+        (last, (28, 64)),
+    ];
+    for (number, (stray, fault)) in cases.into_iter().enumerate() {
+        let (version, fixed) = FORMS[number % 2];
+        let payload = with_words(&with_words(&three_texts(fixed), &stray), &[fault]);
+        by_choices(samples, REGISTRATION_READ_WITH, &[version], &CHOICES, &payload);
     }
 }

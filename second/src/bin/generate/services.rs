@@ -1,15 +1,28 @@
 //! Samples of the DEVICE_SERVICES payload.
 
 use crate::damage::{
-    around, change_bytes, lengths, resized, set_word, two_faults, with_words, words,
+    around, by_choices, change_bytes, each_way, lengths, resized, set_word, two_faults, with_words,
+    words, CHOICES, NO_CHOICES, STRAYS,
 };
 use crate::random::Random;
 use crate::samples::Samples;
-use second::flat::question::{ELEMENT, LISTED, SERVICES_READ, SERVICES_WRITE, SERVICE_CIDS};
+use second::flat::question::{
+    ELEMENT, ELEMENT_WITH, LISTED, LISTED_WITH, SERVICES_READ, SERVICES_READ_WITH, SERVICES_WRITE,
+    SERVICE_CIDS, SERVICE_CIDS_WITH,
+};
 use second::payload::{BASIC_CONNECT, EXTENSIONS};
 
 /// An element to write: service, two numbers, CIDs.
 type Part = ([u8; 16], u32, u32, Vec<u32>);
+
+/// The questions with pairs, plain and with a choice; the other arguments of each; and whether
+/// a service stands before the payload.
+const READS: [([u32; 2], &[u64], bool); 4] = [
+    ([SERVICES_READ, SERVICES_READ_WITH], &[], false),
+    ([ELEMENT, ELEMENT_WITH], &[4, 0], false),
+    ([SERVICE_CIDS, SERVICE_CIDS_WITH], &[4], true),
+    ([LISTED, LISTED_WITH], &[14], true),
+];
 
 pub fn all(samples: &mut Samples) {
     let mut random = Random::new(5);
@@ -25,6 +38,9 @@ pub fn all(samples: &mut Samples) {
     long_lists(samples);
     writes(samples);
     random_lists(samples, &mut random);
+    strays(samples);
+    stray_faults(samples, &good);
+    choices(samples, &good);
 }
 
 /// Three elements, the first service twice.
@@ -244,4 +260,46 @@ fn random_lists(samples: &mut Samples, random: &mut Random) {
         samples.ask(SERVICE_CIDS, &[random.below(6) as u64], &input);
         samples.ask(LISTED, &[random.below(18) as u64], &input);
     }
+}
+
+/// The input of a question: the payload, or a service and the payload.
+fn input(payload: &[u8], after_service: bool) -> Vec<u8> {
+    let service: &[u8] = if after_service { &EXTENSIONS } else { &[] };
+    [service, payload].concat()
+}
+
+/// Lists of one to three elements, of which one has size 0 beside an offset.
+fn strays(samples: &mut Samples) {
+    let mut offsets = STRAYS.into_iter().cycle();
+    for (count, pair) in [(1, 0), (2, 0), (3, 1), (3, 2)] {
+        let good = written(samples, &parts()[..count]);
+        for (questions, arguments, after_service) in READS {
+            let offset = offsets.next().unwrap_or_default();
+            let payload = with_words(&good, &[(8 + 8 * pair, offset), (12 + 8 * pair, 0)]);
+            each_way(samples, questions, arguments, &input(&payload, after_service));
+        }
+    }
+}
+
+/// A stray offset in the second pair beside another fault: the order of the rules decides.
+fn stray_faults(samples: &mut Samples, good: &[u8]) {
+    let stray = with_words(good, &[(16, 52), (20, 0)]);
+    let faults = [(0, 33), (12, 541), (8, 33), (32 + 24, 129), (28, 0), (24, 33), (16, 0)];
+    for fault in faults {
+        let payload = with_words(&stray, &[fault]);
+        by_choices(samples, SERVICES_READ_WITH, &[], &CHOICES, &payload);
+    }
+}
+
+/// A good list by each choice, and numbers that are none, for every question.
+fn choices(samples: &mut Samples, good: &[u8]) {
+    for (number, ([_, with], arguments, after_service)) in READS.into_iter().enumerate() {
+        let payload = input(good, after_service);
+        by_choices(samples, with, arguments, &CHOICES, &payload);
+        by_choices(samples, with, arguments, &NO_CHOICES[number % 3..][..1], &payload);
+        let bad = input(&good[..31], after_service);
+        by_choices(samples, with, arguments, &NO_CHOICES[(number + 1) % 3..][..1], &bad);
+    }
+    by_choices(samples, ELEMENT_WITH, &[1, 0], &CHOICES[1..], good);
+    by_choices(samples, ELEMENT_WITH, &[1, 3], &CHOICES[1..], good);
 }

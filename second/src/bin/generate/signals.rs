@@ -1,17 +1,20 @@
 //! Samples of the SIGNAL_STATE payload.
 
 use crate::damage::{
-    around, change_bytes, lengths, resized, set_word, two_faults, with_words, words,
+    around, by_choices, change_bytes, each_way, lengths, one_way, resized, set_word, two_faults,
+    with_words, words, CHOICES, NO_CHOICES, STRAYS,
 };
 use crate::random::Random;
 use crate::samples::Samples;
 use second::data_class::{HSDPA, HSPA, HSUPA};
-use second::flat::question::{SIGNAL_READ, SIGNAL_WRITE};
+use second::flat::question::{SIGNAL_READ, SIGNAL_READ_WITH, SIGNAL_WRITE};
 
 const V1: u64 = 0x0100;
 const V2: u64 = 0x0200;
 const RSSI: [u32; 8] = [0, 1, 30, 31, 32, 98, 99, 100];
 const ERROR_RATE: [u32; 8] = [0, 6, 7, 8, 98, 99, 100, u32::MAX];
+/// The plain question and the one with a choice.
+const READS: [u32; 2] = [SIGNAL_READ, SIGNAL_READ_WITH];
 
 pub fn all(samples: &mut Samples) {
     let mut random = Random::new(4);
@@ -32,6 +35,8 @@ pub fn all(samples: &mut Samples) {
     writes(samples);
     random_records(samples, &mut random);
     system_types(samples, &good);
+    strays(samples, &good);
+    choices(samples, &good);
 }
 
 fn first_form(samples: &mut Samples, random: &mut Random) {
@@ -219,4 +224,43 @@ fn system_types(samples: &mut Samples, good: &[u8]) {
             samples.ask(SIGNAL_WRITE, &[&head[..], &entries.concat()].concat(), &[]);
         }
     }
+}
+
+/// Size 0 beside an offset, with Rssi known and unknown, the payload ended or going on with
+/// what would be a list.
+fn strays(samples: &mut Samples, good: &[u8]) {
+    for (number, offset) in STRAYS.into_iter().enumerate() {
+        for (place, rssi) in [31, 99].into_iter().enumerate() {
+            let length = if number % 2 == 0 { 28 } else { 28 + number };
+            let payload = with_words(good, &[(0, rssi), (20, offset), (24, 0)]);
+            one_way(samples, number + place, READS, &[V2], &payload[..length]);
+        }
+    }
+    for (rssi, count) in [(31, 2), (99, 17)] {
+        let payload = with_words(good, &[(0, rssi), (24, 0), (28, count)]);
+        each_way(samples, READS, &[V2], &payload);
+    }
+    for fault in [(0, 32), (4, 8)] {
+        let payload = with_words(&good[..28], &[(24, 0), fault]);
+        by_choices(samples, SIGNAL_READ_WITH, &[V2], &CHOICES, &payload);
+    }
+}
+
+/// Payloads without a stray offset by each choice, and numbers that are none.
+fn choices(samples: &mut Samples, good: &[u8]) {
+    let mut ask = |version, choices: &[u64], payload: &[u8]| {
+        by_choices(samples, SIGNAL_READ_WITH, &[version], choices, payload);
+    };
+    let stray = with_words(&good[..28], &[(24, 0)]);
+    let absent = with_words(&stray, &[(0, 31), (20, 0)]);
+    let (first, short) = (&absent[..20], &stray[..27]);
+    ask(V2, &CHOICES, good);
+    ask(V1, &CHOICES, first);
+    for (version, payload) in [(V2, &absent[..]), (V2, short), (V1, &stray)] {
+        ask(version, &CHOICES[1..], payload);
+    }
+    ask(V2, &NO_CHOICES[..2], &stray);
+    ask(V2, &NO_CHOICES[2..], short);
+    ask(V1, &NO_CHOICES[..1], first);
+    ask(0x0300, &NO_CHOICES[..1], &stray);
 }

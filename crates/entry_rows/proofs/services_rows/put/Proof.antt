@@ -8,11 +8,11 @@ use Rattle.entry_rows.proofs.services_rows.put.Tie as tie
 
 returns : tie.Need-returns
 unfolding servicesText
-returns c = rw (← c .before .before .before .before .before .before .before .read .ensures, c .before .before .before .before .before .refusal .given .1) (c .before .before .put-refused .ensures)
+returns c = rw (← c .before .before .before .before .before .before .before .read-with .ensures, c .before .before .before .before .before .refusal .given .1) (c .before .before .put-refused .ensures)
 
 returns-2 : tie.Need-returns-2
 unfolding servicesText header
-returns-2 c = rw (← c .before .before .before .before .before .before .before .before .before .before .before .before .before .before .before .before .before .before .before .before .before .before .before .before .read .ensures, c .before .before .before .before .before .before .before .before .before .before .before .before .before .before .before .before .before .before .before .before .before .before .head .given .1) (put-then (c .before .before .before .before .before .before .before .before .before .before .before .before .before .before .before .before .before .before .put-text .ensures) (put-then (c .before .before .before .before .before .before .before .before .before .before .before .before .put-row .ensures) (put-then (c .before .before .before .before .before .before .put-row2 .ensures) (c .before .before .put-elements .ensures))))
+returns-2 c = rw (← c .before .before .before .before .before .before .before .before .before .before .before .before .before .before .before .before .before .before .before .before .before .before .before .before .read-with .ensures, c .before .before .before .before .before .before .before .before .before .before .before .before .before .before .before .before .before .before .before .before .before .before .head .given .1) (put-then (c .before .before .before .before .before .before .before .before .before .before .before .before .before .before .before .before .before .before .put-text .ensures) (put-then (c .before .before .before .before .before .before .before .before .before .before .before .before .put-row .ensures) (put-then (c .before .before .before .before .before .before .put-row2 .ensures) (c .before .before .put-elements .ensures))))
 
 pub put-spec : {M : Type 1} → statement M
 put-spec = tie.close (tie.spec (λ c. search needs) (λ c. search needs) (λ c. search needs) (λ c. search needs) (λ c. search needs) (λ c. search needs) (λ c. search needs) (λ c. search needs) (λ c. search needs) (λ c. search needs) (λ c. search needs) (λ c. search needs) (λ c. search needs) (λ c. search needs) returns (λ c. search needs) returns-2)

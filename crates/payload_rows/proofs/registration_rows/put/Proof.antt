@@ -9,15 +9,15 @@ use Rattle.payload_rows.proofs.registration_rows.put.Statement.{stateme
 use Rattle.payload_rows.proofs.registration_rows.put.Tie as tie
 
 put-texts-requires : tie.Need-put-texts-requires
-put-texts-requires c κs = listable-texts (c .before .before .before .before .before .before .before .before .before .before .before .before .before .before .before .before .args .version) (c .before .before .before .before .before .before .before .before .before .before .before .before .before .before .before .before .args .payload .now) _ _ (sym (c .before .before .before .before .before .before .before .before .before .before .before .before .before .read .ensures) ∙ c .before .before .before .before .before .before .before .before .before .before .before .info .given .1)
+put-texts-requires c κs = listable-texts (c .before .before .before .before .before .before .before .before .before .before .before .before .before .before .before .before .args .version) _ (c .before .before .before .before .before .before .before .before .before .before .before .before .before .before .before .before .args .payload .now) _ _ (sym (c .before .before .before .before .before .before .before .before .before .before .before .before .before .read-with .ensures) ∙ c .before .before .before .before .before .before .before .before .before .before .before .info .given .1)
 
 returns : tie.Need-returns
 unfolding registrationText
-returns c = rw (← c .before .before .before .before .before .before .before .read .ensures, c .before .before .before .before .before .refusal .given .1) (c .before .before .put-refused .ensures)
+returns c = rw (← c .before .before .before .before .before .before .before .read-with .ensures, c .before .before .before .before .before .refusal .given .1) (c .before .before .put-refused .ensures)
 
 returns-2 : tie.Need-returns-2
 unfolding registrationText header
-returns-2 c = rw (← c .before .before .before .before .before .before .before .before .before .before .before .before .before .before .before .before .before .before .before .before .read .ensures, c .before .before .before .before .before .before .before .before .before .before .before .before .before .before .before .before .before .before .info .given .1) (put-then (c .before .before .before .before .before .before .before .before .before .before .before .before .before .before .put-text .ensures) (put-then (c .before .before .before .before .before .before .before .before .before .before .put-classes .ensures) (put-then (c .before .before .before .before .before .before .put-texts .ensures) (c .before .before .put-flags .ensures))))
+returns-2 c = rw (← c .before .before .before .before .before .before .before .before .before .before .before .before .before .before .before .before .before .before .before .before .read-with .ensures, c .before .before .before .before .before .before .before .before .before .before .before .before .before .before .before .before .before .before .info .given .1) (put-then (c .before .before .before .before .before .before .before .before .before .before .before .before .before .before .put-text .ensures) (put-then (c .before .before .before .before .before .before .before .before .before .before .put-classes .ensures) (put-then (c .before .before .before .before .before .before .put-texts .ensures) (c .before .before .put-flags .ensures))))
 
 pub put-spec : {M : Type 1} → statement M
 put-spec = tie.close (tie.spec (λ c. search needs) (λ c. search needs) (λ c. search needs) (λ c. search needs) (λ c. search needs) (λ c. search needs) (λ c. search needs) put-texts-requires (λ c. search needs) (λ c. search needs) returns (λ c. search needs) returns-2)

@@ -1,20 +1,7 @@
--- The list is judged, then all of it is shown.
+-- By default.
 use borrow.Author.Needs.{needs}
-use mathlib.Core.Path.{refl, sym, _∙_}
-use Rattle.services_query.specs.ServicesQuery.{allOf}
 use Rattle.services_query.proofs.all.all_elements.Statement.{statement}
 use Rattle.services_query.proofs.all.all_elements.Tie as tie
 
-show-all-requires : tie.Need-show-all-requires
-show-all-requires c κs = sym (c .before .before .before .before .judge-list .ensures) ∙ c .before .before .enum-told .given .1
-
-returns : tie.Need-returns
-unfolding allOf
-returns c = rw (← c .before .before .before .before .before .before .before .before .before .judge-list .ensures, c .before .before .before .before .before .before .before .enum-told .given .1) (c .before .before .before .before .show-all .ensures)
-
-returns-2 : tie.Need-returns-2
-unfolding allOf
-returns-2 c = rw (← c .before .before .before .judge-list .ensures, c .before .refusal .given .1) (refl, (refl, refl))
-
 pub all-elements-spec : {M : Type 1} → statement M
-all-elements-spec = tie.close (tie.spec (λ c. search needs) (λ c. search needs) show-all-requires (λ c. search needs) (λ c. search needs) (λ c. search needs) returns returns-2)
+all-elements-spec = tie.close (tie.spec (λ c. search needs) (λ c. search needs) (λ c. search needs) (λ c. c .before .before .before .before .all-elements-with .ensures))

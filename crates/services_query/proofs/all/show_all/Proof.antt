@@ -5,12 +5,12 @@ use native.Mathlib.Omega.{arith}
 use borrow.Author.Tests.{lt-ltb, le-ltb}
 use Rattle.wire.proofs.Laws.{sets-over}
 use Rattle.services_query.specs.ServicesQuery.{allFields, allCids, allShown}
-use Rattle.services_query.proofs.OnePass.{few-listed, length-fields, length-cids}
+use Rattle.services_query.proofs.OnePass.{length-fields, length-cids}
 use Rattle.services_query.proofs.all.show_all.Statement.{statement}
 use Rattle.services_query.proofs.all.show_all.Tie as tie
 
 total-cids-requires : tie.Need-total-cids-requires
-total-cids-requires c κs = omega (arith, few-listed (c .before .before .before .before .args .payload .now) (c .before .before .before .before .pre), c .judged-count .ensures)
+total-cids-requires c κs = omega (arith, c .before .before .before .before .pre, c .judged-count .ensures)
 
 returns : tie.Need-returns
 unfolding allShown
