@@ -13,7 +13,7 @@ static uint8_t stack[STACK];
 static ucontext_t here, there;
 
 static uint8_t payload[4096], out[8192], memory[CVR_ASSEMBLY_SIZE];
-static uint8_t host[CVR_HOST_SIZE], modem[CVR_MODEM_SIZE];
+static uint8_t host[CVR_HOST_SIZE], modem[CVR_MODEM_SIZE], pins[CVR_PINS_SIZE];
 static uint32_t cids[CVR_MOST_CIDS];
 static size_t length;
 static cvr_service_list list;
@@ -21,6 +21,7 @@ static cvr_message_header message;
 static cvr_signal_state signal_state;
 static cvr_registration registration;
 static cvr_packet_service packet_service;
+static cvr_pins all_pins;
 static volatile uint32_t seen;
 
 static void idle(void) { seen = 0; }
@@ -93,6 +94,27 @@ static void modem_receive(void) {
     seen = cvr_modem_receive(modem, sizeof modem, message, payload, 4, out, sizeof out).refusal.number;
 }
 
+static void set_pin_write(void) {
+    cvr_set_pin entry = {CVR_PIN_TYPE_PIN1, CVR_PIN_OPERATION_ENTER};
+    seen = cvr_set_pin_write(entry, all_pins.rows[0].secret, CVR_MOST_PIN, NULL, 0, out, sizeof out).refusal.number;
+}
+
+static void set_pin_read(void) {
+    seen = cvr_set_pin_read(payload, length).refusal.number;
+}
+
+static void pin_make(void) {
+    seen = cvr_pin_make(pins, sizeof pins, all_pins).number;
+}
+
+static void pin_enter(void) {
+    seen = cvr_pin_enter(pins, sizeof pins, payload, length).refusal.number;
+}
+
+static void pin_receive(void) {
+    seen = cvr_pin_receive(modem, sizeof modem, pins, sizeof pins, message, payload, length, out, sizeof out).refusal.number;
+}
+
 /* Bytes of stack under the function, or all of it where the paint is gone. */
 static size_t depth(void (*function)(void)) {
     size_t untouched = 0;
@@ -136,6 +158,27 @@ static void make_version(void) {
     message.service = service;
     message.cid = CVR_CID_VERSION;
     cvr_version_info_write(info, payload, sizeof payload);
+}
+
+/* A table whose types are all awaited, and an entry with the wrong text. */
+static void pin_rows(void) {
+    cvr_service service = CVR_BASIC_CONNECT;
+    size_t i;
+    for (i = 0; i < CVR_PIN_TYPES; i++) {
+        all_pins.rows[i].present = all_pins.rows[i].enabled = 1;
+        all_pins.rows[i].starting_tries = 3;
+        all_pins.rows[i].secret_length = 8;
+    }
+    row("cvr_set_pin_write", set_pin_write);
+    length = 24 + CVR_MOST_PIN;
+    memcpy(payload, out, length);
+    row("cvr_set_pin_read", set_pin_read);
+    row("cvr_pin_make", pin_make);
+    row("cvr_pin_enter", pin_enter);
+    message.service = service;
+    message.cid = CVR_CID_PIN;
+    message.word = CVR_SET;
+    row("cvr_pin_receive", pin_receive);
 }
 
 int main(void) {
@@ -182,6 +225,7 @@ int main(void) {
     row("cvr_modem_receive, a list", modem_receive);
     make_version();
     row("cvr_modem_receive, VERSION", modem_receive);
+    pin_rows();
     printf("deepest                      %6zu\n", deepest);
     return 0;
 }

@@ -46,6 +46,7 @@ static const char *kind_name(uint32_t kind)
 {
     static const char *const names[] = {
         "no payload", "registration", "packet service", "signal state", "device services", "VERSION",
+        "PIN entry", "PIN info",
     };
     return kind < sizeof names / sizeof names[0] ? names[kind] : "?";
 }
@@ -199,12 +200,12 @@ static void add_service(cvr_service_list *list, cvr_service service, const uint3
 
 static void write_services(payload *out)
 {
-    static const uint32_t basic_cids[] = {CVR_CID_REGISTER_STATE, CVR_CID_PACKET_SERVICE,
+    static const uint32_t basic_cids[] = {CVR_CID_PIN, CVR_CID_REGISTER_STATE, CVR_CID_PACKET_SERVICE,
                                           CVR_CID_SIGNAL_STATE, CVR_CID_DEVICE_SERVICES};
     static const uint32_t extension_cids[] = {CVR_CID_VERSION};
     static cvr_service_list list;
     cvr_written written;
-    add_service(&list, basic_connect, basic_cids, 4);
+    add_service(&list, basic_connect, basic_cids, 5);
     add_service(&list, extensions, extension_cids, 1);
     written = cvr_device_services_write(list, out->bytes, sizeof out->bytes);
     need(written.refusal, "services write");

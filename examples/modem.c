@@ -1,13 +1,14 @@
 /*
  * An office model of a modem, on standard input and output.
  *
- *   modem [-n NATIVE] [-a ADVERTISED] [-x] [-s SIZE] [-d DRIP]
+ *   modem [-n NATIVE] [-a ADVERTISED] [-x] [-p] [-s SIZE] [-d DRIP]
  *
- * -n, -a: versions, 1.00 or 2.00 (2.00 and 1.00 where not given). -x: VERSION is not listed. -s: the
- * largest fragment it sends, 64 to 4096; a smaller one in OPEN is kept to. -d: bytes written at a
- * time. It serves registration, packet service and signal, as far as the handshake allows, and drifts
- * a little with each signal. A bad piece is said on standard error and doesn't stop it; the end of the
- * input does.
+ * -n, -a: versions, 1.00 or 2.00 (2.00 and 1.00 where not given). -x: VERSION is not listed. -p: PIN1
+ * is enabled, else it is disabled and none is awaited. -s: the largest fragment it sends, 64 to 4096; a
+ * smaller one in OPEN is kept to. -d: bytes written at a time. It serves registration, packet service
+ * and signal, as far as the handshake allows, PIN or not, and drifts a little with each signal. It takes
+ * PIN entries and tells which PIN it awaits. A bad piece is said on standard error and doesn't stop it;
+ * the end of the input does.
  */
 #define _POSIX_C_SOURCE 200809L
 
@@ -15,6 +16,12 @@
 
 /* MBIM's ErrorStatusCode of a command before OPEN. */
 #define NOT_OPENED 5
+
+/* Of PIN1 and PUK1. */
+#define PIN_SECRET "1234"
+#define PIN_TRIES 3
+#define PUK_SECRET "12345678"
+#define PUK_TRIES 10
 
 typedef struct payload {
     uint8_t bytes[CVR_MOST_INFORMATION];
@@ -26,9 +33,9 @@ static const cvr_service extensions = CVR_EXTENSIONS;
 
 static line host = {.name = "modem", .in = 0, .out = 1, .size = CVR_MOST_TRANSFER};
 static uint16_t native = CVR_VERSION_2_00, advertised = CVR_VERSION_1_00;
-static int lists_version = 1;
+static int lists_version = 1, pin_enabled = 0;
 static size_t largest = CVR_MOST_TRANSFER; /* fragment */
-static uint8_t modem[CVR_MODEM_SIZE];
+static uint8_t modem[CVR_MODEM_SIZE], pins[CVR_PINS_SIZE];
 static payload services;
 static int is_open;           /* the library's end has no such stage */
 static uint16_t said_version; /* the settled version that was said last */
@@ -62,11 +69,11 @@ static void add_service(cvr_service_list *list, cvr_service service, const uint3
 
 static void write_services(payload *out)
 {
-    static const uint32_t basic_cids[] = {CVR_CID_REGISTER_STATE, CVR_CID_PACKET_SERVICE,
+    static const uint32_t basic_cids[] = {CVR_CID_PIN, CVR_CID_REGISTER_STATE, CVR_CID_PACKET_SERVICE,
                                           CVR_CID_SIGNAL_STATE, CVR_CID_DEVICE_SERVICES};
     static const uint32_t extension_cids[] = {CVR_CID_VERSION};
     static cvr_service_list list;
-    add_service(&list, basic_connect, basic_cids, 4);
+    add_service(&list, basic_connect, basic_cids, 5);
     if (lists_version)
         add_service(&list, extensions, extension_cids, 1);
     keep(out, cvr_device_services_write(list, out->bytes, sizeof out->bytes));
@@ -131,6 +138,41 @@ static void write_signal(uint16_t version, payload *out)
     keep(out, cvr_signal_state_write(info, out->bytes, sizeof out->bytes));
 }
 
+/* ---- PINs */
+
+static void add_pin(cvr_pins *made, uint32_t pin_type, const char *secret, uint32_t tries)
+{
+    cvr_pin *row = &made->rows[pin_type - 1];
+    row->present = 1;
+    row->enabled = (uint32_t)pin_enabled;
+    row->starting_tries = tries;
+    row->secret_length = (uint32_t)widen(secret, row->secret);
+}
+
+static void make_pins(void)
+{
+    cvr_pins made;
+    memset(&made, 0, sizeof made);
+    add_pin(&made, CVR_PIN_TYPE_PIN1, PIN_SECRET, PIN_TRIES);
+    add_pin(&made, CVR_PIN_TYPE_PUK1, PUK_SECRET, PUK_TRIES);
+    need(cvr_pin_make(pins, sizeof pins, made), "the table of PINs");
+}
+
+/* Which PIN or PUK is awaited, and its tries: all 0 where none is, or none is of use. */
+static void write_pin_info(payload *out)
+{
+    const uint8_t *pin = pins + CVR_AT_PINS_ROW(CVR_PIN_TYPE_PIN1);
+    const uint8_t *puk = pins + CVR_AT_PINS_ROW(CVR_PIN_TYPE_PUK1);
+    uint32_t tries = line_number(pin + CVR_AT_ROW_TRIES), puk_tries = line_number(puk + CVR_AT_ROW_TRIES);
+    cvr_pin_info info = {CVR_PIN_TYPE_NONE, CVR_PIN_STATE_UNLOCKED, 0};
+    if (pin[CVR_AT_ROW_ENABLED] && !pin[CVR_AT_ROW_ENTERED] && (tries > 0 || puk_tries > 0)) {
+        info.pin_type = tries > 0 ? CVR_PIN_TYPE_PIN1 : CVR_PIN_TYPE_PUK1;
+        info.pin_state = CVR_PIN_STATE_LOCKED;
+        info.remaining_attempts = tries > 0 ? tries : puk_tries;
+    }
+    keep(out, cvr_pin_info_write(info, out->bytes, sizeof out->bytes));
+}
+
 /* ---- commands */
 
 static void reply(cvr_message_header command, uint32_t status, const payload *information)
@@ -140,7 +182,8 @@ static void reply(cvr_message_header command, uint32_t status, const payload *in
     line_send(&host, command, information->bytes, information->length);
 }
 
-/* A set of anything but the services list is not what a model of states supports. */
+/* A set of anything but the services list is not what a model of states supports; PIN entries don't come
+ * here. */
 static uint32_t serve(cvr_message_header command, cvr_modem_answer answer, payload *out)
 {
     if (answer.kind == CVR_KIND_DEVICE_SERVICES)
@@ -151,6 +194,8 @@ static uint32_t serve(cvr_message_header command, cvr_modem_answer answer, paylo
         write_registration(answer.version, out);
     else if (answer.kind == CVR_KIND_PACKET_SERVICE)
         write_packet_service(answer.version, out);
+    else if (answer.kind == CVR_KIND_PIN_INFO)
+        write_pin_info(out);
     else
         write_signal(answer.version, out);
     return CVR_STATUS_SUCCESS;
@@ -166,8 +211,8 @@ static void say_settled(uint16_t version)
 static void take_command(cvr_message_header command, size_t length)
 {
     payload out;
-    cvr_modem_answer answer = cvr_modem_receive(modem, sizeof modem, command, host.information, length,
-                                                out.bytes, sizeof out.bytes);
+    cvr_modem_answer answer = cvr_pin_receive(modem, sizeof modem, pins, sizeof pins, command,
+                                              host.information, length, out.bytes, sizeof out.bytes);
     if (answer.refusal.number != CVR_NO_REFUSAL) {
         line_refused(&host, "a message", answer.refusal);
         return;
@@ -221,20 +266,22 @@ static void take(cvr_receive_answer got)
 
 static void usage(void)
 {
-    fprintf(stderr, "usage: modem [-n NATIVE] [-a ADVERTISED] [-x] [-s SIZE] [-d DRIP]\n");
+    fprintf(stderr, "usage: modem [-n NATIVE] [-a ADVERTISED] [-x] [-p] [-s SIZE] [-d DRIP]\n");
     exit(2);
 }
 
 static void arguments(int argc, char **argv)
 {
     int option;
-    while ((option = getopt(argc, argv, "n:a:xs:d:")) != -1) {
+    while ((option = getopt(argc, argv, "n:a:xps:d:")) != -1) {
         if (option == 'n')
             native = line_version(optarg);
         else if (option == 'a')
             advertised = line_version(optarg);
         else if (option == 'x')
             lists_version = 0;
+        else if (option == 'p')
+            pin_enabled = 1;
         else if (option == 's')
             largest = strtoul(optarg, NULL, 10);
         else if (option == 'd')
@@ -253,6 +300,7 @@ int main(int argc, char **argv)
     write_services(&services);
     need(cvr_modem_make(modem, sizeof modem, native, advertised, services.bytes, services.length),
          "the modem");
+    make_pins();
     while (line_receive(&host, LINE_FOREVER, &got) == LINE_PIECE)
         take(got);
     return 0;

@@ -1,9 +1,10 @@
 /*
  * culvertroost: the control messages of MBIM with extensions 2.0, for hosts and for modems.
  *
- * Readers and writers of five payloads and of whole messages, the cutter and the assembler of
- * fragments, the version handshake of both ends, decibels and bars. Every function is proved against
- * its specification: on any bytes and any numbers it ends, with the answer described here.
+ * Readers and writers of seven payloads and of whole messages, the cutter and the assembler of
+ * fragments, the version handshake of both ends, a modem's table of PINs, decibels and bars. Every
+ * function is proved against its specification: on any bytes and any numbers it ends, with the answer
+ * described here.
  *
  * A station's receive loop; one read of a cdc-wdm device is one piece:
  *
@@ -29,14 +30,15 @@
  *   }
  *
  * cvr_host_next_command says what to send, cvr_payload_kind what a complete message shows.
- * examples/station.c and examples/modem.c are whole programs.
+ * examples/station.c and examples/modem.c are whole programs, examples/pin.c is a run of PIN entries.
  *
  * Memory. The library allocates nothing, keeps nothing between calls and never faults. What lasts
  * between calls lies in memory that you lend: bytes of any alignment, without pointers inside, that
- * may be copied. Several assemblies, hosts and modems don't disturb each other; calls on different
- * memory may run in parallel. Of other libraries it wants memcpy, memmove and memset. A call takes
- * less than 5 KB of stack, but cvr_device_services_write some 36 KB, half of it the list that is
- * passed; cvr_device_services_write_all writes the same from two lists.
+ * may be copied. Several assemblies, hosts, modems and tables of PINs don't disturb each other; calls on
+ * different memory may run in parallel. Of other libraries it wants memcpy, memmove and memset. A call
+ * takes less than 5 KB of stack, but a PIN entry (cvr_pin_enter, cvr_pin_receive) up to 10 KB, and
+ * cvr_device_services_write some 36 KB, half of it the list that is passed;
+ * cvr_device_services_write_all writes the same from two lists.
  *
  * What a caller owes:
  *   - a pointer is valid for the length that comes after it (a number of bytes, or of uint32_t where
@@ -48,8 +50,8 @@
  * number and a place.
  *   - Number 0: there is no refusal, and the place is 0. Output past what was written stays as it was.
  *   - Any other number is one of enum cvr_refusal_number. Every other member of the answer is 0, no
- *     output is written, and the memory of a host or a modem stays as it was. What becomes of an
- *     assembly is told at cvr_receive.
+ *     output is written, and the memory of a host, a modem or a table of PINs stays as it was. What
+ *     becomes of an assembly is told at cvr_receive.
  * Compare answers member by member: padding between members is unspecified, so memcmp won't do.
  *
  * 'Refuses' below lists a function's refusals in the order in which they are judged, without CVR_;
@@ -80,9 +82,9 @@ extern "C" {
 #endif
 
 /* This library's own version. A call, a struct or a number that changes raises the first two. */
-#define CVR_LIBRARY_VERSION "0.5.0"
+#define CVR_LIBRARY_VERSION "0.6.0"
 #define CVR_LIBRARY_VERSION_MAJOR 0
-#define CVR_LIBRARY_VERSION_MINOR 5
+#define CVR_LIBRARY_VERSION_MINOR 6
 #define CVR_LIBRARY_VERSION_PATCH 0
 
 /* ---- refusals ---------------------------------------------------------------------------------- */
@@ -106,7 +108,8 @@ enum cvr_refusal_number {
     CVR_OFFSET_IN_FIXED_PART = 6,
     /* Offset and size reach beyond the payload. Place: the offset field. */
     CVR_PAST_END = 7,
-    /* A size over its limit, odd for a text, or unfit for its list. Place: the offset field. */
+    /* A size over its limit, odd for a text, or unfit for its list. Place: the offset field; of a PIN
+     * that is made, its secret_length. */
     CVR_WRONG_SIZE = 8,
     /* A number or a bit outside its table. */
     CVR_OUTSIDE_TABLE = 9,
@@ -126,14 +129,14 @@ enum cvr_refusal_number {
     CVR_WRONG_TRANSFER_SIZE = 16,
     /* An offset that is not a multiple of 4. Place: the offset field. */
     CVR_MISALIGNED_OFFSET = 17,
-    /* An offset other than 0 beside size 0; given only where CVR_ZERO_SIZE_STRICT is chosen. Place: the
-     * offset field. */
+    /* An offset other than 0 beside size 0; given only where CVR_ZERO_SIZE_STRICT is chosen, and by
+     * cvr_pin_enter, which is strict. Place: the offset field. */
     CVR_OFFSET_WITH_ZERO_SIZE = 18
 };
 
 /* The faults of an offset/size pair are judged at its offset field, in this order: WRONG_SIZE (over its
- * limit, odd for a text), OFFSET_WITH_ZERO_SIZE (where CVR_ZERO_SIZE_STRICT is chosen),
- * OFFSET_IN_FIXED_PART, MISALIGNED_OFFSET, PAST_END. With size 0 there are none of the last three. */
+ * limit, odd for a text), OFFSET_WITH_ZERO_SIZE (where it is given), OFFSET_IN_FIXED_PART,
+ * MISALIGNED_OFFSET, PAST_END. With size 0 there are none of the last three. */
 
 /* The name of a refusal's number, for a log. */
 static inline const char *cvr_refusal_name(uint32_t number)
@@ -169,6 +172,7 @@ typedef struct cvr_written {
 #define CVR_ASSEMBLY_SIZE 4144
 #define CVR_HOST_SIZE 6
 #define CVR_MODEM_SIZE 10
+#define CVR_PINS_SIZE 748 /* a table of PINs */
 
 /* Limits. */
 #define CVR_MOST_INFORMATION 4096 /* bytes of information in a message, and of a payload */
@@ -183,12 +187,16 @@ typedef struct cvr_written {
 #define CVR_MOST_PROVIDER_ID 12   /* bytes of a registration's texts, UTF-16LE */
 #define CVR_MOST_PROVIDER_NAME 40
 #define CVR_MOST_ROAMING_TEXT 126
+#define CVR_MOST_PIN 32           /* bytes of a PIN's text, UTF-16LE */
+#define CVR_PIN_TYPES 17          /* rows of a table of PINs: the types 1 to 17 */
 
 /* How many bytes a payload takes, at most where it has texts or lists. */
 #define CVR_VERSION_INFO_LENGTH 4
 #define CVR_PACKET_SERVICE_LENGTH 32
 #define CVR_REGISTRATION_LENGTH 232
 #define CVR_SIGNAL_STATE_LENGTH 352
+#define CVR_SET_PIN_LENGTH 88
+#define CVR_PIN_INFO_LENGTH 12
 
 /* Message types. The first six are whole messages, the last three come in fragments. */
 #define CVR_MESSAGE_OPEN UINT32_C(1)
@@ -201,8 +209,9 @@ typedef struct cvr_written {
 #define CVR_MESSAGE_COMMAND_DONE UINT32_C(0x80000003)
 #define CVR_MESSAGE_INDICATE_STATUS UINT32_C(0x80000007)
 
-/* CIDs: the first four of Basic Connect, VERSION of the extensions. */
+/* CIDs: the first five of Basic Connect, VERSION of the extensions. */
 enum cvr_cid {
+    CVR_CID_PIN = 4,
     CVR_CID_REGISTER_STATE = 9,
     CVR_CID_PACKET_SERVICE = 10,
     CVR_CID_SIGNAL_STATE = 11,
@@ -211,7 +220,7 @@ enum cvr_cid {
 };
 
 /* What a pair of size 0 is: the choice that a reader .._with takes. The readers without it, and both ends
- * of the handshake, read by the first. */
+ * of the handshake, read by the first, a PIN entry is read by the second. */
 enum cvr_zero_size {
     /* Absent, whatever its offset. For modems in the field, of which some write an offset beside it. */
     CVR_ZERO_SIZE_ABSENT = 0,
@@ -223,7 +232,8 @@ enum cvr_zero_size {
 /* The type of a command. */
 enum cvr_command_type { CVR_QUERY = 0, CVR_SET = 1 };
 
-/* The status of a reply. MBIM has more; the handshake gives the first and the last. */
+/* The status of a reply. MBIM has more; the handshake gives the first and the last, a table of PINs all
+ * three. */
 enum cvr_status { CVR_STATUS_SUCCESS = 0, CVR_STATUS_FAILURE = 2, CVR_STATUS_NO_DEVICE_SUPPORT = 9 };
 
 /* Which payload a message shows, or a command asks for. */
@@ -233,7 +243,9 @@ enum cvr_kind {
     CVR_KIND_PACKET_SERVICE = 2,
     CVR_KIND_SIGNAL_STATE = 3,
     CVR_KIND_DEVICE_SERVICES = 4,
-    CVR_KIND_VERSION = 5
+    CVR_KIND_VERSION = 5,
+    CVR_KIND_SET_PIN = 6,
+    CVR_KIND_PIN_INFO = 7
 };
 
 /* Data classes: bits of a mask. */
@@ -655,6 +667,173 @@ cvr_written cvr_device_services_write_all(uint32_t max_dss_sessions, const uint3
                                           size_t fields_count, const uint32_t *cids, size_t cids_count,
                                           uint8_t *out, size_t room);
 
+/* ---- PIN ----------------------------------------------------------------------------------------
+ * A host enters PINs with SET_PIN in a set of CVR_CID_PIN; the reply, of status 0 or 2, carries PIN_INFO.
+ * Both have one form, at either version. */
+
+#define CVR_AT_SET_PIN_PIN_TYPE 0
+#define CVR_AT_SET_PIN_PIN_OPERATION 4
+#define CVR_AT_SET_PIN_PIN 8 /* each an offset, with the size 4 bytes on */
+#define CVR_AT_SET_PIN_NEW_PIN 16
+
+#define CVR_AT_PIN_INFO_PIN_TYPE 0
+#define CVR_AT_PIN_INFO_PIN_STATE 4
+#define CVR_AT_PIN_INFO_REMAINING_ATTEMPTS 8
+
+/* From PUK1 on they are PUKs, each of the PIN named alike: CUSTOM, DEVICE_SIM_PIN and SUBSIDY_LOCK have
+ * none. */
+enum cvr_pin_type {
+    CVR_PIN_TYPE_NONE = 0,
+    CVR_PIN_TYPE_CUSTOM = 1,
+    CVR_PIN_TYPE_PIN1 = 2,
+    CVR_PIN_TYPE_PIN2 = 3,
+    CVR_PIN_TYPE_DEVICE_SIM_PIN = 4,
+    CVR_PIN_TYPE_DEVICE_FIRST_SIM_PIN = 5,
+    CVR_PIN_TYPE_NETWORK_PIN = 6,
+    CVR_PIN_TYPE_NETWORK_SUBSET_PIN = 7,
+    CVR_PIN_TYPE_SERVICE_PROVIDER_PIN = 8,
+    CVR_PIN_TYPE_CORPORATE_PIN = 9,
+    CVR_PIN_TYPE_SUBSIDY_LOCK = 10,
+    CVR_PIN_TYPE_PUK1 = 11,
+    CVR_PIN_TYPE_PUK2 = 12,
+    CVR_PIN_TYPE_DEVICE_FIRST_SIM_PUK = 13,
+    CVR_PIN_TYPE_NETWORK_PUK = 14,
+    CVR_PIN_TYPE_NETWORK_SUBSET_PUK = 15,
+    CVR_PIN_TYPE_SERVICE_PROVIDER_PUK = 16,
+    CVR_PIN_TYPE_CORPORATE_PUK = 17
+};
+
+enum cvr_pin_operation {
+    CVR_PIN_OPERATION_ENTER = 0,
+    CVR_PIN_OPERATION_ENABLE = 1,
+    CVR_PIN_OPERATION_DISABLE = 2,
+    CVR_PIN_OPERATION_CHANGE = 3
+};
+
+enum cvr_pin_state { CVR_PIN_STATE_UNLOCKED = 0, CVR_PIN_STATE_LOCKED = 1 };
+
+typedef struct cvr_set_pin {
+    uint32_t pin_type;      /* enum cvr_pin_type */
+    uint32_t pin_operation; /* enum cvr_pin_operation */
+} cvr_set_pin;
+
+/* UTF-16LE, not judged beyond its size: each at most CVR_MOST_PIN bytes. */
+typedef struct cvr_set_pin_texts {
+    cvr_range pin;
+    cvr_range new_pin; /* beside a PUK, the PIN's new text */
+} cvr_set_pin_texts;
+
+typedef struct cvr_set_pin_answer {
+    cvr_refusal refusal;
+    cvr_set_pin info;
+    cvr_set_pin_texts texts;
+} cvr_set_pin_answer;
+
+typedef struct cvr_pin_info {
+    uint32_t pin_type;           /* enum cvr_pin_type */
+    uint32_t pin_state;          /* enum cvr_pin_state */
+    uint32_t remaining_attempts; /* any number */
+} cvr_pin_info;
+
+typedef struct cvr_pin_info_answer {
+    cvr_refusal refusal;
+    cvr_pin_info info;
+} cvr_pin_info_answer;
+
+/* Reads a payload with 24 fixed bytes. The ranges of the texts lie inside it.
+ * Refuses: TOO_SHORT; TOO_LONG at 0; OUTSIDE_TABLE at 0, 4; for each text the faults of a pair, at 8,
+ * 16. */
+cvr_set_pin_answer cvr_set_pin_read(const uint8_t *payload, size_t length);
+
+/* The same by a choice, enum cvr_zero_size.
+ * Refuses: first, OUTSIDE_TABLE at 0 (the choice). */
+cvr_set_pin_answer cvr_set_pin_read_with(uint32_t zero_size, const uint8_t *payload, size_t length);
+
+/* Writes the record and the two texts, each a pointer and its length in bytes: CVR_SET_PIN_LENGTH is
+ * room enough.
+ * Refuses: OUTSIDE_TABLE at 0, 4; WRONG_SIZE at 8, 16; OUTPUT_TOO_SMALL. */
+cvr_written cvr_set_pin_write(cvr_set_pin info, const uint8_t *pin, size_t pin_length,
+                              const uint8_t *new_pin, size_t new_pin_length, uint8_t *out, size_t room);
+
+/* Reads a payload of exactly 12 bytes.
+ * Refuses: TOO_SHORT; WRONG_LENGTH; OUTSIDE_TABLE at 0, 4. */
+cvr_pin_info_answer cvr_pin_info_read(const uint8_t *payload, size_t length);
+
+/* Writes CVR_PIN_INFO_LENGTH bytes.
+ * Refuses: OUTSIDE_TABLE at 0, 4; OUTPUT_TOO_SMALL. */
+cvr_written cvr_pin_info_write(cvr_pin_info info, uint8_t *out, size_t room);
+
+/* A table of PINs is the modem's: a row for each type, PUKs too, with the secret and the tries left. Its
+ * memory is CVR_PINS_SIZE bytes, CVR_PIN_ROW_SIZE a row; OPEN and CLOSE are nothing to it, and an entry
+ * writes to it only where PIN_INFO is shown. Secrets are in no answer and no output. An entry's text is
+ * compared in full, without an early exit that depends on how many bytes agree. The memory itself holds
+ * the secrets, as do the cvr_pins that it was made of and the payloads that came: overwrite them when you
+ * are done.
+ *
+ * Where an entry is taken, the memory is judged first.
+ * Refuses: OUTPUT_TOO_SMALL; row by row, CONTRADICTION at PRESENT, ENABLED, ENTERED (over 1),
+ * SECRET_LENGTH (over CVR_MOST_PIN, or odd), TRIES (above STARTING_TRIES). */
+
+#define CVR_PIN_ROW_SIZE 44
+#define CVR_AT_PINS_ROW(pin_type) (CVR_PIN_ROW_SIZE * ((pin_type) - 1)) /* of types 1 to 17 */
+
+/* From a row's start. The first four are a byte each, tries are 32 bits. */
+#define CVR_AT_ROW_PRESENT 0
+#define CVR_AT_ROW_ENABLED 1
+#define CVR_AT_ROW_ENTERED 2 /* 1: a PIN that is no longer awaited */
+#define CVR_AT_ROW_SECRET_LENGTH 3
+#define CVR_AT_ROW_TRIES 4 /* those left */
+#define CVR_AT_ROW_STARTING_TRIES 8
+#define CVR_AT_ROW_SECRET 12 /* 0 past its length */
+
+/* What a row is made of. */
+typedef struct cvr_pin {
+    uint32_t present;        /* 0 or 1; of a row that is not present the others are judged, not kept */
+    uint32_t enabled;        /* 0 or 1; of a PUK it is not looked at */
+    uint32_t starting_tries; /* any number */
+    uint32_t secret_length;  /* in bytes, an even number */
+    uint8_t secret[CVR_MOST_PIN];
+} cvr_pin;
+
+/* What a table is made of. */
+typedef struct cvr_pins {
+    cvr_pin rows[CVR_PIN_TYPES]; /* that of a type is rows[pin_type - 1] */
+} cvr_pins;
+
+typedef struct cvr_pin_answer {
+    cvr_refusal refusal;
+    uint32_t status;   /* enum cvr_status */
+    uint32_t shown;    /* 1 and the reply's PIN_INFO; or 0, then it is all 0 and the reply has none */
+    cvr_pin_info info;
+} cvr_pin_answer;
+
+/* Makes a table: no PIN is entered, all tries are at their starting numbers.
+ * Refuses: row by row, at the member's place in cvr_pins, OUTSIDE_TABLE (present, enabled), WRONG_SIZE
+ * (secret_length); OUTPUT_TOO_SMALL. */
+cvr_refusal cvr_pin_make(uint8_t *memory, size_t size, cvr_pins pins);
+
+/* Takes an entry: a SET_PIN payload.
+ * Refuses: after the memory, as cvr_set_pin_read_with by CVR_ZERO_SIZE_STRICT. The first row that fits
+ * holds; all 0 is NONE, UNLOCKED, no attempts:
+ *
+ *   what is entered                             status  PIN_INFO                    what changes
+ *   an operation other than ENTER               9       not shown                   nothing
+ *   a type that is not present, or NONE         9       not shown                   nothing
+ *   a PIN that is disabled or entered           2       all 0                       nothing
+ *   a PUK whose PIN has tries, or is not there  2       all 0                       nothing
+ *   a PIN without tries, its PUK has some       2       its PUK, LOCKED, those      nothing
+ *   a PIN without tries, any other              2       all 0                       nothing
+ *   a PUK without tries                         2       all 0                       nothing
+ *   the right text                              0       all 0                       see below
+ *   a wrong text, and tries are left            2       the type, LOCKED, those     one try less
+ *   a wrong text, the last try                  2       as without tries            one try less
+ *
+ * A text is right if it equals the secret in length and bytes; an absent one is empty. A PIN's right text
+ * makes it entered and puts its tries back to their starting number. A PUK's right text does this to its
+ * PIN, whose secret new_pin becomes, and puts the PUK's own tries back. Beside a PIN new_pin is judged and
+ * not used. */
+cvr_pin_answer cvr_pin_enter(uint8_t *memory, size_t size, const uint8_t *payload, size_t length);
+
 /* ---- messages ---------------------------------------------------------------------------------- */
 
 #define CVR_AT_MESSAGE_TYPE 0
@@ -719,8 +898,9 @@ cvr_written cvr_message_write(uint32_t message_type, uint32_t transaction, uint3
 cvr_cut_answer cvr_message_cut(cvr_message_header message, size_t size,
                                const uint8_t *information, size_t length, uint8_t *out, size_t room);
 
-/* Which payload the message's information is. A failed reply, and a command other than VERSION, show
- * none.
+/* Which payload the message's information is. An indication and a reply of status 0 show that of their
+ * CID, a reply of status 2 does so for CVR_CID_PIN (PIN_INFO). A command shows VERSION, or SET_PIN where
+ * it is a set of CVR_CID_PIN. Any other message shows none.
  * Refuses: UNKNOWN at 0 (not a type that comes in fragments), 20, 36. */
 cvr_kind_answer cvr_payload_kind(cvr_message_header message);
 
@@ -878,18 +1058,19 @@ enum cvr_modem_stage {
 enum cvr_action {
     CVR_ACTION_SERVE = 1,   /* answer it: the payload of the kind, with status 0, or a status of yours */
     CVR_ACTION_VERSION = 2, /* send the VERSION payload written, with status 0 */
-    CVR_ACTION_FAILED = 3,  /* the handshake doesn't allow it: send the status, without information */
-    CVR_ACTION_UNKNOWN = 4  /* service or CID is not known: the same, unless you serve it yourself */
+    CVR_ACTION_FAILED = 3,  /* handshake or PINs don't allow it: send the status, without information */
+    CVR_ACTION_UNKNOWN = 4, /* service or CID is not known: the same, unless you serve it yourself */
+    CVR_ACTION_PIN = 5      /* a PIN entry is answered: send the status and the PIN_INFO payload written */
 };
 
 typedef struct cvr_modem_answer {
     cvr_refusal refusal;
     uint32_t action;  /* enum cvr_action */
-    uint32_t status;  /* failed, unknown: the status to send */
-    uint32_t kind;    /* serve: enum cvr_kind, never none */
+    uint32_t status;  /* failed, unknown, PIN: the status to send */
+    uint32_t kind;    /* serve: enum cvr_kind, never none; PIN_INFO for CVR_CID_PIN */
     uint16_t version; /* the version that the modem is settled at after this call, 0 while it isn't */
     uint64_t place;   /* unknown: 20 or 36, where the service or the CID stands */
-    uint64_t length;  /* VERSION: bytes of its payload in the output */
+    uint64_t length;  /* VERSION, PIN: bytes of the payload in the output */
 } cvr_modem_answer;
 
 /* Makes a modem at its start. `services` is the DEVICE_SERVICES payload that it will serve.
@@ -923,6 +1104,22 @@ cvr_refusal cvr_modem_close(uint8_t *memory, size_t size);
 cvr_modem_answer cvr_modem_receive(uint8_t *memory, size_t size, cvr_message_header message,
                                    const uint8_t *information, size_t length, uint8_t *out, size_t room);
 
+/* The same for a modem with a table of PINs: a set of CVR_CID_PIN that cvr_modem_receive would have you
+ * serve is taken as an entry. Any other command, a query of CVR_CID_PIN too, is answered as there, and
+ * the table's memory is not looked at. CVR_PIN_INFO_LENGTH is room enough.
+ * Refuses: as cvr_modem_receive; for an entry, the table's memory, as cvr_pin_enter; last, for PIN_INFO's
+ * payload, OUTPUT_TOO_SMALL. CONTRADICTION may be of either memory: cvr_pin_enter without a payload gives
+ * it where it is the table's, and else TOO_SHORT. An entry, with the next stage that SERVE would have:
+ *
+ *   what cvr_pin_enter answers                answer    status  PIN_INFO    table
+ *   its payload refused                       FAILED    9       none        as it was
+ *   status 9                                  FAILED    9       none        as it was
+ *   status 0 or 2                             PIN       that    written     as there
+ */
+cvr_modem_answer cvr_pin_receive(uint8_t *modem, size_t modem_size, uint8_t *pins, size_t pins_size,
+                                 cvr_message_header message, const uint8_t *information, size_t length,
+                                 uint8_t *out, size_t room);
+
 /* ---- the layout that the library was built for: size, and the last member's offset and end --------
  * Lengths and places in structs are uint64_t, so that it is the same with pointers of 32 bits. */
 
@@ -955,6 +1152,14 @@ CVR_LAYOUT(cvr_all_answer, 32, cids, 24, 32);
 CVR_LAYOUT(cvr_listed_answer, 24, listed, 16, 20);
 CVR_LAYOUT(cvr_service_element, 540, cids, 28, 540);
 CVR_LAYOUT(cvr_service_list, 17288, elements, 8, 17288);
+CVR_LAYOUT(cvr_set_pin, 8, pin_operation, 4, 8);
+CVR_LAYOUT(cvr_set_pin_texts, 16, new_pin, 8, 16);
+CVR_LAYOUT(cvr_set_pin_answer, 40, texts, 24, 40);
+CVR_LAYOUT(cvr_pin_info, 12, remaining_attempts, 8, 12);
+CVR_LAYOUT(cvr_pin_info_answer, 32, info, 16, 28);
+CVR_LAYOUT(cvr_pin, 48, secret, 16, 48);
+CVR_LAYOUT(cvr_pins, 816, rows, 0, 816);
+CVR_LAYOUT(cvr_pin_answer, 40, info, 24, 36);
 CVR_LAYOUT(cvr_message_header, 32, word, 28, 32);
 CVR_LAYOUT(cvr_whole_answer, 32, word, 24, 28);
 CVR_LAYOUT(cvr_cut_answer, 32, length, 24, 32);

@@ -63,9 +63,9 @@ seen() {
     reported
 }
 
-# Of 41 kinds 34 have an answer that is not all 0, and 13 an output. No refusal has the number 99h.
+# Of 50 kinds 42 have an answer that is not all 0, and 17 an output. No refusal has the number 99h.
 changed() {
-    seen 41 4 '^(..)?' 99 && seen 41 4 '$' 01 && seen 34 4 '..$' ee && seen 41 5 '$' 01 && seen 13 5 '^..' ee
+    seen 50 4 '^(..)?' 99 && seen 50 4 '$' 01 && seen 42 4 '..$' ee && seen 50 5 '$' 01 && seen 17 5 '^..' ee
 }
 
 # The first three lines are right, one of them as long as it may be, one with the most room. The others
@@ -77,7 +77,7 @@ malformed() {
     {
         printf "$next\n$next%016614d\n02\t0000000000400000$numbers\n" 0
         printf "\n0$next\n $next\n${next}0g\n$next\t\n14\t\t$says\n"
-        printf "\t\t\t\t\n2a\t\t\t\t\n1400\t\t\t$says\n"
+        printf "\t\t\t\t\n33\t\t\t\t\n1400\t\t\t$says\n"
         printf "$next%016616d\n02\t0000000001400000$numbers\n14\t\t01\t$says\n$next" 0
     } >"$work/changed"
     awk 'NR > 3 { print NR "\tdiffers" }' "$work/changed" >"$work/lines"
@@ -168,13 +168,16 @@ headers() {
 }
 
 programs() {
-    for source in examples/host_and_modem examples/station examples/modem tests/samples tests/null tests/tables; do
+    for source in examples/host_and_modem examples/pin examples/station examples/modem \
+        tests/samples tests/null tests/tables tests/pins; do
         compile_for -O2 "$board/${source##*/}" "$source.c" || return 1
     done
 }
 
-example() {
-    $run "$board/host_and_modem" | diff examples/host_and_modem.expected -
+examples() {
+    for example in host_and_modem pin; do
+        $run "$board/$example" | diff "examples/$example.expected" - || return 1
+    done
 }
 
 # meet RUNNER FOLDER: the station against the modem; what both say
@@ -198,11 +201,12 @@ try_board() {
     step "$triple: archive" boards/build "$triple"
     step "$triple: header" headers
     step "$triple: programs" programs
-    step "$triple: C example" example
+    step "$triple: C examples" examples
     step "$triple: samples" asked "$run" "$board/samples"
     step "$triple: ranges at a page that faults" faults "$run" "$board/samples"
     step "$triple: null pointers" $run "$board/null"
     step "$triple: the tables of the header" $run "$board/tables"
+    step "$triple: the tables of PINs" $run "$board/pins"
     step "$triple: station and modem" ends
 }
 

@@ -152,22 +152,45 @@ sessions() {
         says "Available data classes: 'lte'" --no-open=3 --no-close --query-registration-state &&
         says "Downlink speed: '150000000 bps'" --no-open=4 --no-close --query-packet-service-state &&
         says "RSSI \[0-31,99\]: '1'" --no-open=5 --no-close --query-signal-state &&
-        says 'NoDeviceSupport' --no-open=6 --query-device-caps &&
+        says "PIN state: 'unlocked'" --no-open=6 --no-close --query-pin-state &&
+        says 'NoDeviceSupport' --no-open=7 --query-device-caps &&
         says "Available data classes: 'lte, 5g-nsa'" --device-open-ms-mbimex-v2 --query-registration-state
 }
 
-stock_client() {
+# Three wrong entries, the PUK wrong and right with a new PIN; then no PIN is awaited.
+pin_session() {
+    says 'pin (4)' --query-device-services --no-close &&
+        says "Remaining attempts: '3'" --no-open=3 --no-close --query-pin-state &&
+        says 'failed: Failure' --no-open=4 --no-close --enter-pin=0000 &&
+        says 'failed: Failure' --no-open=5 --no-close --enter-pin=4321 &&
+        says "Remaining attempts: '1'" --no-open=6 --no-close --query-pin-state &&
+        says 'failed: Failure' --no-open=7 --no-close --enter-pin=123 &&
+        says "PIN type: 'puk1'" --no-open=8 --no-close --query-pin-state &&
+        says 'failed: Failure' --no-open=9 --no-close --enter-puk=87654321,5678 &&
+        says "Remaining attempts: '9'" --no-open=10 --no-close --query-pin-state &&
+        says 'PIN operation successful' --no-open=11 --no-close --enter-puk=12345678,5678 &&
+        says "PIN state: 'unlocked'" --no-open=12 --no-close --query-pin-state &&
+        says 'failed: Failure' --no-open=13 --no-close --enter-pin=5678 &&
+        says 'failed: NoDeviceSupport' --no-open=14 --enter-pin=network-pin,1234
+}
+
+# behind_terminal OPTIONS SESSIONS: sessions with the model, which has these options
+behind_terminal() {
     rm -f "$work/pty"
-    socat "PTY,link=$work/pty,raw,echo=0" "EXEC:$work/modem.sanitized -d 7" &
+    socat "PTY,link=$work/pty,raw,echo=0" "EXEC:$work/modem.sanitized $1" &
     behind=$!
     for moment in 1 2 3 4 5 6 7 8 9 10; do
         [ -e "$work/pty" ] || sleep 0.1
     done
-    sessions
+    $2
     result=$?
     kill "$behind"
     wait "$behind" 2>/dev/null
     return $result
+}
+
+stock_client() {
+    behind_terminal '-d 7' sessions && behind_terminal '-p -d 7' pin_session
 }
 
 step 'archive' tests/archive.sh

@@ -1,11 +1,10 @@
 #!/bin/sh
 # The static library as its users see it: the header and what its tables say, null pointers, the page of
-# refusals, the C example, an install, the Rust example, and the comparison with the second program.
+# refusals, the C examples, an install, the Rust examples, and the comparison with the second program.
 set -u
 cd "$(dirname "$0")/.." || exit 2
 name=library
 work=target/library
-expected=examples/host_and_modem.expected
 . tests/common.sh
 need gcc g++ cargo valgrind pkg-config nm
 CARGO_TARGET_DIR=target/cargo
@@ -65,23 +64,27 @@ null() {
     all_tried && tried null
 }
 
-# ---- the example
+# ---- the examples
 
-# same COMMAND...: the command writes the expected text
+# same EXAMPLE COMMAND...: the command writes the example's expected text
 same() {
+    expected=examples/$1.expected
+    shift
     "$@" >"$work/out" && diff "$expected" "$work/out"
 }
 
+# Each of these: EXAMPLE
+
 plain() {
-    compile -O2 "$work/plain" examples/host_and_modem.c && same "$work/plain"
+    compile -O2 "$work/$1" "examples/$1.c" && same "$1" "$work/$1"
 }
 
 under_valgrind() {
-    same valgrind -q --leak-check=full --error-exitcode=9 "$work/plain"
+    same "$1" valgrind -q --leak-check=full --error-exitcode=9 "$work/$1"
 }
 
 sanitized() {
-    compile "$sanitizers" "$work/sanitized" examples/host_and_modem.c && same "$work/sanitized"
+    compile "$sanitizers" "$work/$1.sanitized" "examples/$1.c" && same "$1" "$work/$1.sanitized"
 }
 
 # ---- the install
@@ -94,7 +97,7 @@ installed() {
     export PKG_CONFIG_PATH
     cp examples/host_and_modem.c "$work/installed.c" &&
         gcc -std=c99 $warnings -o "$work/installed" "$work/installed.c" \
-            $(pkg-config --cflags --libs culvertroost) && same "$work/installed" && version
+            $(pkg-config --cflags --libs culvertroost) && same host_and_modem "$work/installed" && version
 }
 
 version() {
@@ -105,8 +108,9 @@ version() {
 
 # ---- Rust and the second program
 
+# rust EXAMPLE
 rust() {
-    same cargo run -q --offline --release --manifest-path bindings/Cargo.toml --example host_and_modem
+    same "$1" cargo run -q --offline --release --manifest-path bindings/Cargo.toml --example "$1"
 }
 
 compare() {
@@ -125,12 +129,16 @@ step 'example in the header' header_example
 step 'what is exported' exported
 step 'null pointers' null
 step 'the tables of the header' tried tables
+step 'the tables of PINs' tried pins
 step 'the page of refusals' tests/refusals.sh
-step 'C example' plain
-step 'C example under valgrind' under_valgrind
-step 'C example with sanitizers' sanitized
+for example in host_and_modem pin; do
+    step "C example $example" plain $example
+    step "C example $example under valgrind" under_valgrind $example
+    step "C example $example with sanitizers" sanitized $example
+done
 step 'install' installed
-step 'Rust example' rust
+step 'Rust example host_and_modem' rust host_and_modem
+step 'Rust example pin' rust pin
 step 'compare' compare
 cp "$work/log" "$work/compare"
 step 'compare under valgrind' compare_under_valgrind

@@ -85,6 +85,21 @@ static void services(void)
                  1);
 }
 
+static void pin_payloads(void)
+{
+    cvr_set_pin entry = {CVR_PIN_TYPE_PIN1, CVR_PIN_OPERATION_ENTER};
+    cvr_pin_info info = {CVR_PIN_TYPE_PIN1, CVR_PIN_STATE_LOCKED, 3};
+    uint8_t out[CVR_SET_PIN_LENGTH];
+    cvr_written written = cvr_set_pin_write(entry, NULL, 0, NULL, 0, out, sizeof out);
+    expect("SET_PIN read", cvr_set_pin_read(NULL, 0).refusal, CVR_TOO_SHORT, 0);
+    expect("SET_PIN write", written.refusal, CVR_NO_REFUSAL, 0);
+    expect_equal("SET_PIN write", written.length, 24);
+    written = cvr_set_pin_write(entry, NULL, 0, NULL, 0, NULL, 0);
+    expect("SET_PIN write", written.refusal, CVR_OUTPUT_TOO_SMALL, 24);
+    expect("PIN_INFO read", cvr_pin_info_read(NULL, 0).refusal, CVR_TOO_SHORT, 0);
+    expect("PIN_INFO write", cvr_pin_info_write(info, NULL, 0).refusal, CVR_OUTPUT_TOO_SMALL, 12);
+}
+
 /* The readers by a choice. */
 static void choices(uint32_t choice)
 {
@@ -94,6 +109,7 @@ static void choices(uint32_t choice)
            CVR_TOO_SHORT, 0);
     expect("signal read", cvr_signal_state_read_with(CVR_VERSION_2_00, choice, NULL, 0).refusal,
            CVR_TOO_SHORT, 0);
+    expect("SET_PIN read", cvr_set_pin_read_with(choice, NULL, 0).refusal, CVR_TOO_SHORT, 0);
     expect("services read", cvr_device_services_read_with(choice, NULL, 0).refusal, CVR_TOO_SHORT, 0);
     expect("services element", cvr_device_services_element_with(choice, NULL, 0, 0, NULL, 0).refusal,
            CVR_TOO_SHORT, 0);
@@ -163,16 +179,42 @@ static void modem_end(cvr_message_header message)
                  CVR_ACTION_SERVE);
 }
 
+/* A modem with a table, of which a command other than an entry has no need. */
+static void pins_end(cvr_message_header message)
+{
+    static cvr_pins none;
+    uint8_t modem[CVR_MODEM_SIZE], pins[CVR_PINS_SIZE], list[64];
+    size_t length = one_service(list, sizeof list);
+    cvr_modem_answer answer;
+    expect("PIN make", cvr_pin_make(NULL, 0, none), CVR_OUTPUT_TOO_SMALL, CVR_PINS_SIZE);
+    expect("PIN make", cvr_pin_make(pins, sizeof pins, none), CVR_NO_REFUSAL, 0);
+    expect("PIN enter", cvr_pin_enter(NULL, 0, NULL, 0).refusal, CVR_OUTPUT_TOO_SMALL, CVR_PINS_SIZE);
+    expect("PIN enter", cvr_pin_enter(pins, sizeof pins, NULL, 0).refusal, CVR_TOO_SHORT, 0);
+    cvr_modem_make(modem, sizeof modem, CVR_VERSION_1_00, CVR_VERSION_1_00, list, length);
+    answer = cvr_pin_receive(NULL, 0, NULL, 0, message, NULL, 0, NULL, 0);
+    expect("PIN receive", answer.refusal, CVR_OUTPUT_TOO_SMALL, CVR_MODEM_SIZE);
+    answer = cvr_pin_receive(modem, sizeof modem, NULL, 0, message, NULL, 0, NULL, 0);
+    expect_equal("PIN receive", answer.action, CVR_ACTION_SERVE);
+    message.cid = CVR_CID_PIN;
+    message.word = CVR_SET;
+    answer = cvr_pin_receive(modem, sizeof modem, NULL, 0, message, NULL, 0, NULL, 0);
+    expect("PIN receive", answer.refusal, CVR_OUTPUT_TOO_SMALL, CVR_PINS_SIZE);
+    answer = cvr_pin_receive(modem, sizeof modem, pins, sizeof pins, message, NULL, 0, NULL, 0);
+    expect_equal("PIN receive", answer.action, CVR_ACTION_FAILED);
+}
+
 int main(void)
 {
     cvr_message_header query = {CVR_MESSAGE_COMMAND, 1, CVR_BASIC_CONNECT, CVR_CID_DEVICE_SERVICES,
                                 CVR_QUERY};
     payloads();
+    pin_payloads();
     services();
     choices(CVR_ZERO_SIZE_ABSENT);
     choices(CVR_ZERO_SIZE_STRICT);
     messages(query);
     host_end(query);
     modem_end(query);
+    pins_end(query);
     return failed;
 }

@@ -8,6 +8,7 @@
  *   cvr_message_cut         the transfer size
  *   cvr_host_receive        native and advertised version, and the list in a reply to a host just opened
  *   cvr_registration_read_with  the version, the choice and the payload
+ *   cvr_pin_enter           the payload; the table has no PIN in it
  *
  * With the argument `names`, the numbers and their names.
  */
@@ -115,6 +116,16 @@ static cvr_refusal registration(const char *version, const char *choice, const c
     return cvr_registration_read_with(version_of(version), (uint32_t)strtoul(choice, NULL, 10), in.at, in.length).refusal;
 }
 
+static cvr_refusal entered(const char *payload)
+{
+    static const cvr_pins none;
+    static bytes in;
+    uint8_t memory[CVR_PINS_SIZE];
+    from_hex(payload, &in);
+    cvr_pin_make(memory, sizeof memory, none);
+    return cvr_pin_enter(memory, sizeof memory, in.at, in.length).refusal;
+}
+
 static cvr_refusal answer(char *line)
 {
     const char *word[1 + MOST_ARGUMENTS] = {"", "", "", "", ""};
@@ -133,6 +144,8 @@ static cvr_refusal answer(char *line)
         return host(word[1], word[2], word[3]);
     if (strcmp(word[0], "cvr_registration_read_with") == 0)
         return registration(word[1], word[2], word[3]);
+    if (strcmp(word[0], "cvr_pin_enter") == 0)
+        return entered(word[1]);
     fail("a call that is not known here");
     return received("");
 }

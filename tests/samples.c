@@ -15,7 +15,7 @@
 #define UNTOUCHED 0xAA
 #define MOST_ROOM 16384
 #define MOST_LIST 1024
-#define QUESTIONS 41
+#define QUESTIONS 50
 
 static sample now; /* the sample whose question is asked; its input with the zeros at the end */
 static const uint8_t *given = now.field[INPUT];
@@ -25,10 +25,11 @@ static size_t answered_length, shown_length;
 static int bad;              /* the question can't be asked */
 static size_t written, room; /* bytes written to the lent output, and its length */
 static size_t listed, list_room;
-static fence input, output, list, service_input, memory, texts[3];
+static fence input, output, list, service_input, memory, pins_memory, texts[3];
 
 /* What stands from line to line. */
 static uint8_t assembly[CVR_ASSEMBLY_SIZE], host[CVR_HOST_SIZE], modem[CVR_MODEM_SIZE];
+static uint8_t pins[CVR_PINS_SIZE];
 
 /* ---- what is asked */
 
@@ -79,6 +80,17 @@ static cvr_service service_at(size_t place)
 {
     size_t from = least(place, given_length), length = least(16, given_length - from);
     return cvr_service_id(lend(service_input, given + from, length), length);
+}
+
+/* Lends so many texts of the input, one after another, whose lengths stand at a place. */
+static void lend_texts(size_t count, size_t at, const uint8_t **text, size_t *length)
+{
+    size_t i, from = 0;
+    for (i = 0; i < count; i++) {
+        length[i] = least(word(at + i), given_length - from);
+        text[i] = lend(texts[i], given + from, length[i]);
+        from += length[i];
+    }
 }
 
 static uint8_t *lend_output(void)
@@ -248,12 +260,8 @@ static void registration_write(void)
     cvr_registration info = {half(2), word(3), word(4), word(5), word(6), word(7), word(8), word(9)};
     uint8_t *out = lend_output();
     const uint8_t *text[3];
-    size_t length[3], i, from = 0;
-    for (i = 0; i < 3; i++) {
-        length[i] = least(word(10 + i), given_length - from);
-        text[i] = lend(texts[i], given + from, length[i]);
-        from += length[i];
-    }
+    size_t length[3];
+    lend_texts(3, 10, text, length);
     put_written(cvr_registration_write(info, text[0], length[0], text[1], length[1], text[2], length[2],
                                        out, room));
 }
@@ -541,13 +549,8 @@ static void modem_close(void)
     keep(modem, sizeof modem);
 }
 
-static void modem_receive(void)
+static void put_modem(cvr_modem_answer answer)
 {
-    uint8_t *out = lend_output(), *lent = lend(memory, modem, sizeof modem);
-    size_t length;
-    const uint8_t *information = lend_information(&length);
-    cvr_modem_answer answer =
-        cvr_modem_receive(lent, sizeof modem, message_at(2), information, length, out, room);
     keep(modem, sizeof modem);
     put_refusal(answer.refusal);
     put(answer.action);
@@ -557,6 +560,14 @@ static void modem_receive(void)
     put(answer.place);
     put(answer.length);
     show_output(answer.length);
+}
+
+static void modem_receive(void)
+{
+    uint8_t *out = lend_output(), *lent = lend(memory, modem, sizeof modem);
+    size_t length;
+    const uint8_t *information = lend_information(&length);
+    put_modem(cvr_modem_receive(lent, sizeof modem, message_at(2), information, length, out, room));
 }
 
 static void show_modem(void)
@@ -640,6 +651,109 @@ static void is_listed_with(void)
     put_listed(cvr_device_services_listed_with(word(2), payload, length, service_at(0), word(1)));
 }
 
+/* ---- 42 to 46: SET_PIN and PIN_INFO */
+
+static void put_set_pin(cvr_set_pin_answer answer)
+{
+    put_refusal(answer.refusal);
+    put(answer.info.pin_type);
+    put(answer.info.pin_operation);
+    put_range(answer.texts.pin);
+    put_range(answer.texts.new_pin);
+}
+
+static void set_pin_read(void)
+{
+    put_set_pin(cvr_set_pin_read(lend_input(), given_length));
+}
+
+static void set_pin_read_with(void)
+{
+    put_set_pin(cvr_set_pin_read_with(word(1), lend_input(), given_length));
+}
+
+static void set_pin_write(void)
+{
+    cvr_set_pin info = {word(2), word(3)};
+    uint8_t *out = lend_output();
+    const uint8_t *text[2];
+    size_t length[2];
+    lend_texts(2, 4, text, length);
+    put_written(cvr_set_pin_write(info, text[0], length[0], text[1], length[1], out, room));
+}
+
+static void put_pin_info(cvr_pin_info info)
+{
+    put(info.pin_type);
+    put(info.pin_state);
+    put(info.remaining_attempts);
+}
+
+static void pin_info_read(void)
+{
+    cvr_pin_info_answer answer = cvr_pin_info_read(lend_input(), given_length);
+    put_refusal(answer.refusal);
+    put_pin_info(answer.info);
+}
+
+static void pin_info_write(void)
+{
+    cvr_pin_info info = {word(2), word(3), word(4)};
+    uint8_t *out = lend_output();
+    put_written(cvr_pin_info_write(info, out, room));
+}
+
+/* ---- 47 to 50: the table of PINs, and the modem with it */
+
+static void keep_pins(size_t size)
+{
+    memcpy(pins, pins_memory.end - size, size);
+}
+
+static void pin_make(void)
+{
+    size_t i, size = limited(1, sizeof pins);
+    cvr_pins made;
+    for (i = 0; i < CVR_PIN_TYPES; i++) {
+        cvr_pin *row = &made.rows[i];
+        row->present = word(2 + 4 * i);
+        row->enabled = word(3 + 4 * i);
+        row->starting_tries = word(4 + 4 * i);
+        row->secret_length = word(5 + 4 * i);
+        memcpy(row->secret, given + CVR_MOST_PIN * i, CVR_MOST_PIN);
+    }
+    put_refusal(cvr_pin_make(lend(pins_memory, pins, size), size, made));
+    keep_pins(size);
+}
+
+static void pin_enter(void)
+{
+    uint8_t *lent = lend(pins_memory, pins, sizeof pins);
+    cvr_pin_answer answer = cvr_pin_enter(lent, sizeof pins, lend_input(), given_length);
+    keep_pins(sizeof pins);
+    put_refusal(answer.refusal);
+    put(answer.status);
+    put(answer.shown);
+    put_pin_info(answer.info);
+}
+
+static void pin_receive(void)
+{
+    uint8_t *out = lend_output(), *lent = lend(memory, modem, sizeof modem);
+    uint8_t *lent_pins = lend(pins_memory, pins, sizeof pins);
+    size_t length;
+    const uint8_t *information = lend_information(&length);
+    put_modem(cvr_pin_receive(lent, sizeof modem, lent_pins, sizeof pins, message_at(2), information,
+                              length, out, room));
+    keep_pins(sizeof pins);
+}
+
+static void show_pins(void)
+{
+    put_refusal(none);
+    show(pins, sizeof pins);
+}
+
 /* ---- all questions */
 
 static void (*const questions[QUESTIONS + 1])(void) = {
@@ -648,7 +762,8 @@ static void (*const questions[QUESTIONS + 1])(void) = {
     whole_write, receive, empty, show_assembly, cut, next_transaction, kind, host_make, host_open, host_close,
     next_command, host_receive, modem_make, modem_open, modem_close, modem_receive, show_host, show_modem,
     rsrp, snr, bars, registration_read_with, signal_read_with, services_read_with, element_with,
-    service_cids_with, is_listed_with
+    service_cids_with, is_listed_with, set_pin_read, set_pin_read_with, set_pin_write, pin_info_read,
+    pin_info_write, pin_make, pin_enter, pin_receive, show_pins
 };
 
 static void ask(void)
@@ -689,6 +804,7 @@ static void make_fences(void)
     list = make_fence(4 * MOST_LIST);
     service_input = make_fence(16);
     memory = make_fence(sizeof assembly);
+    pins_memory = make_fence(sizeof pins);
     for (i = 0; i < 3; i++)
         texts[i] = make_fence(MOST_LINE);
 }

@@ -1,7 +1,8 @@
 /*
- * The tables of the header, row by row: which data classes may stand where, which numbers choose what a
- * size of 0 is, what each end answers at each stage, and where lent memory is refused. An 'any' of the
- * header is tried at every stage.
+ * The tables of the header, row by row: which data classes and PIN numbers may stand where, which numbers
+ * choose what a size of 0 is, which payload a message shows, what each end answers at each stage, and
+ * where lent memory is refused. An 'any' of the header is tried at every stage. tests/pins.c has the
+ * tables of PINs.
  */
 #include "culvertroost.h"
 
@@ -117,7 +118,7 @@ static cvr_refusal system_type(uint32_t class)
     return cvr_signal_state_write(info, out, sizeof out).refusal;
 }
 
-static void class_row(int row, const char *what, cvr_refusal refusal, int taken, uint64_t place)
+static void number_row(int row, const char *what, cvr_refusal refusal, int taken, uint64_t place)
 {
     check_refusal(what, row, refusal, taken ? CVR_NO_REFUSAL : CVR_OUTSIDE_TABLE, place);
 }
@@ -131,18 +132,155 @@ static void class_table(void)
             int earlier = (class & CVR_DATA_CLASSES_1_00) == class;
             int later = (class & CVR_DATA_CLASSES_2_00) == class;
             int packet = i == j || class == CVR_DATA_CLASS_HSPA;
-            class_row(i * 32 + j, "class at 1.00", packet_class(V1, class), packet && earlier, 8);
-            class_row(i * 32 + j, "class at 2.00", packet_class(V2, class), packet && later, 8);
-            class_row(i * 32 + j, "available at 1.00", registration_classes(V1, class, 0), earlier, 12);
-            class_row(i * 32 + j, "available at 2.00", registration_classes(V2, class, 0), later, 12);
-            class_row(i * 32 + j, "preferred", registration_classes(V2, 0, class), later, 48);
-            class_row(i * 32 + j, "system type", system_type(class), i == j && later, 48);
+            number_row(i * 32 + j, "class at 1.00", packet_class(V1, class), packet && earlier, 8);
+            number_row(i * 32 + j, "class at 2.00", packet_class(V2, class), packet && later, 8);
+            number_row(i * 32 + j, "available at 1.00", registration_classes(V1, class, 0), earlier, 12);
+            number_row(i * 32 + j, "available at 2.00", registration_classes(V2, class, 0), later, 12);
+            number_row(i * 32 + j, "preferred", registration_classes(V2, 0, class), later, 48);
+            number_row(i * 32 + j, "system type", system_type(class), i == j && later, 48);
         }
+}
+
+/* The numbers that are tried where a field or a choice takes few: 0 to 300, then these. */
+enum { LARGE = 301, NUMBERS = LARGE + 8 };
+static const uint32_t large[NUMBERS - LARGE] = {0x10000,    0x10001,    0x1000000,  0x1000001,
+                                                0x80000000, 0x80000001, 0xFFFFFFFE, 0xFFFFFFFF};
+
+static uint32_t number_tried(int i)
+{
+    return i < LARGE ? (uint32_t)i : large[i - LARGE];
+}
+
+/* ---- the numbers of SET_PIN and PIN_INFO */
+
+/* Puts a number at a place of a payload that the reader takes. */
+static const uint8_t *with_number(const uint8_t *good, size_t length, size_t place, uint32_t number)
+{
+    static uint8_t changed[CVR_SET_PIN_LENGTH];
+    int i;
+    memcpy(changed, good, length);
+    for (i = 0; i < 4; i++)
+        changed[place + (size_t)i] = (uint8_t)(number >> 8 * i);
+    return changed;
+}
+
+static void set_pin_row(int i, uint32_t number)
+{
+    cvr_set_pin type = {0, CVR_PIN_OPERATION_CHANGE}, operation = {CVR_PIN_TYPE_CORPORATE_PUK, 0};
+    uint8_t good[24], out[24];
+    cvr_written written = cvr_set_pin_write(type, NULL, 0, NULL, 0, good, sizeof good);
+    check("SET_PIN", i, "the length", written.length, sizeof good);
+    type.pin_type = operation.pin_operation = number;
+    number_row(i, "PinType written", cvr_set_pin_write(type, NULL, 0, NULL, 0, out, 24).refusal,
+              number <= CVR_PIN_TYPE_CORPORATE_PUK, 0);
+    number_row(i, "PinOperation written", cvr_set_pin_write(operation, NULL, 0, NULL, 0, out, 24).refusal,
+              number <= CVR_PIN_OPERATION_CHANGE, 4);
+    number_row(i, "PinType", cvr_set_pin_read(with_number(good, 24, 0, number), 24).refusal,
+              number <= CVR_PIN_TYPE_CORPORATE_PUK, CVR_AT_SET_PIN_PIN_TYPE);
+    number_row(i, "PinOperation", cvr_set_pin_read(with_number(good, 24, 4, number), 24).refusal,
+              number <= CVR_PIN_OPERATION_CHANGE, CVR_AT_SET_PIN_PIN_OPERATION);
+}
+
+static void pin_info_row(int i, uint32_t number)
+{
+    static const uint8_t good[CVR_PIN_INFO_LENGTH] = {CVR_PIN_TYPE_PIN1, 0, 0, 0, CVR_PIN_STATE_LOCKED};
+    cvr_pin_info type = {0, 0, 0}, state = {0, 0, 0}, attempts = {0, 0, 0};
+    uint8_t out[CVR_PIN_INFO_LENGTH];
+    type.pin_type = state.pin_state = attempts.remaining_attempts = number;
+    number_row(i, "PinType written", cvr_pin_info_write(type, out, 12).refusal,
+              number <= CVR_PIN_TYPE_CORPORATE_PUK, 0);
+    number_row(i, "PinState written", cvr_pin_info_write(state, out, 12).refusal,
+              number <= CVR_PIN_STATE_LOCKED, 4);
+    number_row(i, "attempts written", cvr_pin_info_write(attempts, out, 12).refusal, 1, 0);
+    check("attempts", i, "what is read", cvr_pin_info_read(out, 12).info.remaining_attempts, number);
+    number_row(i, "PinType", cvr_pin_info_read(with_number(good, 12, 0, number), 12).refusal,
+              number <= CVR_PIN_TYPE_CORPORATE_PUK, CVR_AT_PIN_INFO_PIN_TYPE);
+    number_row(i, "PinState", cvr_pin_info_read(with_number(good, 12, 4, number), 12).refusal,
+              number <= CVR_PIN_STATE_LOCKED, CVR_AT_PIN_INFO_PIN_STATE);
+}
+
+static void pin_number_table(void)
+{
+    int i;
+    for (i = 0; i < NUMBERS; i++) {
+        set_pin_row(i, number_tried(i));
+        pin_info_row(i, number_tried(i));
+    }
+}
+
+/* ---- which payload a message shows */
+
+enum { WAYS = 8, SUCCEEDED = 3 };
+static const struct way {
+    uint32_t message_type, word;
+} ways[WAYS] = {
+    {CVR_MESSAGE_COMMAND, CVR_QUERY},    {CVR_MESSAGE_COMMAND, CVR_SET},
+    {CVR_MESSAGE_COMMAND, 2},            {CVR_MESSAGE_COMMAND_DONE, CVR_STATUS_SUCCESS},
+    {CVR_MESSAGE_COMMAND_DONE, 1},       {CVR_MESSAGE_COMMAND_DONE, CVR_STATUS_FAILURE},
+    {CVR_MESSAGE_COMMAND_DONE, CVR_STATUS_NO_DEVICE_SUPPORT}, {CVR_MESSAGE_INDICATE_STATUS, 9},
+};
+
+/* A known CID, and the kind for each way. */
+typedef struct kind_row {
+    const cvr_service *service;
+    uint32_t cid;
+    uint32_t kinds[WAYS];
+} kind_row;
+
+static const kind_row kind_rows[] = {
+    {&basic_connect, CVR_CID_PIN, {0, CVR_KIND_SET_PIN, 0, CVR_KIND_PIN_INFO, 0, CVR_KIND_PIN_INFO, 0,
+                                   CVR_KIND_PIN_INFO}},
+    {&basic_connect, CVR_CID_REGISTER_STATE, {0, 0, 0, CVR_KIND_REGISTER_STATE, 0, 0, 0,
+                                              CVR_KIND_REGISTER_STATE}},
+    {&basic_connect, CVR_CID_PACKET_SERVICE, {0, 0, 0, CVR_KIND_PACKET_SERVICE, 0, 0, 0,
+                                              CVR_KIND_PACKET_SERVICE}},
+    {&basic_connect, CVR_CID_SIGNAL_STATE, {0, 0, 0, CVR_KIND_SIGNAL_STATE, 0, 0, 0,
+                                            CVR_KIND_SIGNAL_STATE}},
+    {&basic_connect, CVR_CID_DEVICE_SERVICES, {0, 0, 0, CVR_KIND_DEVICE_SERVICES, 0, 0, 0,
+                                               CVR_KIND_DEVICE_SERVICES}},
+    {&extensions, CVR_CID_VERSION, {CVR_KIND_VERSION, CVR_KIND_VERSION, CVR_KIND_VERSION, CVR_KIND_VERSION,
+                                    0, 0, 0, CVR_KIND_VERSION}},
+};
+enum { KINDS = sizeof kind_rows / sizeof kind_rows[0] };
+
+/* The row of a service and CID, or none. */
+static const kind_row *kind_of(const cvr_service *service, uint32_t cid)
+{
+    int i;
+    for (i = 0; i < KINDS; i++)
+        if (kind_rows[i].service == service && kind_rows[i].cid == cid)
+            return &kind_rows[i];
+    return NULL;
+}
+
+static void try_kind(const cvr_service *service, uint32_t cid, int way)
+{
+    const kind_row *row = kind_of(service, cid);
+    int known = service == &basic_connect || service == &extensions;
+    cvr_kind_answer answer = cvr_payload_kind(header(ways[way].message_type, service, cid, ways[way].word));
+    check_refusal("kinds", (int)cid * WAYS + way, answer.refusal, row ? CVR_NO_REFUSAL : CVR_UNKNOWN,
+                  known ? CVR_AT_FIRST_CID : CVR_AT_FIRST_SERVICE);
+    check("kinds", (int)cid * WAYS + way, "the kind", answer.kind, row ? row->kinds[way] : CVR_KIND_NONE);
+}
+
+static void kind_table(void)
+{
+    static const cvr_service other = {1, 2, 3, 4};
+    uint32_t cid;
+    int way;
+    for (cid = 0; cid < LARGE; cid++)
+        for (way = 0; way < WAYS; way++) {
+            try_kind(&basic_connect, cid, way);
+            try_kind(&extensions, cid, way);
+            try_kind(&other, cid, way);
+        }
+    check_refusal("kinds", 0, cvr_payload_kind(header(CVR_MESSAGE_OPEN, &basic_connect, 4, 1)).refusal,
+                  CVR_UNKNOWN, 0);
 }
 
 /* ---- what a size of 0 is: each reader, by every number for the choice */
 
-enum reader { REGISTRATION, SIGNAL, HEAD, ELEMENT, CIDS, ALL, LISTED };
+enum reader { REGISTRATION, SIGNAL, SET_PIN, HEAD, ELEMENT, CIDS, ALL, LISTED };
 
 /* The refusals of a payload whose first pair has size 0 beside an offset, at the pair's place. */
 typedef struct zero_row {
@@ -158,6 +296,8 @@ static const zero_row zero_rows[] = {
     {"registration at 2.00", REGISTRATION, V2, CVR_NO_REFUSAL, CVR_OFFSET_WITH_ZERO_SIZE, 20},
     {"signal at 1.00", SIGNAL, V1, CVR_NO_REFUSAL, CVR_NO_REFUSAL, 0}, /* it has no pair */
     {"signal at 2.00", SIGNAL, V2, CVR_NO_REFUSAL, CVR_OFFSET_WITH_ZERO_SIZE, 20},
+    {"SET_PIN", SET_PIN, 0, CVR_NO_REFUSAL, CVR_OFFSET_WITH_ZERO_SIZE, 8},
+    {"SET_PIN, the new text", SET_PIN, 0, CVR_NO_REFUSAL, CVR_OFFSET_WITH_ZERO_SIZE, 16},
     {"services read", HEAD, 0, CVR_WRONG_SIZE, CVR_OFFSET_WITH_ZERO_SIZE, 8},
     {"services element", ELEMENT, 0, CVR_WRONG_SIZE, CVR_OFFSET_WITH_ZERO_SIZE, 8},
     {"services CIDs", CIDS, 0, CVR_WRONG_SIZE, CVR_OFFSET_WITH_ZERO_SIZE, 8},
@@ -177,6 +317,8 @@ static cvr_refusal without_choice(enum reader reader, uint16_t version, const pa
         return cvr_registration_read(version, bytes, length).refusal;
     case SIGNAL:
         return cvr_signal_state_read(version, bytes, length).refusal;
+    case SET_PIN:
+        return cvr_set_pin_read(bytes, length).refusal;
     case HEAD:
         return cvr_device_services_read(bytes, length).refusal;
     case ELEMENT:
@@ -199,6 +341,8 @@ static cvr_refusal by_choice(enum reader reader, uint16_t version, uint32_t choi
         return cvr_registration_read_with(version, choice, bytes, length).refusal;
     case SIGNAL:
         return cvr_signal_state_read_with(version, choice, bytes, length).refusal;
+    case SET_PIN:
+        return cvr_set_pin_read_with(choice, bytes, length).refusal;
     case HEAD:
         return cvr_device_services_read_with(choice, bytes, length).refusal;
     case ELEMENT:
@@ -218,6 +362,7 @@ static cvr_refusal by_choice(enum reader reader, uint16_t version, uint32_t choi
 static void write_zero_size(const zero_row *row, payload *out)
 {
     static const uint8_t pair[8] = {52};
+    static const cvr_set_pin entry = {CVR_PIN_TYPE_PIN1, CVR_PIN_OPERATION_ENTER};
     static cvr_signal_state signal;
     cvr_registration registration;
     memset(&registration, 0, sizeof registration);
@@ -228,21 +373,18 @@ static void write_zero_size(const zero_row *row, payload *out)
                                              sizeof out->bytes).length;
     else if (row->reader == SIGNAL)
         out->length = cvr_signal_state_write(signal, out->bytes, sizeof out->bytes).length;
+    else if (row->reader == SET_PIN)
+        out->length = cvr_set_pin_write(entry, NULL, 0, NULL, 0, out->bytes, sizeof out->bytes).length;
     else
         write_list(out, 2);
     if (row->place)
         memcpy(out->bytes + row->place, pair, sizeof pair);
 }
 
-/* The numbers tried: 0 to 300, then these. */
-enum { LARGE = 301 };
-static const uint32_t large[] = {0x10000,    0x10001,    0x1000000,  0x1000001,
-                                 0x80000000, 0x80000001, 0xFFFFFFFE, 0xFFFFFFFF};
-
 /* A number that is no choice is refused before the payload, a version before the choice. */
 static void try_choice(const zero_row *row, const payload *in, int i)
 {
-    uint32_t choice = i < LARGE ? (uint32_t)i : large[i - LARGE];
+    uint32_t choice = number_tried(i);
     int chosen = choice == CVR_ZERO_SIZE_ABSENT || choice == CVR_ZERO_SIZE_STRICT;
     uint32_t number = choice == CVR_ZERO_SIZE_ABSENT ? row->absent : row->strict;
     check_refusal(row->what, i, by_choice(row->reader, row->version, choice, in),
@@ -265,7 +407,7 @@ static void zero_size_table(void)
         if (row->reader == REGISTRATION)
             check("no choice", i, "the absent text's start",
                   cvr_registration_read(row->version, in.bytes, in.length).texts.provider_id.start, 0);
-        for (j = 0; j < LARGE + (int)(sizeof large / sizeof large[0]); j++)
+        for (j = 0; j < NUMBERS; j++)
             try_choice(row, &in, j);
     }
 }
@@ -382,6 +524,7 @@ static const modem_row modem_rows[] = {
     {0, V1, &listed, CVR_CID_VERSION, CVR_QUERY, &version_2, CVR_ACTION_FAILED, 9, 0, 0},
     {0, V1, &listed, CVR_CID_SIGNAL_STATE, CVR_QUERY, &broken, CVR_ACTION_FAILED, 9, 0, 0},
     {0, V1, &listed, NOT_KNOWN, CVR_QUERY, &broken, CVR_ACTION_FAILED, 9, 0, 0},
+    {0, V1, &listed, CVR_CID_PIN, CVR_SET, &broken, CVR_ACTION_FAILED, 9, 0, 0},
     {1, V1, &listed, CVR_CID_DEVICE_SERVICES, CVR_SET, &broken, CVR_ACTION_SERVE, 0, 1, 0},
     {1, V1, &listed, CVR_CID_VERSION, CVR_QUERY, &version_2, CVR_ACTION_VERSION, 0, 2, V2},
     {1, V1, &listed, CVR_CID_VERSION, CVR_QUERY, &version_1, CVR_ACTION_VERSION, 0, 2, V1},
@@ -393,9 +536,13 @@ static const modem_row modem_rows[] = {
     {1, V2, &listed, NOT_KNOWN, CVR_QUERY, &broken, CVR_ACTION_FAILED, 9, 1, 0},
     {1, V1, &listed, NOT_KNOWN, CVR_QUERY, &broken, CVR_ACTION_UNKNOWN, 9, 2, V1},
     {1, V1, &listed, CVR_CID_SIGNAL_STATE, CVR_SET, &broken, CVR_ACTION_SERVE, 0, 2, V1},
+    {1, V1, &listed, CVR_CID_PIN, CVR_SET, &broken, CVR_ACTION_SERVE, 0, 2, V1},
+    {1, V2, &listed, CVR_CID_PIN, CVR_SET, &broken, CVR_ACTION_FAILED, 9, 1, 0},
     {2, V1, &listed, CVR_CID_VERSION, CVR_QUERY, &version_2, CVR_ACTION_FAILED, 9, 2, V2},
     {2, V1, &listed, NOT_KNOWN, CVR_SET, &broken, CVR_ACTION_UNKNOWN, 9, 2, V2},
     {2, V1, &listed, CVR_CID_SIGNAL_STATE, CVR_SET, &broken, CVR_ACTION_SERVE, 0, 2, V2},
+    {2, V1, &listed, CVR_CID_PIN, CVR_SET, &broken, CVR_ACTION_SERVE, 0, 2, V2},
+    {2, V1, &listed, CVR_CID_PIN, CVR_QUERY, &broken, CVR_ACTION_SERVE, 0, 2, V2},
     {2, V1, &listed, CVR_CID_DEVICE_SERVICES, CVR_QUERY, &broken, CVR_ACTION_SERVE, 0, 2, V2},
 };
 
@@ -416,6 +563,13 @@ static void modem_at(uint8_t *modem, int stage, uint16_t advertised, const paylo
         command(modem, CVR_CID_VERSION, CVR_QUERY, &version_2);
 }
 
+/* The kind that a reply of status 0 would show. */
+static uint32_t served_kind(const modem_row *row)
+{
+    const kind_row *known = kind_of(&basic_connect, row->cid);
+    return row->action == CVR_ACTION_SERVE ? known->kinds[SUCCEEDED] : CVR_KIND_NONE;
+}
+
 static void modem_table(void)
 {
     int i;
@@ -429,6 +583,7 @@ static void modem_table(void)
         check("modem", i, "the refusal", answer.refusal.number, CVR_NO_REFUSAL);
         check("modem", i, "the action", answer.action, row->action);
         check("modem", i, "the status", answer.status, row->status);
+        check("modem", i, "the kind", answer.kind, served_kind(row));
         check("modem", i, "the version", answer.version, row->version);
         check("modem", i, "the place", answer.place, row->action == CVR_ACTION_UNKNOWN ? 36 : 0);
         check("modem", i, "the next stage", modem[CVR_AT_MODEM_STAGE], (uint64_t)row->next);
@@ -537,6 +692,8 @@ int main(void)
 {
     write_payloads();
     class_table();
+    pin_number_table();
+    kind_table();
     zero_size_table();
     host_table();
     modem_table();

@@ -3,8 +3,9 @@
 
 use crate::plain;
 use culvertroost::c;
-use second::message::Header;
-use second::payload::{BASIC_CONNECT, CID_DEVICE_SERVICES};
+use second::message::{Header, COMMAND, SET};
+use second::payload::{BASIC_CONNECT, CID_DEVICE_SERVICES, CID_PIN};
+use second::pin::{PinInfo, SetPin};
 use second::registration::Registration;
 use second::signal_state::RsrpSnr;
 
@@ -23,6 +24,9 @@ pub struct Inputs {
     pub service_fields: [u32; 7 * 8],
     pub service_cids: [u32; 8 * 8],
     pub last_service: [u8; 16],
+    /// A wrong text for PIN1, and what it is answered.
+    pub set_pin: Vec<u8>,
+    pub pin_info: Vec<u8>,
 }
 
 fn words(numbers: &[u32]) -> Vec<u8> {
@@ -42,11 +46,19 @@ pub fn header(message_type: u32) -> Header {
     Header { message_type, transaction: 1, service, cid, word: 0 }
 }
 
-/// The same, as the library takes it.
+/// The header of a PIN entry.
+pub fn entry_header() -> Header {
+    Header { cid: CID_PIN, word: SET, ..header(COMMAND) }
+}
+
+/// The same as `header`, as the library takes it.
 pub fn message(message_type: u32) -> c::MessageHeader {
-    let header = header(message_type);
+    message_of(&header(message_type))
+}
+
+pub fn message_of(header: &Header) -> c::MessageHeader {
     c::MessageHeader {
-        message_type,
+        message_type: header.message_type,
         transaction: header.transaction,
         service: c::service_id(&header.service),
         cid: header.cid,
@@ -102,6 +114,8 @@ impl Inputs {
             service_fields: [0; 7 * 8],
             service_cids: [0; 8 * 8],
             last_service: [8; 16],
+            set_pin: written(|out| plain::set_pin_write(&set_pin_record(), out)),
+            pin_info: written(|out| plain::pin_info_write(&pin_info_record(), out)),
         };
         let (fields, cids) = (&mut inputs.service_fields, &mut inputs.service_cids);
         plain::services_all(&inputs.services, fields, cids).expect("a list within the rules");
@@ -121,6 +135,9 @@ impl Inputs {
         let (fields, cids) = (&self.service_fields, &self.service_cids);
         assert_eq!(c::device_services_write_all(0, fields, cids, &mut out).refusal.number, 0);
         assert!(out.starts_with(&self.services));
+        assert_eq!(c::set_pin_read(&self.set_pin).refusal.number, 0);
+        assert_eq!(c::pin_info_read(&self.pin_info).refusal.number, 0);
+        assert_eq!(c::pin_enter(&mut pin_memory(), &self.set_pin).info.pin_state, 1);
     }
 
     /// The information of a message: at most 128 fragments carry it.
@@ -132,6 +149,26 @@ impl Inputs {
     pub fn pieces(&self, size: usize) -> Vec<Vec<u8>> {
         cut(size, &self.information(size))
     }
+}
+
+/// PIN1 with 8 characters, and as many for a new one.
+pub fn set_pin_record() -> SetPin<&'static [u8]> {
+    SetPin { pin_type: 2, pin_operation: 0, pin: &[1; 16], new_pin: &[2; 16] }
+}
+
+pub fn pin_info_record() -> PinInfo {
+    PinInfo { pin_type: 2, pin_state: 1, remaining_attempts: 3 }
+}
+
+/// The memory of a table in which all types are enabled, with tries for all calls and another secret of
+/// that length.
+pub fn pin_memory() -> [u8; c::PINS_SIZE] {
+    let mut memory = [0; c::PINS_SIZE];
+    let secret = c::Secret([3; c::MOST_PIN]);
+    let row =
+        c::Pin { present: 1, enabled: 1, starting_tries: u32::MAX, secret_length: 16, secret };
+    assert_eq!(c::pin_make(&mut memory, c::Pins { rows: [row; c::PIN_TYPES] }).number, 0);
+    memory
 }
 
 /// The record of `registration`.

@@ -5,9 +5,12 @@ use crate::inputs;
 use second::assembler::Assembler;
 use second::device_services::{self, Element, Shown};
 use second::door::{self, Received};
-use second::handshake::{CommandAnswer, Host, Modem, ReplyAnswer};
+use second::handshake::{self, CommandAnswer, Host, Modem, ReplyAnswer};
 use second::message::{Header, COMMAND};
 use second::packet_service::{self, PacketService};
+use second::pin::{self, PinInfo, SetPin};
+use second::pin_entry::Reply;
+use second::pin_memory;
 use second::refusal::Refusal;
 use second::registration::{self, Range, Registration};
 use second::signal_state::{self, Entries, RsrpSnr, SignalState};
@@ -192,4 +195,40 @@ pub fn host_receive(host: &mut Host, header: &Header, information: &[u8]) -> Rep
 #[inline(never)]
 pub fn modem_receive(modem: &mut Modem, header: &Header, out: &mut [u8]) -> CommandAnswer {
     modem.receive(header, &[], out)
+}
+
+#[inline(never)]
+pub fn set_pin_read(payload: &[u8]) -> Result<SetPin<Range>, Refusal> {
+    pin::read_set(payload)
+}
+
+#[inline(never)]
+pub fn set_pin_write(record: &SetPin<&[u8]>, out: &mut [u8]) -> Result<usize, Refusal> {
+    pin::write_set(record, out)
+}
+
+#[inline(never)]
+pub fn pin_info_read(payload: &[u8]) -> Result<PinInfo, Refusal> {
+    pin::read_info(payload)
+}
+
+#[inline(never)]
+pub fn pin_info_write(record: &PinInfo, out: &mut [u8]) -> Result<usize, Refusal> {
+    pin::write_info(record, out)
+}
+
+#[inline(never)]
+pub fn pin_enter(memory: &mut [u8], payload: &[u8]) -> Result<Reply, Refusal> {
+    pin_memory::enter(memory, payload)
+}
+
+#[inline(never)]
+pub fn pin_receive(
+    modem: &mut Modem,
+    memory: &mut [u8],
+    header: &Header,
+    payload: &[u8],
+    out: &mut [u8],
+) -> CommandAnswer {
+    handshake::pins::receive_lent(modem, memory, header, payload, out)
 }

@@ -271,6 +271,74 @@ fn modem(mode: Mode, inputs: &Inputs) {
     );
 }
 
+fn pin_payloads(mode: Mode, inputs: &Inputs) {
+    let (entry, info) = (&inputs.set_pin[..], &inputs.pin_info[..]);
+    let (record, info_record) = (inputs::set_pin_record(), inputs::pin_info_record());
+    let (read, info_read) = (c::set_pin_read(entry).info, c::pin_info_read(info).info);
+    let (mut out, mut other) = ([0u8; 88], [0u8; 88]);
+    row(mode, "SET_PIN read", entry, &mut || keep(c::set_pin_read(black_box(entry))), &mut || {
+        keep(plain::set_pin_read(black_box(entry)))
+    });
+    row(
+        mode,
+        "SET_PIN write",
+        entry,
+        &mut || keep(c::set_pin_write(*black_box(&read), record.pin, record.new_pin, &mut out)),
+        &mut || keep(plain::set_pin_write(black_box(&record), &mut other)),
+    );
+    row(mode, "PIN_INFO read", info, &mut || keep(c::pin_info_read(black_box(info))), &mut || {
+        keep(plain::pin_info_read(black_box(info)))
+    });
+    row(
+        mode,
+        "PIN_INFO write",
+        info,
+        &mut || keep(c::pin_info_write(*black_box(&info_read), &mut out)),
+        &mut || keep(plain::pin_info_write(black_box(&info_record), &mut other)),
+    );
+}
+
+/// A wrong text costs a try each time; there are enough of them.
+fn pin_entry(mode: Mode, inputs: &Inputs) {
+    let payload = &inputs.set_pin[..];
+    let (mut pins, mut other_pins) = (inputs::pin_memory(), inputs::pin_memory());
+    row(
+        mode,
+        "PIN entry, a wrong text",
+        payload,
+        &mut || keep(c::pin_enter(&mut pins, black_box(payload))),
+        &mut || keep(plain::pin_enter(&mut other_pins, black_box(payload))),
+    );
+}
+
+/// The same to a modem that has sent its list; the first entry settles it.
+fn modem_with_pins(mode: Mode, inputs: &Inputs) {
+    let (list, payload) = (&inputs.services[..], &inputs.set_pin[..]);
+    let (query, header) = (inputs::message(COMMAND), inputs::header(COMMAND));
+    let (mut pins, mut other_pins) = (inputs::pin_memory(), inputs::pin_memory());
+    let mut modem = [0u8; c::MODEM_SIZE];
+    assert_eq!(c::modem_make(&mut modem, 0x0100, 0x0100, list).number, 0);
+    assert_eq!(c::modem_receive(&mut modem, query, &[], &mut []).action, 1);
+    let mut other = Modem::make(0x0100, 0x0100, list).expect("versions and a list");
+    plain::modem_receive(&mut other, &header, &mut []);
+    let header = inputs::entry_header();
+    let entry = inputs::message_of(&header);
+    let (mut out, mut other_out) = ([0u8; 12], [0u8; 12]);
+    row(
+        mode,
+        "modem takes a PIN entry",
+        payload,
+        &mut || {
+            let (entry, payload) = (black_box(entry), black_box(payload));
+            keep(c::pin_receive(&mut modem, &mut pins, entry, payload, &mut out))
+        },
+        &mut || {
+            let (header, payload) = (black_box(&header), black_box(payload));
+            keep(plain::pin_receive(&mut other, &mut other_pins, header, payload, &mut other_out))
+        },
+    );
+}
+
 pub fn run(mode: Mode, inputs: &Inputs) {
     version(mode, inputs);
     packet_service(mode, inputs);
@@ -282,4 +350,7 @@ pub fn run(mode: Mode, inputs: &Inputs) {
     cutting(mode, inputs);
     host(mode, inputs);
     modem(mode, inputs);
+    pin_payloads(mode, inputs);
+    pin_entry(mode, inputs);
+    modem_with_pins(mode, inputs);
 }

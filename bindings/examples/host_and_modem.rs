@@ -42,6 +42,8 @@ fn kind_name(kind: Option<Kind>) -> &'static str {
         Some(Kind::SignalState) => "signal state",
         Some(Kind::DeviceServices) => "device services",
         Some(Kind::Version) => "VERSION",
+        Some(Kind::SetPin) => "PIN entry",
+        Some(Kind::PinInfo) => "PIN info",
     }
 }
 
@@ -122,7 +124,7 @@ fn open_ends() -> Play<Line> {
 
 fn write_services() -> Play<Vec<u8>> {
     let mut list = ServiceList::empty();
-    let basic = [REGISTER_STATE, PACKET_SERVICE, SIGNAL_STATE, DEVICE_SERVICES];
+    let basic = [PIN, REGISTER_STATE, PACKET_SERVICE, SIGNAL_STATE, DEVICE_SERVICES];
     assert!(list.add(BASIC_CONNECT, &basic) && list.add(EXTENSIONS, &[VERSION]));
     let mut out = [0; MOST_INFORMATION];
     let length = list.write(&mut out)?;

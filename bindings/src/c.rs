@@ -7,10 +7,13 @@
 pub const ASSEMBLY_SIZE: usize = 4144;
 pub const HOST_SIZE: usize = 6;
 pub const MODEM_SIZE: usize = 10;
+pub const PINS_SIZE: usize = 748;
 
 pub const MOST_ENTRIES: usize = 16;
 pub const MOST_SERVICES: usize = 32;
 pub const MOST_CIDS: usize = 128;
+pub const MOST_PIN: usize = 32;
+pub const PIN_TYPES: usize = 17;
 
 /// A struct in C's layout, with its size and the offset of its last member.
 macro_rules! layout {
@@ -128,6 +131,53 @@ layout!(
         elements: [ServiceElement; MOST_SERVICES],
     }
 );
+
+layout!(#[derive(Default, Eq)] SetPin, 8, 4, { pin_type: u32, pin_operation: u32 });
+layout!(#[derive(Default, Eq)] SetPinTexts, 16, 8, { pin: Range, new_pin: Range });
+layout!(#[derive(Default)] SetPinAnswer, 40, 24, {
+    refusal: Refusal,
+    info: SetPin,
+    texts: SetPinTexts,
+});
+layout!(#[derive(Default, Eq)] PinInfo, 12, 8, {
+    pin_type: u32,
+    pin_state: u32,
+    remaining_attempts: u32,
+});
+layout!(#[derive(Default)] PinInfoAnswer, 32, 16, { refusal: Refusal, info: PinInfo });
+layout!(
+    /// What a row of a table of PINs is made of.
+    #[derive(Default, Eq)]
+    Pin, 48, 16, {
+        present: u32,
+        enabled: u32,
+        starting_tries: u32,
+        secret_length: u32,
+        secret: Secret,
+    }
+);
+layout!(
+    /// What a table of PINs is made of: the row of a type is `rows[pin_type - 1]`.
+    #[derive(Default, Eq)]
+    Pins, 816, 0, { rows: [Pin; PIN_TYPES] }
+);
+layout!(#[derive(Default)] PinAnswer, 40, 24, {
+    refusal: Refusal,
+    status: u32,
+    shown: u32,
+    info: PinInfo,
+});
+
+/// The bytes of a PIN's text; `Debug` doesn't show them.
+#[repr(transparent)]
+#[derive(Clone, Copy, Default, PartialEq, Eq)]
+pub struct Secret(pub [u8; MOST_PIN]);
+
+impl std::fmt::Debug for Secret {
+    fn fmt(&self, f: &mut std::fmt::Formatter) -> std::fmt::Result {
+        f.write_str("..")
+    }
+}
 
 layout!(#[derive(Default)] WholeAnswer, 32, 24, {
     refusal: Refusal,
@@ -307,6 +357,31 @@ extern "C" {
         out_length: usize,
     ) -> WrittenAnswer;
 
+    fn cvr_set_pin_read(payload: *const u8, payload_length: usize) -> SetPinAnswer;
+    fn cvr_set_pin_read_with(
+        zero_size: u32,
+        payload: *const u8,
+        payload_length: usize,
+    ) -> SetPinAnswer;
+    fn cvr_set_pin_write(
+        info: SetPin,
+        pin: *const u8,
+        pin_length: usize,
+        new_pin: *const u8,
+        new_pin_length: usize,
+        out: *mut u8,
+        out_length: usize,
+    ) -> WrittenAnswer;
+    fn cvr_pin_info_read(payload: *const u8, payload_length: usize) -> PinInfoAnswer;
+    fn cvr_pin_info_write(info: PinInfo, out: *mut u8, out_length: usize) -> WrittenAnswer;
+    fn cvr_pin_make(memory: *mut u8, memory_length: usize, pins: Pins) -> Refusal;
+    fn cvr_pin_enter(
+        memory: *mut u8,
+        memory_length: usize,
+        payload: *const u8,
+        payload_length: usize,
+    ) -> PinAnswer;
+
     fn cvr_message_judge(message: *const u8, message_length: usize) -> WholeAnswer;
     fn cvr_message_write(
         message_type: u32,
@@ -366,6 +441,17 @@ extern "C" {
     fn cvr_modem_receive(
         memory: *mut u8,
         memory_length: usize,
+        message: MessageHeader,
+        information: *const u8,
+        information_length: usize,
+        out: *mut u8,
+        out_length: usize,
+    ) -> ModemAnswer;
+    fn cvr_pin_receive(
+        modem: *mut u8,
+        modem_length: usize,
+        pins: *mut u8,
+        pins_length: usize,
         message: MessageHeader,
         information: *const u8,
         information_length: usize,
@@ -613,6 +699,51 @@ pub fn device_services_write_all(
 }
 
 #[inline]
+pub fn set_pin_read(payload: &[u8]) -> SetPinAnswer {
+    unsafe { cvr_set_pin_read(payload.as_ptr(), payload.len()) }
+}
+
+#[inline]
+pub fn set_pin_read_with(zero_size: u32, payload: &[u8]) -> SetPinAnswer {
+    unsafe { cvr_set_pin_read_with(zero_size, payload.as_ptr(), payload.len()) }
+}
+
+#[inline]
+pub fn set_pin_write(info: SetPin, pin: &[u8], new_pin: &[u8], out: &mut [u8]) -> WrittenAnswer {
+    unsafe {
+        cvr_set_pin_write(
+            info,
+            pin.as_ptr(),
+            pin.len(),
+            new_pin.as_ptr(),
+            new_pin.len(),
+            out.as_mut_ptr(),
+            out.len(),
+        )
+    }
+}
+
+#[inline]
+pub fn pin_info_read(payload: &[u8]) -> PinInfoAnswer {
+    unsafe { cvr_pin_info_read(payload.as_ptr(), payload.len()) }
+}
+
+#[inline]
+pub fn pin_info_write(info: PinInfo, out: &mut [u8]) -> WrittenAnswer {
+    unsafe { cvr_pin_info_write(info, out.as_mut_ptr(), out.len()) }
+}
+
+#[inline]
+pub fn pin_make(memory: &mut [u8], pins: Pins) -> Refusal {
+    unsafe { cvr_pin_make(memory.as_mut_ptr(), memory.len(), pins) }
+}
+
+#[inline]
+pub fn pin_enter(memory: &mut [u8], payload: &[u8]) -> PinAnswer {
+    unsafe { cvr_pin_enter(memory.as_mut_ptr(), memory.len(), payload.as_ptr(), payload.len()) }
+}
+
+#[inline]
 pub fn message_judge(message: &[u8]) -> WholeAnswer {
     unsafe { cvr_message_judge(message.as_ptr(), message.len()) }
 }
@@ -743,6 +874,29 @@ pub fn modem_receive(
         cvr_modem_receive(
             memory.as_mut_ptr(),
             memory.len(),
+            message,
+            information.as_ptr(),
+            information.len(),
+            out.as_mut_ptr(),
+            out.len(),
+        )
+    }
+}
+
+#[inline]
+pub fn pin_receive(
+    modem: &mut [u8],
+    pins: &mut [u8],
+    message: MessageHeader,
+    information: &[u8],
+    out: &mut [u8],
+) -> ModemAnswer {
+    unsafe {
+        cvr_pin_receive(
+            modem.as_mut_ptr(),
+            modem.len(),
+            pins.as_mut_ptr(),
+            pins.len(),
             message,
             information.as_ptr(),
             information.len(),

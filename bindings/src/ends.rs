@@ -1,7 +1,7 @@
 //! The two ends of the version handshake.
 
 use crate::c::{self, Refusal};
-use crate::{Kind, MessageHeader};
+use crate::{Kind, MessageHeader, PinTable};
 
 /// What a call did to the host.
 #[derive(Clone, Copy, Debug, PartialEq, Eq)]
@@ -81,6 +81,8 @@ pub enum Action {
     Failed(u32),
     /// Send this status: the service or the CID, which stands at this place, is not known.
     Unknown { status: u32, place: usize },
+    /// A PIN entry is answered: send this status with so many bytes of the output.
+    Pin { status: u32, length: usize },
 }
 
 /// What the modem is to do with a command, and the version that it is settled at by now.
@@ -120,10 +122,24 @@ impl Modem {
         information: &[u8],
         out: &mut [u8],
     ) -> Result<Taken, Refusal> {
-        let answer = c::modem_receive(&mut self.memory, *message, information, out);
-        let version = (answer.version != 0).then_some(answer.version);
-        answer.refusal.or(Taken { action: action(&answer), version })
+        taken(c::modem_receive(&mut self.memory, *message, information, out))
     }
+
+    /// The same for a modem with a table of PINs, which answers their entries.
+    pub fn receive_with(
+        &mut self,
+        pins: &mut PinTable,
+        message: &MessageHeader,
+        information: &[u8],
+        out: &mut [u8],
+    ) -> Result<Taken, Refusal> {
+        taken(c::pin_receive(&mut self.memory, pins.memory(), *message, information, out))
+    }
+}
+
+fn taken(answer: c::ModemAnswer) -> Result<Taken, Refusal> {
+    let version = (answer.version != 0).then_some(answer.version);
+    answer.refusal.or(Taken { action: action(&answer), version })
 }
 
 fn action(answer: &c::ModemAnswer) -> Action {
@@ -132,6 +148,7 @@ fn action(answer: &c::ModemAnswer) -> Action {
         (1, Some(kind)) => Action::Serve(kind),
         (2, _) => Action::Version(length as usize),
         (4, _) => Action::Unknown { status, place: place as usize },
+        (5, _) => Action::Pin { status, length: length as usize },
         _ => Action::Failed(status),
     }
 }

@@ -13,15 +13,18 @@ pub mod c;
 mod ends;
 mod messages;
 mod payloads;
+mod pins;
 pub mod refusals;
 
 pub use c::{
-    DeviceService, DeviceServices, MessageHeader, PacketService, Refusal, Registration, RsrpSnr,
-    ServiceElement, ServiceId, ServiceList, SignalState, VersionInfo,
+    DeviceService, DeviceServices, MessageHeader, PacketService, Pin, PinInfo, Pins, Refusal,
+    Registration, RsrpSnr, Secret, ServiceElement, ServiceId, ServiceList, SetPin, SignalState,
+    VersionInfo,
 };
 pub use ends::{Action, Event, Host, Modem, Next, Taken};
 pub use messages::{judge, next_transaction, Assembly, Fragments, Kind, Received, Whole};
 pub use payloads::{bars, rsrp, snr, Reading, Texts, ZeroSize};
+pub use pins::{pin_type, Entered, PinTable, PinTexts};
 
 /// Versions of the extensions, and the one MBIM version beside them.
 pub const VERSION_1_00: u16 = 0x0100;
@@ -50,6 +53,7 @@ pub const QUERY: u32 = 0;
 pub const SET: u32 = 1;
 
 /// CIDs of Basic Connect, and VERSION of the extensions.
+pub const PIN: u32 = 4;
 pub const REGISTER_STATE: u32 = 9;
 pub const PACKET_SERVICE: u32 = 10;
 pub const SIGNAL_STATE: u32 = 11;

@@ -41,6 +41,8 @@ pub enum Kind {
     SignalState,
     DeviceServices,
     Version,
+    SetPin,
+    PinInfo,
 }
 
 impl Kind {
@@ -51,6 +53,8 @@ impl Kind {
             3 => Some(Kind::SignalState),
             4 => Some(Kind::DeviceServices),
             5 => Some(Kind::Version),
+            6 => Some(Kind::SetPin),
+            7 => Some(Kind::PinInfo),
             _ => None,
         }
     }
@@ -75,8 +79,9 @@ impl MessageHeader {
         refusal.or(Fragments { count, length: length as usize })
     }
 
-    /// The payload that the message's information is. A failed reply, and a command other than
-    /// VERSION, show none.
+    /// The payload that the message's information is. An indication and a reply of status 0 show that
+    /// of their CID, a reply of status 2 does so for [`PIN`](crate::PIN). A command shows VERSION, or
+    /// SET_PIN where it is a set of PIN. Any other message shows none.
     pub fn kind(&self) -> Result<Option<Kind>, Refusal> {
         let answer = c::payload_kind(*self);
         answer.refusal.or(Kind::of(answer.kind))

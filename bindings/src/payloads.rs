@@ -1,4 +1,4 @@
-//! The five payloads, decibels and bars.
+//! The payloads but those of PINs, decibels and bars.
 
 use crate::c::{self, Refusal};
 use crate::{
@@ -30,7 +30,7 @@ impl PacketService {
 }
 
 /// What an offset/size pair of size 0 is to a reader: the choice that `.._with` takes. The readers
-/// without it, and both ends of the handshake, read by the default.
+/// without it, and both ends of the handshake, read by the default, a PIN entry is read strictly.
 #[repr(u32)]
 #[derive(Clone, Copy, Debug, Default, PartialEq, Eq)]
 pub enum ZeroSize {
@@ -235,7 +235,7 @@ pub fn bars(rssi: u32) -> Result<Option<u32>, Refusal> {
     answer.refusal.or((answer.reading != 0).then_some(answer.bars))
 }
 
-fn written(answer: c::WrittenAnswer) -> Result<usize, Refusal> {
+pub(crate) fn written(answer: c::WrittenAnswer) -> Result<usize, Refusal> {
     answer.refusal.or(answer.length as usize)
 }
 
@@ -251,7 +251,7 @@ fn with_texts(
     answer.refusal.or((answer.info, texts))
 }
 
-fn text(payload: &[u8], range: c::Range) -> &[u8] {
+pub(crate) fn text(payload: &[u8], range: c::Range) -> &[u8] {
     let rest = payload.get(range.start as usize..).unwrap_or_default();
     rest.get(..range.length as usize).unwrap_or_default()
 }

@@ -14,8 +14,8 @@ const VERSION: u64 = 15;
 const ROOM: u64 = 4096;
 
 /// A list with or without VERSION, from either side's writer.
-fn list(sides: &mut Sides, lists_version: bool) -> Vec<u8> {
-    let mut arguments = vec![ROOM, 1, 0, 0, 0, 4, 9, 10, 11, 16];
+pub fn list(sides: &mut Sides, lists_version: bool) -> Vec<u8> {
+    let mut arguments = vec![ROOM, 1, 0, 0, 0, 5, 4, 9, 10, 11, 16];
     let mut services = BASIC_CONNECT.to_vec();
     if lists_version {
         arguments[1] = 2;
@@ -25,7 +25,7 @@ fn list(sides: &mut Sides, lists_version: bool) -> Vec<u8> {
     sides.ask(q::SERVICES_WRITE, &arguments, &services).output
 }
 
-fn version_payload(random: &mut Random) -> Vec<u8> {
+pub fn version_payload(random: &mut Random) -> Vec<u8> {
     let extension = (random.version() as u16).to_le_bytes();
     let payload = [0x00, 0x01, extension[0], extension[1]];
     if random.once_in(4) {
@@ -75,7 +75,7 @@ fn host_receive(sides: &mut Sides, random: &mut Random) -> Answer {
     sides.step(q::HOST_RECEIVE, &[message_type, transaction, cid, status], &input)
 }
 
-const CIDS: [u32; 6] = [9, 10, 11, 12, 15, 16];
+pub const CIDS: [u32; 7] = [4, 9, 10, 11, 12, 15, 16];
 
 /// A message type that an end has no business with.
 fn other_type(random: &mut Random) -> u64 {

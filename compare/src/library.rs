@@ -5,11 +5,12 @@ use crate::lent::{Lent, FILL};
 use culvertroost::c::{self, *};
 use second::flat::{question as q, Answer};
 
-/// The memory that is lent for the assembly, the host and the modem.
+/// The memory that is lent for the assembly, the host, the modem and the table of PINs.
 pub struct Library {
     assembly: [u8; ASSEMBLY_SIZE],
     host: Option<[u8; HOST_SIZE]>,
     modem: Option<[u8; MODEM_SIZE]>,
+    pins: Option<[u8; PINS_SIZE]>,
 }
 
 /// Why there is no answer: a refusal, or something that the header rules out.
@@ -22,7 +23,7 @@ type Flat = Result<Answer, Stop>;
 
 impl Library {
     pub fn new() -> Library {
-        Library { assembly: [0; ASSEMBLY_SIZE], host: None, modem: None }
+        Library { assembly: [0; ASSEMBLY_SIZE], host: None, modem: None, pins: None }
     }
 
     /// The answer, or what the library did that it must not.
@@ -42,6 +43,14 @@ impl Library {
             q::MODEM_OPEN..=q::MODEM_RECEIVE | q::SHOW_MODEM => match &mut self.modem {
                 Some(modem) => ask_modem(modem, question, &asked),
                 None => none(),
+            },
+            q::MAKE_PINS => make_pins(&mut self.pins, &asked),
+            q::PIN_ENTRY..=q::SHOW_PINS => match (&mut self.pins, &mut self.modem) {
+                (Some(pins), Some(modem)) if question == q::PIN_RECEIVE => {
+                    pin_receive(modem, pins, &asked)
+                }
+                (Some(pins), _) => ask_pins(pins, question, &asked),
+                _ => none(),
             },
             _ => ask_stateless(question, &asked),
         };
@@ -76,6 +85,10 @@ fn ask_stateless(question: u32, asked: &Asked) -> Flat {
         q::RSRP => reading(c::rsrp(asked.word(0))),
         q::SNR => reading(c::snr(asked.word(0))),
         q::BARS => bars(asked),
+        q::SET_PIN_READ => set_pin_shown(c::set_pin_read(asked.input)),
+        q::SET_PIN_WRITE => set_pin_write(asked),
+        q::PIN_INFO_READ => plain(&info_words(accepted(c::pin_info_read(asked.input))?.info)),
+        q::PIN_INFO_WRITE => pin_info_write(asked),
         _ => ask_with(question, asked),
     }
 }
@@ -89,6 +102,7 @@ fn ask_with(question: u32, asked: &Asked) -> Flat {
         q::ELEMENT_WITH => element_with(asked),
         q::SERVICE_CIDS_WITH => service_cids_with(asked),
         q::LISTED_WITH => listed_with(asked),
+        q::SET_PIN_READ_WITH => set_pin_shown(c::set_pin_read_with(asked.word(0), asked.input)),
         _ => none(),
     }
 }
@@ -186,7 +200,7 @@ macro_rules! refusable {
 refusable!(WrittenAnswer, VersionInfoAnswer, PacketServiceAnswer, RegistrationAnswer);
 refusable!(SignalStateAnswer, ReadingAnswer, BarsAnswer, DeviceServicesAnswer, ElementAnswer);
 refusable!(ListedAnswer, WholeAnswer, CutAnswer, KindAnswer, ReceiveAnswer);
-refusable!(HostAnswer, AskAnswer, ModemAnswer);
+refusable!(HostAnswer, AskAnswer, ModemAnswer, SetPinAnswer, PinInfoAnswer, PinAnswer);
 
 impl Refusable for Refusal {
     fn refusal(&self) -> Refusal {
@@ -386,6 +400,33 @@ fn signal_write(asked: &Asked) -> Flat {
         };
     }
     written(asked.number(0), |out| c::signal_state_write(info, out))
+}
+
+fn set_pin_shown(answer: SetPinAnswer) -> Flat {
+    let SetPinAnswer { info, texts, .. } = accepted(answer)?;
+    let SetPinTexts { pin, new_pin } = texts;
+    let ranges = [pin.start, pin.length, new_pin.start, new_pin.length];
+    plain(&words(&[&[info.pin_type, info.pin_operation], &ranges[..]].concat()))
+}
+
+fn set_pin_write(asked: &Asked) -> Flat {
+    let info = SetPin { pin_type: asked.word(1), pin_operation: asked.word(2) };
+    let (pin, rest) = split(asked.input, asked.number(3));
+    let (new_pin, _) = split(rest, asked.number(4));
+    written(asked.number(0), |out| c::set_pin_write(info, pin, new_pin, out))
+}
+
+fn info_words(info: PinInfo) -> Vec<u64> {
+    words(&[info.pin_type, info.pin_state, info.remaining_attempts])
+}
+
+fn pin_info_write(asked: &Asked) -> Flat {
+    let info = PinInfo {
+        pin_type: asked.word(1),
+        pin_state: asked.word(2),
+        remaining_attempts: asked.word(3),
+    };
+    written(asked.number(0), |out| c::pin_info_write(info, out))
 }
 
 fn reading(answer: ReadingAnswer) -> Flat {
@@ -662,8 +703,64 @@ fn modem_receive(modem: &mut [u8; MODEM_SIZE], asked: &Asked) -> Flat {
     };
     let lent = lend(asked.number(0), call, |answer| answer.length);
     kept?;
-    let (answer, output) = lent?;
+    modem_shown(lent?)
+}
+
+fn modem_shown((answer, output): (ModemAnswer, Vec<u8>)) -> Flat {
     let ModemAnswer { action, status, kind, version, place, length, .. } = answer;
     let numbers = [action.into(), status.into(), kind.into(), version.into(), place, length];
     with_output(&numbers, output)
+}
+
+// ---- the table of PINs
+
+/// The front of the memory, and the numbers and secrets of all rows.
+fn make_pins(pins: &mut Option<[u8; PINS_SIZE]>, asked: &Asked) -> Flat {
+    let mut made = Pins::default();
+    let mut secrets = asked.input.chunks(MOST_PIN);
+    for (number, row) in made.rows.iter_mut().enumerate() {
+        let at = 1 + 4 * number;
+        row.present = asked.word(at);
+        row.enabled = asked.word(at + 1);
+        row.starting_tries = asked.word(at + 2);
+        row.secret_length = asked.word(at + 3);
+        let secret = secrets.next().unwrap_or_default();
+        row.secret.0[..secret.len()].copy_from_slice(secret);
+    }
+    make(pins, asked.number(0) as usize, |memory| c::pin_make(memory, made))
+}
+
+fn ask_pins(pins: &mut [u8; PINS_SIZE], question: u32, asked: &Asked) -> Flat {
+    match question {
+        q::PIN_ENTRY => entered(keep(pins, |memory| c::pin_enter(memory, asked.input))?),
+        q::SHOW_PINS => with_output(&[], pins.to_vec()),
+        _ => none(),
+    }
+}
+
+fn entered(answer: PinAnswer) -> Flat {
+    let PinAnswer { status, shown, info, .. } = accepted(answer)?;
+    if shown == 0 && info != PinInfo::default() {
+        return Err(Stop::Wrong("PIN_INFO that is not shown"));
+    }
+    plain(&[&words(&[status, shown])[..], &info_words(info)].concat())
+}
+
+fn pin_receive(modem: &mut [u8; MODEM_SIZE], pins: &mut [u8; PINS_SIZE], asked: &Asked) -> Flat {
+    let (message, information) = asked.message(1);
+    let mut kept = Ok(ModemAnswer::default());
+    let call = |out: &mut [u8]| {
+        let mut table = Ok(ModemAnswer::default());
+        kept = keep(modem, |modem| {
+            table = keep(pins, |pins| c::pin_receive(modem, pins, message, information, out));
+            table.as_ref().copied().unwrap_or_default()
+        });
+        if table.is_err() {
+            kept = table;
+        }
+        kept.as_ref().copied().unwrap_or_default()
+    };
+    let lent = lend(asked.number(0), call, |answer| answer.length);
+    kept?;
+    modem_shown(lent?)
 }

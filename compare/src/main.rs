@@ -12,6 +12,7 @@ mod library;
 mod memory;
 mod messages;
 mod payloads;
+mod pins;
 mod random;
 mod services;
 mod sides;
@@ -25,7 +26,7 @@ const CASES: usize = 100_000;
 const SEED: u64 = 20;
 
 /// What makes up questions; each is asked in turn.
-const MAKERS: [fn(&mut Sides, &mut Random); 12] = [
+const MAKERS: [fn(&mut Sides, &mut Random); 15] = [
     payloads::version,
     payloads::packet,
     payloads::registration,
@@ -38,6 +39,9 @@ const MAKERS: [fn(&mut Sides, &mut Random); 12] = [
     messages::feeds,
     ends::run,
     either_end,
+    pins::payloads,
+    pins::tables,
+    pins::modems,
 ];
 
 fn either_end(sides: &mut Sides, random: &mut Random) {

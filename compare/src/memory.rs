@@ -1,6 +1,6 @@
-//! Hostile memory, lent for an assembly, a host or a modem: too small, random, or damaged. It must
-//! give the refusal that the second program has for it, or a good answer that leaves good memory;
-//! everything outside stays as it was.
+//! Hostile memory, lent for an assembly, a host, a modem or a table of PINs: too small, random, or
+//! damaged. It must give the refusal that the second program has for it, or a good answer that leaves
+//! good memory, of a table the second program's; everything outside stays as it was.
 
 use crate::lent::Lent;
 use crate::library::{accepted, is_whole, u32_at, Refusable, Stop, WHOLE};
@@ -9,6 +9,7 @@ use crate::random::Random;
 use culvertroost::c::{self, *};
 use second::memory::{judge_assembly, judge_host, judge_modem};
 use second::message::{COMMAND, COMMAND_DONE, INDICATE_STATUS};
+use second::pin_memory;
 
 /// How many wrong cases are printed.
 const PRINTED: usize = 20;
@@ -17,8 +18,13 @@ const PRINTED: usize = 20;
 type Outcome = Result<Option<Refusal>, &'static str>;
 type Case = fn(&mut Random) -> Outcome;
 
-const CASES: [(&str, Case); 3] =
-    [("assembly memory", assembly), ("host memory", host), ("modem memory", modem)];
+const CASES: [(&str, Case); 5] = [
+    ("assembly memory", assembly),
+    ("host memory", host),
+    ("modem memory", modem),
+    ("PINs' memory", pins),
+    ("modem with PINs", modem_with_pins),
+];
 
 /// Tries so many cases and gives how many went wrong.
 pub fn hostile(random: &mut Random, cases: usize) -> usize {
@@ -274,11 +280,12 @@ fn host(random: &mut Random) -> Outcome {
     left_by_end(refused, host_refusal(&before), &before, &memory, HOST)
 }
 
+/// Numbers that a modem may hold: versions, whether VERSION is listed, the stage, the settled version.
+const MODEM_NUMBERS: [&[u32]; 5] =
+    [&[0x0200, 0x0200, 0x0100], &[0x0100, 0x0200], &[0, 1], &[0, 1, 2], &[0, 0x0100, 0x0200]];
+
 fn modem(random: &mut Random) -> Outcome {
-    let versions: &[u32] = &[0x0100, 0x0200];
-    let numbers: [&[u32]; 5] =
-        [&[0x0200, 0x0200, 0x0100], versions, &[0, 1], &[0, 1, 2], &[0, 0x0100, 0x0200]];
-    let before = end_memory(random, MODEM_SIZE, &numbers);
+    let before = end_memory(random, MODEM_SIZE, &MODEM_NUMBERS);
     let mut memory = Lent::holding(&before);
     if random.once_in(8) {
         return modem_make(random, &before);
@@ -328,4 +335,170 @@ fn left_by_end(
     need(judge(after.bytes()).is_none(), "bad memory left")?;
     need(after.bytes()[size..] == before[size..], "memory past the end touched")?;
     Ok(None)
+}
+
+// ---- tables of PINs
+
+/// The bytes of a row.
+const PIN_ROW: usize = 44;
+
+/// A row that is taken, with few tries; past its secret stands anything.
+fn pin_row(random: &mut Random) -> Vec<u8> {
+    let mut row = random.bytes(PIN_ROW);
+    let flags = [0; 3].map(|_| random.pick(&[0, 1, 1]));
+    row[..3].copy_from_slice(&flags);
+    row[3] = random.pick(&[0, 2, 8, 30, 32]);
+    let tries = random.pick(&[0, 0, 1, 1, 2, 3]);
+    put(&mut row, 4, tries);
+    put(&mut row, 8, random.pick(&[tries, tries + 1, 3, u32::MAX]));
+    row
+}
+
+fn pins_memory(random: &mut Random) -> Vec<u8> {
+    let size = size(random, PINS_SIZE);
+    if random.once_in(12) {
+        return random.bytes(size);
+    }
+    let mut memory: Vec<u8> = (0..PIN_TYPES).flat_map(|_| pin_row(random)).collect();
+    if random.once_in(3) {
+        let at = PIN_ROW * random.below(PIN_TYPES) + random.below(12);
+        memory[at] = random.hostile() as u8;
+    }
+    memory.resize(size, 7);
+    memory
+}
+
+fn pins_refusal(memory: &[u8]) -> Option<Refusal> {
+    expected(pin_memory::read(memory).map(|_| ()))
+}
+
+/// An entry, half of the time with the text that its row holds.
+fn set_pin(random: &mut Random, memory: &[u8]) -> Vec<u8> {
+    let pin_type = random.mostly(&[1, 2, 2, 3, 6, 9, 10, 11, 11, 12, 17]) as u32;
+    let at = PIN_ROW * (pin_type as usize).wrapping_sub(1).min(PIN_TYPES);
+    let row = memory.get(at..at + PIN_ROW).unwrap_or(&[0; PIN_ROW]);
+    let length = usize::from(row[3] & 0x1E);
+    let mut text = row[12..12 + length].to_vec();
+    if random.once_in(2) {
+        text.push(0);
+        text.push(1);
+        text.truncate(32);
+    }
+    let new_length = random.pick(&[0, 4, 32]);
+    let mut payload = vec![0; 24];
+    put(&mut payload, 0, pin_type);
+    put(&mut payload, 4, random.mostly(&[0]) as u32);
+    for (place, text) in [(8, text), (16, random.bytes(new_length))] {
+        let offset = if text.is_empty() { 0 } else { payload.len() as u32 };
+        put(&mut payload, place, offset);
+        put(&mut payload, place + 4, text.len() as u32);
+        payload.extend(&text);
+        payload.resize(payload.len().next_multiple_of(4), 0);
+    }
+    payload
+}
+
+/// The answer of the second program, and the memory that it leaves.
+fn entered(memory: &[u8], payload: &[u8]) -> (PinAnswer, Vec<u8>) {
+    let mut after = memory.to_vec();
+    let answer = match pin_memory::enter(&mut after, payload) {
+        Err(refused) => {
+            PinAnswer::refused(Refusal { number: refused.number, place: refused.place as u64 })
+        }
+        Ok(reply) => PinAnswer {
+            status: reply.status,
+            shown: reply.info.is_some().into(),
+            info: reply.info.map_or(PinInfo::default(), |info| PinInfo {
+                pin_type: info.pin_type,
+                pin_state: info.pin_state,
+                remaining_attempts: info.remaining_attempts,
+            }),
+            ..PinAnswer::default()
+        },
+    };
+    (answer, after)
+}
+
+fn pins(random: &mut Random) -> Outcome {
+    let before = pins_memory(random);
+    let mut memory = Lent::holding(&before);
+    if random.once_in(8) {
+        let refused = refusal_in(c::pin_make(memory.memory(), Pins::default()))?;
+        let small = pins_refusal(&before).filter(|refusal| refusal.number == 11);
+        return left_by_end(refused, small, &before, &memory, (PINS_SIZE, pins_refusal));
+    }
+    let payload = set_pin(random, &before);
+    let answer = c::pin_enter(memory.memory(), &payload);
+    let (expected, after) = entered(&before, &payload);
+    need(memory.guards_hold(), "bytes beside the memory touched")?;
+    need(answer == expected, "another answer than the second program's")?;
+    need(memory.bytes() == after, "another memory than the second program's")?;
+    refusal_in(answer)
+}
+
+/// A set of PIN most often.
+fn pin_message(random: &mut Random) -> MessageHeader {
+    let mut message = message(random, COMMAND);
+    if !random.once_in(5) {
+        message.service = culvertroost::BASIC_CONNECT;
+        message.cid = random.mostly(&[culvertroost::PIN]) as u32;
+        message.word = random.mostly(&[1, 1, 1, 0]) as u32;
+    }
+    message
+}
+
+/// Whether a command to a good modem is an entry that the handshake lets through.
+fn is_entry(modem: &[u8], message: MessageHeader) -> bool {
+    let is_set = message.cid == culvertroost::PIN && message.word == culvertroost::SET;
+    let is_settled = modem[6] == 2 || modem[6] == 1 && modem[3] == 1; // or advertised 1.00
+    is_set && message.service == culvertroost::BASIC_CONNECT && is_settled
+}
+
+/// A modem at any stage, now and then a doubtful one.
+fn modem_memory(random: &mut Random) -> Vec<u8> {
+    if random.once_in(5) {
+        return end_memory(random, MODEM_SIZE, &MODEM_NUMBERS);
+    }
+    let (advertised, stage, version) = random.pick(&[
+        (0x0100, 0, 0),
+        (0x0100, 1, 0),
+        (0x0200, 1, 0),
+        (0x0100, 2, 0x0100),
+        (0x0200, 2, 0x0200),
+    ]);
+    [0x0200, advertised, 1, stage, version].map(u16::to_le_bytes).concat()
+}
+
+/// Both memories may be bad. The table's is looked at for an entry only, and the room for PIN_INFO last.
+fn modem_with_pins(random: &mut Random) -> Outcome {
+    let (before, table) = (modem_memory(random), pins_memory(random));
+    let (mut memory, mut lent) = (Lent::holding(&before), Lent::holding(&table));
+    let room = random.pick(&[0, 11, 12, 12, 12, 20]);
+    let mut out = Lent::filled(room);
+    let (message, payload) = (pin_message(random), set_pin(random, &table));
+    let answer = c::pin_receive(memory.memory(), lent.memory(), message, &payload, out.memory());
+    need(out.holds_past(answer.length as usize), "output touched")?;
+    need(lent.guards_hold(), "bytes beside the table touched")?;
+    let refused = refusal_in(answer)?;
+    let bad_modem = modem_refusal(&before);
+    if bad_modem.is_some() || !is_entry(&before, message) {
+        need(lent.bytes() == table, "a table touched without an entry")?;
+        return left_by_end(refused, bad_modem, &before, &memory, MODEM);
+    }
+    let (entry, after) = entered(&table, &payload);
+    let small = if entry.shown == 1 && room < 12 { refusal(11, 12) } else { None };
+    left_by_end(refused, pins_refusal(&table).or(small), &before, &memory, MODEM)?;
+    let expected = if refused.is_some() { table } else { after };
+    need(lent.bytes() == expected, "another table than the second program's")?;
+    need(refused.is_some() || is_told(answer, entry, out.bytes()), "another answer to an entry")?;
+    Ok(refused)
+}
+
+/// Whether a modem answers an entry as the table does; by status 9 where its payload is refused.
+fn is_told(answer: ModemAnswer, entry: PinAnswer, out: &[u8]) -> bool {
+    let (action, status, length) = if entry.shown == 1 { (5, entry.status, 12) } else { (3, 9, 0) };
+    let ModemAnswer { version, .. } = answer;
+    let expected = ModemAnswer { action, status, length, version, ..ModemAnswer::default() };
+    let info = c::pin_info_read(&out[..length as usize]).info;
+    answer == expected && version != 0 && info == entry.info
 }

@@ -12,7 +12,7 @@ use second::message::{COMMAND, COMMAND_DONE, INDICATE_STATUS};
 const FRAGMENTED: [u32; 3] = [COMMAND, COMMAND_DONE, INDICATE_STATUS];
 const TYPES: [u32; 11] =
     [1, 2, 4, 0x8000_0001, 0x8000_0002, 0x8000_0004, 3, 0x8000_0003, 0x8000_0007, 0, 5];
-const CIDS: [u32; 6] = [9, 10, 11, 15, 16, 12];
+const CIDS: [u32; 7] = [4, 9, 10, 11, 15, 16, 12];
 
 pub fn whole(sides: &mut Sides, random: &mut Random) {
     let message_type = random.mostly(&TYPES);
@@ -42,7 +42,7 @@ pub fn kind(sides: &mut Sides, random: &mut Random) {
         0 => random.mostly(&TYPES),
         _ => random.pick(&FRAGMENTED).into(),
     };
-    let arguments = [message_type, random.mostly(&CIDS), random.mostly(&[0, 0, 1, 9])];
+    let arguments = [message_type, random.mostly(&CIDS), random.mostly(&[0, 0, 1, 2, 9])];
     sides.ask(q::PAYLOAD_KIND, &arguments, &service(random));
     sides.ask(q::NEXT_TRANSACTION, &[random.hostile().into()], &[]);
 }

@@ -72,7 +72,7 @@ pub fn packet(sides: &mut Sides, random: &mut Random) {
 }
 
 /// A length of text at and around its limit.
-fn text_length(random: &mut Random, limit: usize) -> usize {
+pub fn text_length(random: &mut Random, limit: usize) -> usize {
     match random.below(12) {
         0..=2 => 0,
         3 => limit,

@@ -9,7 +9,7 @@ use std::fmt::{Debug, Write};
 const PRINTED: usize = 20;
 
 /// The questions that are counted together.
-const GROUPS: [(&str, &[u32]); 11] = [
+const GROUPS: [(&str, &[u32]); 13] = [
     ("VERSION", &[q::VERSION_READ, q::VERSION_WRITE]),
     ("packet service", &[q::PACKET_READ, q::PACKET_WRITE]),
     ("registration", &[q::REGISTRATION_READ, q::REGISTRATION_READ_WITH, q::REGISTRATION_WRITE]),
@@ -37,6 +37,17 @@ const GROUPS: [(&str, &[u32]); 11] = [
     ),
     ("modem", &[q::MAKE_MODEM, q::MODEM_OPEN, q::MODEM_CLOSE, q::MODEM_RECEIVE, q::SHOW_MODEM]),
     ("readings", &[q::RSRP, q::SNR, q::BARS]),
+    (
+        "PIN payloads",
+        &[
+            q::SET_PIN_READ,
+            q::SET_PIN_READ_WITH,
+            q::SET_PIN_WRITE,
+            q::PIN_INFO_READ,
+            q::PIN_INFO_WRITE,
+        ],
+    ),
+    ("tables of PINs", &[q::MAKE_PINS, q::PIN_ENTRY, q::PIN_RECEIVE, q::SHOW_PINS]),
 ];
 
 #[derive(Clone, Default)]
@@ -56,7 +67,7 @@ pub struct Sides {
 
 impl Sides {
     pub fn new() -> Sides {
-        let counts = vec![Count::default(); q::LISTED_WITH as usize + 1];
+        let counts = vec![Count::default(); q::SHOW_PINS as usize + 1];
         Sides { second: Second::new(), library: Library::new(), counts, cases: 0, differences: 0 }
     }
 
@@ -98,11 +109,11 @@ impl Sides {
         answer
     }
 
-    /// Asks, and then for the state that the question may have changed.
+    /// Asks, and then for the states that the question may have changed.
     pub fn step(&mut self, question: u32, arguments: &[u64], input: &[u8]) -> Answer {
         let answer = self.ask(question, arguments, input);
-        if let Some(show) = state_of(question) {
-            self.ask(show, &[], &[]);
+        for show in states_of(question) {
+            self.ask(*show, &[], &[]);
         }
         answer
     }
@@ -194,17 +205,20 @@ fn by_choice(question: u32) -> Option<u32> {
         q::ELEMENT => Some(q::ELEMENT_WITH),
         q::SERVICE_CIDS => Some(q::SERVICE_CIDS_WITH),
         q::LISTED => Some(q::LISTED_WITH),
+        q::SET_PIN_READ => Some(q::SET_PIN_READ_WITH),
         _ => None,
     }
 }
 
-/// The question that shows what this one works on.
-fn state_of(question: u32) -> Option<u32> {
+/// The questions that show what this one works on.
+fn states_of(question: u32) -> &'static [u32] {
     match question {
-        q::RECEIVE..=q::SHOW_ASSEMBLY => Some(q::SHOW_ASSEMBLY),
-        q::MAKE_HOST..=q::HOST_RECEIVE => Some(q::SHOW_HOST),
-        q::MAKE_MODEM..=q::MODEM_RECEIVE => Some(q::SHOW_MODEM),
-        _ => None,
+        q::RECEIVE..=q::SHOW_ASSEMBLY => &[q::SHOW_ASSEMBLY],
+        q::MAKE_HOST..=q::HOST_RECEIVE => &[q::SHOW_HOST],
+        q::MAKE_MODEM..=q::MODEM_RECEIVE => &[q::SHOW_MODEM],
+        q::MAKE_PINS | q::PIN_ENTRY => &[q::SHOW_PINS],
+        q::PIN_RECEIVE => &[q::SHOW_MODEM, q::SHOW_PINS],
+        _ => &[],
     }
 }
 

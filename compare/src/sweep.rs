@@ -5,6 +5,7 @@
 use crate::library::WHOLE;
 use crate::messages::fragments;
 use crate::payloads::put;
+use crate::pins;
 use crate::services::{same_all, same_written};
 use crate::sides::Sides;
 use second::flat::{question as q, ASSEMBLY_SIZE, MODEM_SIZE};
@@ -14,18 +15,21 @@ use second::payload::{BASIC_CONNECT, EXTENSIONS};
 const ROOM: u64 = 4096;
 const VERSIONS: [u64; 2] = [0x0100, 0x0200];
 /// The choices, and a number that is none.
-const CHOICES: [u64; 3] = [0, 1, 2];
+pub const CHOICES: [u64; 3] = [0, 1, 2];
 
 /// Limits; each is taken with its neighbours.
-const LIMITS: [u32; 25] = [
+const LIMITS: [u32; 28] = [
     1,
     4,
     7,
     12,
     16,
+    17,
     20,
+    24,
     28,
     31,
+    32,
     36,
     40,
     44,
@@ -70,6 +74,7 @@ pub fn all(sides: &mut Sides) {
     (0..4).for_each(|stage| host_lists(sides, stage));
     (0..3).for_each(|stage| modem(sides, stage));
     made(sides);
+    pins::sweep(sides);
 }
 
 /// Writes with each number of the record changed, and reads the payload with each word changed. Gives
@@ -86,14 +91,14 @@ fn record(sides: &mut Sides, write: u32, read: u32, record: &[u64], input: &[u8]
 }
 
 /// Asks with every room up to one more than is needed.
-fn rooms(sides: &mut Sides, question: u32, rest: &[u64], input: &[u8], needed: usize) {
+pub fn rooms(sides: &mut Sides, question: u32, rest: &[u64], input: &[u8], needed: usize) {
     for room in 0..needed as u64 + 2 {
         sides.ask_by(&CHOICES, question, &[&[room], rest].concat(), input);
     }
 }
 
 /// Asks with each argument from this one on changed; a room is none of them.
-fn changed_numbers(sides: &mut Sides, question: u32, good: &[u64], from: usize, input: &[u8]) {
+pub fn changed_numbers(sides: &mut Sides, question: u32, good: &[u64], from: usize, input: &[u8]) {
     for place in from..good.len() {
         for number in numbers() {
             let mut arguments = good.to_vec();
@@ -104,7 +109,7 @@ fn changed_numbers(sides: &mut Sides, question: u32, good: &[u64], from: usize, 
 }
 
 /// Asks with each word of the input changed, and with each length up to one more.
-fn changed_bytes(sides: &mut Sides, question: u32, arguments: &[u64], good: &[u8]) {
+pub fn changed_bytes(sides: &mut Sides, question: u32, arguments: &[u64], good: &[u8]) {
     for place in (0..good.len()).step_by(4) {
         for number in numbers() {
             let mut input = good.to_vec();
@@ -119,21 +124,24 @@ fn changed_bytes(sides: &mut Sides, question: u32, arguments: &[u64], good: &[u8
     }
 }
 
+/// Sizes of a pair; 0 too.
+const SIZES: [u32; 6] = [0, 4, 11, 24, 28, 541];
+
 /// The payload with offset and size of each pair in turn changed together; each size stands beside each
-/// offset, 0 too.
-fn changed_pairs(good: &[u8], places: &[usize]) -> Vec<Vec<u8>> {
+/// offset.
+pub fn changed_pairs(good: &[u8], places: &[usize], sizes: &[u32]) -> Vec<Vec<u8>> {
     let mut changed = Vec::new();
     for place in places {
         for offset in numbers().chain([good.len() as u32]) {
-            for size in [0, 4, 11, 24, 28, 541] {
-                changed.push(with_pair(good, *place, offset, size));
+            for size in sizes {
+                changed.push(with_pair(good, *place, offset, *size));
             }
         }
     }
     changed
 }
 
-fn with_pair(good: &[u8], place: usize, offset: u32, size: u32) -> Vec<u8> {
+pub fn with_pair(good: &[u8], place: usize, offset: u32, size: u32) -> Vec<u8> {
     let mut payload = good.to_vec();
     put(&mut payload, place, offset);
     put(&mut payload, place + 4, size);
@@ -143,7 +151,7 @@ fn with_pair(good: &[u8], place: usize, offset: u32, size: u32) -> Vec<u8> {
 /// Reads with each pair changed; then a size of 0 beside an offset, and no bytes, at every number for a
 /// version and by every number for a choice.
 fn pairs(sides: &mut Sides, question: u32, version: u64, good: &[u8], places: &[usize]) {
-    for payload in changed_pairs(good, places) {
+    for payload in changed_pairs(good, places, &SIZES) {
         sides.ask_by(&CHOICES, question, &[version], &payload);
     }
     for payload in [&with_pair(good, places[0], 52, 0)[..], &[]] {
@@ -152,7 +160,7 @@ fn pairs(sides: &mut Sides, question: u32, version: u64, good: &[u8], places: &[
     }
 }
 
-fn number_choices() -> Vec<u64> {
+pub fn number_choices() -> Vec<u64> {
     numbers().map(u64::from).collect()
 }
 
@@ -236,7 +244,7 @@ fn services(sides: &mut Sides) {
 /// A list with each pair changed; then the list, one with a size of 0 beside an offset, and no bytes, by
 /// every number for a choice.
 fn service_pairs(sides: &mut Sides, good: &[u8]) {
-    for payload in changed_pairs(good, &[8, 16, 24]) {
+    for payload in changed_pairs(good, &[8, 16, 24], &SIZES) {
         about_list(sides, &CHOICES, &payload);
     }
     for payload in [good, &with_pair(good, 8, 52, 0), &[]] {
@@ -341,6 +349,7 @@ fn message(sides: &mut Sides, message_type: u32) {
     changed_numbers(sides, q::CUT, &[&[7000], &cut[..]].concat(), 1, &input);
     rooms(sides, q::CUT, &cut, &input, 200);
     changed_numbers(sides, q::PAYLOAD_KIND, &[head[0], 11, 0], 0, &BASIC_CONNECT);
+    changed_numbers(sides, q::PAYLOAD_KIND, &[head[0], 4, 0], 0, &BASIC_CONNECT);
     let pieces = fragments(sides, 64, head, BASIC_CONNECT, &information);
     for (number, piece) in pieces.iter().enumerate() {
         for place in (0..piece.len().min(48)).step_by(4) {
@@ -369,9 +378,15 @@ fn list(sides: &mut Sides) -> Vec<u8> {
 
 const ASK: [u8; 4] = [0, 1, 0, 2];
 
-/// A service and CID of either handshake command, of another, and of none.
-const COMMANDS: [([u8; 16], u64); 5] =
-    [(BASIC_CONNECT, 16), (EXTENSIONS, 15), (BASIC_CONNECT, 11), (EXTENSIONS, 16), ([0; 16], 15)];
+/// A service and CID of either handshake command, of others, and of none.
+pub const COMMANDS: [([u8; 16], u64); 6] = [
+    (BASIC_CONNECT, 16),
+    (EXTENSIONS, 15),
+    (BASIC_CONNECT, 11),
+    (BASIC_CONNECT, 4),
+    (EXTENSIONS, 16),
+    ([0; 16], 15),
+];
 
 /// A host of 2.00: closed, opened, asking VERSION, settled.
 fn host_at(sides: &mut Sides, stage: u64, list: &[u8]) {
@@ -410,7 +425,7 @@ fn host(sides: &mut Sides, stage: u64) {
 /// The pair of a list changed, in a reply to a host at this stage.
 fn host_lists(sides: &mut Sides, stage: u64) {
     let list = list(sides);
-    for changed in changed_pairs(&list, &[8]) {
+    for changed in changed_pairs(&list, &[8], &SIZES) {
         let input = [&BASIC_CONNECT[..], &changed].concat();
         host_at(sides, stage, &list);
         sides.step(q::HOST_RECEIVE, &[COMMAND_DONE.into(), 1, 16, 0], &input);
@@ -418,7 +433,7 @@ fn host_lists(sides: &mut Sides, stage: u64) {
 }
 
 /// Places of so many arguments with the numbers that they take in turn; message types too.
-fn changes(count: usize) -> impl Iterator<Item = (usize, u64)> {
+pub fn changes(count: usize) -> impl Iterator<Item = (usize, u64)> {
     let types = WHOLE.into_iter().chain([COMMAND, COMMAND_DONE, INDICATE_STATUS]);
     let numbers: Vec<u32> = numbers().chain(types).collect();
     (0..count).flat_map(move |place| {
@@ -428,7 +443,7 @@ fn changes(count: usize) -> impl Iterator<Item = (usize, u64)> {
 }
 
 /// A modem of 2.00 that advertises 1.00: at its start, list served, settled by VERSION.
-fn modem_at(sides: &mut Sides, stage: u64, list: &[u8]) {
+pub fn modem_at(sides: &mut Sides, stage: u64, list: &[u8]) {
     sides.ask(q::MAKE_MODEM, &[0x0200, 0x0100, MODEM_SIZE], list);
     if stage > 0 {
         sides.ask(q::MODEM_RECEIVE, &[ROOM, COMMAND.into(), 1, 16, 0], &BASIC_CONNECT);
@@ -459,7 +474,7 @@ fn modem(sides: &mut Sides, stage: u64) {
 /// A modem's versions, each word and the pair of its list of services, and its memory.
 fn made(sides: &mut Sides) {
     let list = list(sides);
-    for changed in changed_pairs(&list, &[8]) {
+    for changed in changed_pairs(&list, &[8], &SIZES) {
         sides.step(q::MAKE_MODEM, &[0x0200, 0x0100, MODEM_SIZE], &changed);
     }
     for size in 0..=MODEM_SIZE {

@@ -5,18 +5,20 @@ use crate::assembler::Assembler;
 use crate::bytes::word;
 use crate::device_services::{self, DeviceServices, Element, Shown};
 use crate::door::{self, Received};
-use crate::handshake::{host, modem};
+use crate::handshake::{host, modem, pins};
 use crate::handshake::{CommandAnswer, Host, Modem, NextCommand, ReplyAnswer};
 use crate::message::{self, Header, Whole};
 use crate::packet_service::{self, Form, PacketService};
 use crate::pair::{Range, ZeroSize};
 use crate::payload::{self, Kind};
+use crate::pin::{self, PinInfo, SetPin};
+use crate::pin_entry::{Given as GivenPin, Pins, MOST_SECRET, ROWS};
 use crate::refusal::{require, Refusal, OUTPUT_TOO_SMALL};
 use crate::registration::{self, Registration};
 use crate::signal_quality::{self, Reading};
 use crate::signal_state::{self, Entries, RsrpSnr, SignalState};
 use crate::version::{Version, MBIM};
-use crate::{cutter, version_info, ServiceId};
+use crate::{cutter, pin_memory, version_info, ServiceId};
 
 /// The numbers of the questions.
 pub mod question {
@@ -61,26 +63,37 @@ pub mod question {
     pub const ELEMENT_WITH: u32 = 39;
     pub const SERVICE_CIDS_WITH: u32 = 40;
     pub const LISTED_WITH: u32 = 41;
+    pub const SET_PIN_READ: u32 = 42;
+    pub const SET_PIN_READ_WITH: u32 = 43;
+    pub const SET_PIN_WRITE: u32 = 44;
+    pub const PIN_INFO_READ: u32 = 45;
+    pub const PIN_INFO_WRITE: u32 = 46;
+    pub const MAKE_PINS: u32 = 47;
+    pub const PIN_ENTRY: u32 = 48;
+    pub const PIN_RECEIVE: u32 = 49;
+    pub const SHOW_PINS: u32 = 50;
 }
 
 /// What a lent output holds before the call.
 const FILL: u8 = 0xAA;
 const FILL_WORD: u32 = 0xAAAA_AAAA;
 
-/// How many bytes of memory an assembly and a modem take.
+/// How many bytes of memory an assembly, a modem and a table of PINs take.
 pub const ASSEMBLY_SIZE: u64 = crate::memory::ASSEMBLY_SIZE as u64;
 pub const MODEM_SIZE: u64 = crate::memory::MODEM_SIZE as u64;
+pub const PINS_SIZE: u64 = pin_memory::PINS_SIZE as u64;
 
-/// The assembly, the host and the modem that stand between questions.
+/// The assembly, the host, the modem and the table of PINs that stand between questions.
 #[derive(Default)]
 pub struct Second {
     assembler: Assembler,
     host: Option<Host>,
     modem: Option<Modem>,
+    pins: Option<Pins>,
 }
 
 /// An answer: 0 and what belongs to it, or a refusal's number and place.
-/// What is no question (unknown number, no host or modem) has no numbers.
+/// What is no question (unknown number, no host, modem or table) has no numbers.
 #[derive(Clone, Debug, Default, PartialEq, Eq)]
 pub struct Answer {
     pub numbers: Vec<u64>,
@@ -111,9 +124,22 @@ impl Second {
             question::MODEM_OPEN..=question::MODEM_RECEIVE | question::SHOW_MODEM => {
                 self.modem.as_mut().map_or(none(), |modem| ask_modem(modem, question, &asked))
             }
+            question::MAKE_PINS..=question::SHOW_PINS => self.ask_pins(question, &asked),
             _ => ask_stateless(question, &asked),
         };
         answer.unwrap_or_else(refused)
+    }
+
+    fn ask_pins(&mut self, question: u32, asked: &Asked) -> Flat {
+        match (question, &mut self.pins, &mut self.modem) {
+            (question::MAKE_PINS, pins, _) => make_pins(pins, asked),
+            (question::PIN_ENTRY, Some(pins), _) => pin_entry(pins, asked),
+            (question::PIN_RECEIVE, Some(pins), Some(modem)) => pin_receive(modem, pins, asked),
+            (question::SHOW_PINS, Some(pins), _) => {
+                with_output(&[], pin_memory::bytes(pins).to_vec())
+            }
+            _ => none(),
+        }
     }
 }
 
@@ -141,6 +167,10 @@ fn ask_stateless(question: u32, asked: &Asked) -> Flat {
         question::RSRP => reading(signal_quality::rsrp(asked.word(0))?),
         question::SNR => reading(signal_quality::snr(asked.word(0))?),
         question::BARS => bars(asked),
+        question::SET_PIN_READ => set_pin_shown(pin::read_set(asked.input)?),
+        question::SET_PIN_WRITE => set_pin_write(asked),
+        question::PIN_INFO_READ => plain(&pin_info_numbers(pin::read_info(asked.input)?)),
+        question::PIN_INFO_WRITE => pin_info_write(asked),
         _ => ask_with(question, asked),
     }
 }
@@ -154,6 +184,9 @@ fn ask_with(question: u32, asked: &Asked) -> Flat {
         question::ELEMENT_WITH => element_with(asked),
         question::SERVICE_CIDS_WITH => service_cids_with(asked),
         question::LISTED_WITH => listed_with(asked),
+        question::SET_PIN_READ_WITH => {
+            set_pin_shown(pin::read_set_with(asked.zero_size(0)?, asked.input)?)
+        }
         _ => none(),
     }
 }
@@ -626,7 +659,35 @@ fn kind_number(kind: Kind) -> u64 {
         Kind::SignalState => 3,
         Kind::DeviceServices => 4,
         Kind::Version => 5,
+        Kind::SetPin => 6,
+        Kind::PinInfo => 7,
     }
+}
+
+fn set_pin_shown(record: SetPin<Range>) -> Flat {
+    let (pin, new_pin) = (record.pin, record.new_pin);
+    let texts = [pin.offset, pin.size, new_pin.offset, new_pin.size].map(u64::from);
+    plain(&[&[record.pin_type, record.pin_operation].map(u64::from)[..], &texts].concat())
+}
+
+fn set_pin_write(asked: &Asked) -> Flat {
+    let (pin, rest) = split(asked.input, asked.number(3));
+    let (new_pin, _) = split(rest, asked.number(4));
+    let record = SetPin { pin_type: asked.word(1), pin_operation: asked.word(2), pin, new_pin };
+    written(asked.number(0), |out| pin::write_set(&record, out))
+}
+
+fn pin_info_numbers(info: PinInfo) -> [u64; 3] {
+    [info.pin_type, info.pin_state, info.remaining_attempts].map(u64::from)
+}
+
+fn pin_info_write(asked: &Asked) -> Flat {
+    let info = PinInfo {
+        pin_type: asked.word(1),
+        pin_state: asked.word(2),
+        remaining_attempts: asked.word(3),
+    };
+    written(asked.number(0), |out| pin::write_info(&info, out))
 }
 
 fn reading(reading: Reading) -> Flat {
@@ -736,21 +797,67 @@ fn ask_modem(modem: &mut Modem, question: u32, asked: &Asked) -> Flat {
 
 fn modem_receive(modem: &mut Modem, asked: &Asked) -> Flat {
     let (header, information) = asked.message(1);
-    let call = |out: &mut [u8]| match modem.receive(&header, information, out) {
-        CommandAnswer::Refused(refusal) => Err(refusal),
-        answer @ CommandAnswer::Version { .. } => Ok((answer, version_info::LENGTH)),
-        answer => Ok((answer, 0)),
-    };
+    let call = |out: &mut [u8]| answered(modem.receive(&header, information, out));
     let (answer, output) = lend(asked.number(0), call)?;
+    command_shown(modem, answer, output)
+}
+
+fn pin_receive(modem: &mut Modem, pins: &mut Pins, asked: &Asked) -> Flat {
+    let (header, information) = asked.message(1);
+    let call = |out: &mut [u8]| answered(pins::receive(modem, pins, &header, information, out));
+    let (answer, output) = lend(asked.number(0), call)?;
+    command_shown(modem, answer, output)
+}
+
+/// The answer to a command, and how many bytes of output it wrote.
+fn answered(answer: CommandAnswer) -> Result<(CommandAnswer, usize), Refusal> {
+    match answer {
+        CommandAnswer::Refused(refusal) => Err(refusal),
+        CommandAnswer::Version { .. } => Ok((answer, version_info::LENGTH)),
+        CommandAnswer::Pin { .. } => Ok((answer, pin::INFO_LENGTH)),
+        _ => Ok((answer, 0)),
+    }
+}
+
+fn command_shown(modem: &Modem, answer: CommandAnswer, output: Vec<u8>) -> Flat {
     let (action, status, kind, place) = match answer {
         CommandAnswer::Serve { kind } => (1, 0, kind_number(kind), 0),
         CommandAnswer::Failed { status } => (3, status, 0, 0),
         CommandAnswer::Unknown { status, place } => (4, status, 0, place as u64),
+        CommandAnswer::Pin { status } => (5, status, 0, 0),
         _ => (2, 0, 0, 0),
     };
     let version = modem.version().map_or(0, Version::bcd);
     let length = output.len() as u64;
     with_output(&[action, status.into(), kind, version.into(), place, length], output)
+}
+
+/// The memory is judged last.
+fn make_pins(pins: &mut Option<Pins>, asked: &Asked) -> Flat {
+    let made = Pins::make(&given_pins(asked))?;
+    judge_memory(asked.number(0), PINS_SIZE)?;
+    *pins = Some(made);
+    plain(&[])
+}
+
+/// The rows of a table as the arguments give them, with their secrets from the input.
+fn given_pins(asked: &Asked) -> [GivenPin; ROWS] {
+    let mut secrets = asked.input.chunks_exact(MOST_SECRET);
+    let mut rows = [GivenPin::default(); ROWS];
+    for (number, row) in rows.iter_mut().enumerate() {
+        let [present, enabled, starting_tries, secret_length] =
+            [1, 2, 3, 4].map(|place| asked.word(4 * number + place));
+        let secret = secrets.next().and_then(|bytes| bytes.try_into().ok());
+        let secret = secret.unwrap_or([0; MOST_SECRET]);
+        *row = GivenPin { present, enabled, starting_tries, secret_length, secret };
+    }
+    rows
+}
+
+fn pin_entry(pins: &mut Pins, asked: &Asked) -> Flat {
+    let reply = pins.enter(asked.input)?;
+    let status = [reply.status, reply.info.is_some().into()].map(u64::from);
+    plain(&[&status[..], &pin_info_numbers(reply.info.unwrap_or_default())].concat())
 }
 
 pub(crate) fn modem_numbers(modem: &Modem) -> [u16; 5] {
@@ -834,6 +941,83 @@ mod tests {
         ] {
             assert_eq!(each_way(asked, arguments, input), [[8, 8], [8, 8], [18, 8]]);
         }
+    }
+
+    #[test]
+    fn a_stray_offset_of_a_pin_by_each_choice() {
+        let set_pin = [question::SET_PIN_READ, question::SET_PIN_READ_WITH];
+        let mut payload = [0; 24];
+        payload[..9].copy_from_slice(&[2, 0, 0, 0, 1, 0, 0, 0, 24]);
+        let shown = vec![0, 2, 1, 0, 0, 0, 0];
+        let answers = each_way(set_pin, &[], &payload);
+        assert_eq!(answers, [shown.clone(), shown, vec![18, 8]]);
+        for choice in [2, 256, u64::from(u32::MAX)] {
+            assert_eq!(numbers(question::SET_PIN_READ_WITH, &[choice], &[]), [9, 0]);
+        }
+    }
+
+    #[test]
+    fn pin_payloads_are_written_as_they_are_read() {
+        let arguments = [88, 17, 3, 2, 4];
+        let set = Second::new().ask(question::SET_PIN_WRITE, &arguments, &[1, 2, 3, 4, 5, 6]);
+        assert_eq!(set.numbers, [0, 32]);
+        assert_eq!(set.output[24..], [1, 2, 0, 0, 3, 4, 5, 6]);
+        let read = numbers(question::SET_PIN_READ, &[], &set.output);
+        assert_eq!(read, [0, 17, 3, 24, 2, 28, 4]);
+        let info = Second::new().ask(question::PIN_INFO_WRITE, &[12, 2, 1, 3], &[]);
+        assert_eq!(info.numbers, [0, 12]);
+        assert_eq!(numbers(question::PIN_INFO_READ, &[], &info.output), [0, 2, 1, 3]);
+    }
+
+    /// Makes a table of Custom and PIN1 with three tries each; PIN1's secret is empty.
+    fn make_pins(second: &mut Second, size: u64, present: u64) -> Vec<u64> {
+        let arguments = [size, present, 1, 3, 2, 1, 1, 3];
+        second.ask(question::MAKE_PINS, &arguments, &[7; 32]).numbers
+    }
+
+    #[test]
+    fn a_table_of_pins_stands_from_question_to_question() {
+        let mut second = Second::new();
+        for asked in [question::PIN_ENTRY, question::PIN_RECEIVE, question::SHOW_PINS] {
+            assert!(second.ask(asked, &[], &[]).numbers.is_empty());
+        }
+        assert_eq!(make_pins(&mut second, PINS_SIZE, 1), [0]);
+        let made = second.ask(question::SHOW_PINS, &[], &[]).output;
+        assert_eq!(made.len(), 748);
+        assert_eq!(made[..15], [1, 1, 0, 2, 3, 0, 0, 0, 3, 0, 0, 0, 7, 7, 0]);
+        assert_eq!(make_pins(&mut second, 0, 2), [9, 0]);
+        assert_eq!(make_pins(&mut second, 747, 1), [11, 748]);
+        let mut enter = |pin_type| {
+            let mut payload = [0; 24];
+            payload[0] = pin_type;
+            second.ask(question::PIN_ENTRY, &[], &payload).numbers
+        };
+        assert_eq!(enter(1), [0, 2, 1, 1, 1, 2]);
+        assert_eq!(enter(2), [0, 0, 1, 0, 0, 0]);
+        assert_eq!(enter(2), [0, 2, 1, 0, 0, 0]);
+        assert_eq!(enter(3), [0, 9, 0, 0, 0, 0]);
+        assert_eq!(second.ask(question::PIN_ENTRY, &[], &[]).numbers, [1, 0]);
+        let shown = second.ask(question::SHOW_PINS, &[], &[]).output;
+        assert_eq!([shown[4], shown[44 + 2]], [2, 1]);
+    }
+
+    #[test]
+    fn a_modem_answers_entries_with_its_table() {
+        let mut second = Second::new();
+        second.ask(question::MAKE_MODEM, &[0x0200, 0x0100, MODEM_SIZE], &[0; 8]);
+        make_pins(&mut second, PINS_SIZE, 1);
+        let mut input = [0; 40];
+        input[..16].copy_from_slice(&payload::BASIC_CONNECT);
+        input[16] = 1;
+        let mut ask =
+            |room, cid, word| second.ask(question::PIN_RECEIVE, &[room, 3, 1, cid, word], &input);
+        assert_eq!(ask(0, 4, 1).numbers, [0, 3, 9, 0, 0, 0, 0]);
+        assert_eq!(ask(0, 16, 0).numbers, [0, 1, 0, 4, 0, 0, 0]);
+        assert_eq!(ask(11, 4, 1).numbers, [11, 12]);
+        let entered = ask(20, 4, 1);
+        assert_eq!(entered.numbers, [0, 5, 2, 0, 0x0100, 0, 12]);
+        assert_eq!(entered.output, [1, 0, 0, 0, 1, 0, 0, 0, 2, 0, 0, 0]);
+        assert_eq!(ask(0, 4, 0).numbers, [0, 1, 0, 7, 0x0100, 0, 0]);
     }
 
     #[test]

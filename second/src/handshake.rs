@@ -1,7 +1,9 @@
-//! The version handshake, each end by itself: the host and the modem.
+//! The version handshake, each end by itself: the host and the modem, which may have a
+//! table of PINs.
 
 pub mod host;
 pub mod modem;
+pub mod pins;
 
 pub use host::{Host, NextCommand, ReplyAnswer};
 pub use modem::{CommandAnswer, Modem};
@@ -22,7 +24,7 @@ mod tests {
             max_dss_instances: 0,
             cids,
         };
-        let elements = [element(BASIC_CONNECT, &[9, 10, 11, 16]), element(EXTENSIONS, &[15])];
+        let elements = [element(BASIC_CONNECT, &[4, 9, 10, 11, 16]), element(EXTENSIONS, &[15])];
         let count = if lists_version { 2 } else { 1 };
         let mut out = [0; 200];
         let length = device_services::write(0, &elements[..count], &mut out).unwrap();

@@ -1,5 +1,5 @@
 //! A second, independent implementation of the MBIM scope: payload readers
-//! and writers, fragments, the version handshake and signal readings.
+//! and writers, fragments, the version handshake, PIN entry and signal readings.
 //! It answers every input without a panic, and only `flat` allocates.
 
 mod bytes;
@@ -16,6 +16,9 @@ pub mod memory;
 pub mod message;
 pub mod packet_service;
 pub mod payload;
+pub mod pin;
+pub mod pin_entry;
+pub mod pin_memory;
 pub mod refusal;
 pub mod registration;
 pub mod signal_quality;

@@ -76,12 +76,12 @@ pub fn judge_modem(memory: &[u8]) -> Result<(), Refusal> {
     }
 }
 
-fn judge_size(memory: &[u8], needed: usize) -> Result<(), Refusal> {
+pub(crate) fn judge_size(memory: &[u8], needed: usize) -> Result<(), Refusal> {
     require(memory.len() >= needed, OUTPUT_TOO_SMALL, needed)
 }
 
 /// Refuses a number at this place that no calls leave.
-fn left(holds: bool, place: usize) -> Result<(), Refusal> {
+pub(crate) fn left(holds: bool, place: usize) -> Result<(), Refusal> {
     require(holds, FIELDS_CONTRADICT, place)
 }
 

@@ -22,6 +22,11 @@ pub const INDICATE_STATUS: u32 = 0x8000_0007;
 pub const QUERY: u32 = 0;
 pub const SET: u32 = 1;
 
+/// Statuses: MBIM_STATUS_SUCCESS, MBIM_STATUS_FAILURE, MBIM_STATUS_NO_DEVICE_SUPPORT.
+pub const STATUS_SUCCESS: u32 = 0;
+pub const STATUS_FAILURE: u32 = 2;
+pub const STATUS_NO_DEVICE_SUPPORT: u32 = 9;
+
 /// Longest fragment.
 pub const MAX_TRANSFER: usize = 4096;
 /// Most fragments of a message.

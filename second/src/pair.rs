@@ -1,7 +1,7 @@
 //! A pair: offset and size of a range that a payload's field names.
 //! The rules of a pair stand here once for texts and lists of every payload.
 
-use crate::bytes::word;
+use crate::bytes::{padded, put, put_word, word};
 use crate::refusal::{
     require, Refusal, BEYOND_PAYLOAD, OFFSET_IN_FIXED_PART, OFFSET_MISALIGNED,
     OFFSET_WITH_ZERO_SIZE, OUTSIDE_TABLE, SIZE_WRONG,
@@ -109,6 +109,34 @@ fn judge_offset(
     require(offset.is_multiple_of(4), OFFSET_MISALIGNED, field)?;
     let end = offset + u64::from(pair.size);
     require(end <= bounds.length as u64, BEYOND_PAYLOAD, field)
+}
+
+/// The pair of a text laid at this length, and the length after it.
+/// A size above 32 bits stays above every limit.
+#[inline(always)]
+pub fn lay(text: &[u8], length: &mut usize) -> Range {
+    if text.is_empty() {
+        return Range { offset: 0, size: 0 };
+    }
+    let offset = u32::try_from(*length).unwrap_or(u32::MAX);
+    let size = u32::try_from(text.len()).unwrap_or(u32::MAX);
+    *length = length.saturating_add(padded(text.len()));
+    Range { offset, size }
+}
+
+#[inline(always)]
+pub fn put_pair(pair: Range, field: usize, out: &mut [u8]) {
+    put_word(out, field, pair.offset);
+    put_word(out, field + 4, pair.size);
+}
+
+/// The text and zeros up to a multiple of 4.
+#[inline(always)]
+pub fn put_text(text: &[u8], pair: Range, out: &mut [u8]) {
+    let start = pair.offset as usize;
+    let end = start + text.len();
+    put(out, start, text);
+    put(out, end, &[0; 3][..padded(text.len()) - text.len()]);
 }
 
 #[cfg(test)]

@@ -1,9 +1,9 @@
 //! The REGISTER_STATE payload: eight or nine numbers and three texts.
 //! Texts are not checked as UTF-16.
 
-use crate::bytes::{padded, put, put_word, word};
+use crate::bytes::{put_word, word};
 use crate::data_class;
-use crate::pair::{judge_text, Bounds, ZeroSize};
+use crate::pair::{judge_text, lay, put_pair, put_text, Bounds, ZeroSize};
 use crate::refusal::{
     require, Refusal, FIELDS_CONTRADICT, INFORMATION_TOO_LONG, OUTPUT_TOO_SMALL, OUTSIDE_TABLE,
     TOO_SHORT,
@@ -179,19 +179,6 @@ fn judge_numbers(record: &Registration<Range>) -> Result<(), Refusal> {
     require(in_cellular, OUTSIDE_TABLE, CELLULAR_CLASS)
 }
 
-/// The pair of a text laid at this length, and the length after it.
-/// A size above 32 bits stays above every limit.
-#[inline(always)]
-fn lay(text: &[u8], length: &mut usize) -> Range {
-    if text.is_empty() {
-        return Range { offset: 0, size: 0 };
-    }
-    let offset = u32::try_from(*length).unwrap_or(u32::MAX);
-    let size = u32::try_from(text.len()).unwrap_or(u32::MAX);
-    *length = length.saturating_add(padded(text.len()));
-    Range { offset, size }
-}
-
 #[inline(always)]
 fn put_fields(laid: &Registration<Range>, out: &mut [u8]) {
     put_word(out, NW_ERROR, laid.nw_error);
@@ -206,21 +193,6 @@ fn put_fields(laid: &Registration<Range>, out: &mut [u8]) {
     if let Some(preferred) = laid.preferred_data_class {
         put_word(out, PREFERRED_DATA_CLASS, preferred);
     }
-}
-
-#[inline(always)]
-fn put_pair(pair: Range, field: usize, out: &mut [u8]) {
-    put_word(out, field, pair.offset);
-    put_word(out, field + 4, pair.size);
-}
-
-/// The text and zeros up to a multiple of 4.
-#[inline(always)]
-fn put_text(text: &[u8], pair: Range, out: &mut [u8]) {
-    let start = pair.offset as usize;
-    let end = start + text.len();
-    put(out, start, text);
-    put(out, end, &[0; 3][..padded(text.len()) - text.len()]);
 }
 
 #[cfg(test)]

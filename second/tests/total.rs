@@ -1,7 +1,8 @@
 //! No question panics, whatever its arguments and input are, and no answer
 //! touches output that it must leave alone (the questions check that themselves).
 
-use second::flat::{question, Second, ASSEMBLY_SIZE};
+use second::flat::{question, Second, ASSEMBLY_SIZE, PINS_SIZE};
+use second::pin_memory;
 
 struct Random(u64);
 
@@ -51,12 +52,13 @@ fn any_question_is_answered() {
     let mut second = Second::new();
     second.ask(question::MAKE_HOST, &[0x0200], &[]);
     second.ask(question::MAKE_MODEM, &[0x0200, 0x0100, 10], &[0; 8]);
+    second.ask(question::MAKE_PINS, &[PINS_SIZE, 1, 1, 3, 0, 1, 1, 3, 4], &[7; 544]);
     for _ in 0..60_000 {
-        let asked = random.below(43) as u32;
+        let asked = random.below(52) as u32;
         let count = random.below(30);
         let mut arguments: Vec<u64> = (0..count).map(|_| random.number()).collect();
         if let Some(room) = arguments.first_mut() {
-            let is_room = !matches!(asked, 3 | 5 | 7 | 12 | 20..=23 | 26..=27 | 33..=38 | 41);
+            let is_room = !matches!(asked, 3 | 5 | 7 | 12 | 20..=23 | 26..=27 | 33..=38 | 41 | 43);
             *room = if is_room { *room % 8000 } else { *room };
         }
         let input = random.input();
@@ -128,6 +130,64 @@ fn a_size_of_0_reads_as_beside_offset_0() {
         assert_choices(questions, &[], &payload, fields);
         let questions = [question::ELEMENT, question::ELEMENT_WITH];
         assert_choices(questions, &[4, 1], &payload, fields);
+        let fields = [8, 16];
+        let payload = with_pairs(&mut random, 56, &fields);
+        let questions = [question::SET_PIN_READ, question::SET_PIN_READ_WITH];
+        assert_choices(questions, &[], &payload, &fields);
+    }
+}
+
+/// A SET_PIN payload with texts of at most two bytes, now and then damaged.
+fn entry(random: &mut Random) -> Vec<u8> {
+    let mut payload = vec![0; 24];
+    payload[0] = random.below(18) as u8;
+    for field in [8, 16] {
+        if random.below(3) > 0 {
+            payload[field] = payload.len() as u8;
+            payload[field + 4] = 2;
+            payload.extend([random.below(2) as u8, 0, 0, 0]);
+        }
+    }
+    if random.below(10) == 0 {
+        let place = random.below(24) as usize;
+        payload[place] ^= 1 << random.below(8);
+    }
+    payload
+}
+
+/// Entries change no row but their own and that of the PIN that a PUK unblocks; only a right one
+/// raises tries, and then to the starting number; and they are the same in lent memory.
+#[test]
+fn entries_keep_to_their_rows() {
+    let mut random = Random(0x1357_9BDF_0246_8ACE);
+    let pins = [(11, 2), (12, 3), (13, 5), (14, 6), (15, 7), (16, 8), (17, 9)];
+    for _ in 0..2000 {
+        let mut arguments = vec![PINS_SIZE];
+        for _ in 0..17 {
+            let [present, enabled] = [6, 4].map(|limit| random.below(limit).min(1));
+            arguments.extend([present, enabled, random.below(4), random.below(2) * 2]);
+        }
+        let mut second = Second::new();
+        second.ask(question::MAKE_PINS, &arguments, &[0; 544]);
+        let mut memory = second.ask(question::SHOW_PINS, &[], &[]).output;
+        for _ in 0..40 {
+            let (before, payload) = (memory.clone(), entry(&mut random));
+            let entered = pin_memory::enter(&mut memory, &payload);
+            let answer = second.ask(question::PIN_ENTRY, &[], &payload).numbers;
+            assert_eq!(second.ask(question::SHOW_PINS, &[], &[]).output, memory);
+            match entered {
+                Err(refusal) => assert_eq!(answer, [refusal.number.into(), refusal.place as u64]),
+                Ok(reply) => assert_eq!(answer[..2], [0, reply.status.into()]),
+            }
+            let own = usize::from(payload[0]);
+            let unblocked = pins.iter().find(|(puk, _)| *puk == own).map(|(_, pin)| *pin);
+            for (row, (old, new)) in before.chunks(44).zip(memory.chunks(44)).enumerate() {
+                let may_change = row + 1 == own || Some(row + 1) == unblocked;
+                let is_right = answer[..2] == [0, 0];
+                assert!(old == new || may_change && matches!(answer[..2], [0, 0 | 2]));
+                assert!(new[4] <= old[4] || is_right && new[4] == new[8]);
+            }
+        }
     }
 }
 

@@ -55,7 +55,7 @@ use Rattle.c_claims.proofs.Verdicts.{told-if, told-first, told-rules, b
 use Rattle.c_claims.proofs.Payloads.{version-read-told, version-write-told, listed-told}
 
 -- what is stored in memory, where there is room
-stored-told : (size : ℕ) (bytes m : List ℕ) → VerdictTells (stored size bytes m .verdict)
+pub stored-told : (size : ℕ) (bytes m : List ℕ) → VerdictTells (stored size bytes m .verdict)
 stored-told size bytes m = by-test (λ (x : Stored). VerdictTells (x .verdict)) (ltb (length m) size) refl refl
 
 -- ---- the host by value
@@ -183,7 +183,7 @@ AnswerTells (answer.Failed status) = Unit
 AnswerTells (answer.Unknown place) = Unit
 AnswerTells (answer.Refused r) = eqb (r .number) 0 ≡ false
 
-reply-told : (a : ModemAnswer) (g : ModemStage) → AnswerTells a → ModemTells (record { answer = a; stage = g })
+pub reply-told : (a : ModemAnswer) (g : ModemStage) → AnswerTells a → ModemTells (record { answer = a; stage = g })
 unfolding modemInfo
 reply-told (answer.Serve k) g x = refl
 reply-told (answer.Version n) g x = refl
@@ -223,7 +223,7 @@ command-told role.Services m c type s out = served-told c
 command-told role.Version m c type s out = asked-told m type s out
 command-told role.Other m c type s out = other-told (m .stage) m c
 
-message-told : (m : Modem) (h : MessageHeader) (s out : List ℕ) → AnswerTells (modem.receiveOf m h s out .step .answer)
+pub message-told : (m : Modem) (h : MessageHeader) (s out : List ℕ) → AnswerTells (modem.receiveOf m h s out .step .answer)
 unfolding modem.receiveOf modem.receiveBy modem.commandOf
 message-told m h s out = by-verdict (judge (modem.commandRules h)) (told-rules _ refl)
   where
@@ -233,7 +233,7 @@ message-told m h s out = by-verdict (judge (modem.commandRules h)) (told-rules _
 
 -- ---- the modem in lent memory
 
-modem-held-told : (m : List ℕ) → VerdictTells (judge (lentModem.modemRules m))
+pub modem-held-told : (m : List ℕ) → VerdictTells (judge (lentModem.modemRules m))
 modem-held-told m = told-rules _ refl
 
 pub modem-make-told : (m : List ℕ) (native advertised : ℕ) (s : List ℕ) → VerdictTells (lentModem.makeIn m native advertised s .verdict)

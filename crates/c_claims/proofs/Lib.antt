@@ -2,4 +2,5 @@ pub mod Verdicts
 pub mod Payloads
 pub mod Messages
 pub mod Ends
+pub mod Pins
 pub mod Told

@@ -13,7 +13,7 @@ use Rattle.protocol.specs.declared.Verdict.{Verdict}
 use Rattle.protocol.specs.declared.Verdict.the-variants.{Fits, Fault}
 use Rattle.protocol.specs.declared.service.ServiceId.{ServiceId}
 use Rattle.protocol.specs.declared.service.Kind.{Kind}
-use Rattle.protocol.specs.declared.service.Kind.the-variants.{RegisterState, PacketService, SignalState, DeviceServices, VersionInfo}
+use Rattle.protocol.specs.declared.service.Kind.the-variants.{RegisterState, PacketService, SignalState, DeviceServices, VersionInfo, SetPin, PinInfo}
 use Rattle.protocol.specs.declared.service.Carried.{Carried}
 use Rattle.protocol.specs.declared.service.Carried.the-variants as carried
 use Rattle.message.specs.Message.{wholeRules, wholeBy, wholeOf, wholeBytes, writeWholeOf, isWholePiece, headerRules, headerBy, headerOf, firstRules, firstBy, firstHeaderOf, openedBy, headerAt, fragmentBy, fragmentOf}
@@ -24,7 +24,7 @@ use Rattle.message.specs.declared.Whole.the-variants as whole
 use Rattle.message.specs.declared.Fragment.{Fragment}
 use Rattle.message.specs.declared.Fragment.the-variants as fragment
 use Rattle.cutter.specs.Cut.{fragmentsOf, joined, messageRules, cutBy, cutAfter, cutOf}
-use Rattle.payload.specs.Payload.{rowOf, shownBy, shownOf}
+use Rattle.payload.specs.Payload.{wayOf, rowOf, shownIn, shownBy, shownOf}
 use Rattle.payload.proofs.Ways.{by-way}
 use Rattle.assembler.specs.Assembly.{assemblyOf, Step, refused, waiting, completed, gatherOf, joinRules, joinOf, judgedBy, judgedOf, stepBy, stepOf}
 use Rattle.assembler.specs.Door.{wholeShown, fedShown, shownBy as shownWhole}
@@ -68,13 +68,15 @@ cut-told m size information out =
 
 -- ---- which payload a message shows
 
-row-told : (k : Kind) → KindTells (rowOf k .command) × KindTells (rowOf k .answer)
+row-told : (k : Kind) (m : MessageHeader) → KindTells (shownIn (rowOf k) (wayOf m))
 unfolding kindInfo
-row-told RegisterState = (refl, refl)
-row-told PacketService = (refl, refl)
-row-told SignalState = (refl, refl)
-row-told DeviceServices = (refl, refl)
-row-told VersionInfo = (refl, refl)
+row-told RegisterState m = by-way KindTells (rowOf RegisterState) m refl refl refl refl refl
+row-told PacketService m = by-way KindTells (rowOf PacketService) m refl refl refl refl refl
+row-told SignalState m = by-way KindTells (rowOf SignalState) m refl refl refl refl refl
+row-told DeviceServices m = by-way KindTells (rowOf DeviceServices) m refl refl refl refl refl
+row-told VersionInfo m = by-way KindTells (rowOf VersionInfo) m refl refl refl refl refl
+row-told SetPin m = by-way KindTells (rowOf SetPin) m refl refl refl refl refl
+row-told PinInfo m = by-way KindTells (rowOf PinInfo) m refl refl refl refl refl
 
 -- a CID's kind, or a refusal with a number
 abbrev CarriedTells : Carried → Type 0
@@ -98,7 +100,7 @@ kind-told m = by-test KindTells (isFragmented (m .«message_type»)) (by-kind (k
   where
     by-kind : (c : Carried) → CarriedTells c → KindTells (shownBy m c)
     by-kind (carried.Refused r) t = t
-    by-kind (carried.Payload k) t = by-way KindTells (rowOf k) m (row-told k .0) (row-told k .1) refl
+    by-kind (carried.Payload k) t = row-told k m
 
 -- ---- a fragment judged, a message gathered
 

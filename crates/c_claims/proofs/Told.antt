@@ -4,6 +4,7 @@ use Rattle.c_claims.specs.NumberZero.{EveryNumberTells}
 use Rattle.c_claims.proofs.Payloads as payloads
 use Rattle.c_claims.proofs.Messages as messages
 use Rattle.c_claims.proofs.Ends as ends
+use Rattle.c_claims.proofs.Pins as pins
 
 pub every-number-tells : EveryNumberTells
 every-number-tells = record {
@@ -29,6 +30,11 @@ every-number-tells = record {
   device-services-all-with = payloads.all-chosen-told;
   device-services-write = payloads.services-write-told;
   device-services-write-all = payloads.lists-write-told;
+  set-pin-read = pins.set-pin-read-told;
+  set-pin-read-with = pins.set-pin-chosen-told;
+  set-pin-write = pins.set-pin-write-told;
+  pin-info-read = pins.pin-info-read-told;
+  pin-info-write = pins.pin-info-write-told;
   rsrp = payloads.rsrp-told;
   snr = payloads.snr-told;
   bars = payloads.bars-told;
@@ -46,4 +52,7 @@ every-number-tells = record {
   modem-make = ends.modem-make-told;
   modem-restart = ends.modem-restart-told;
   modem-receive = ends.modem-receive-told;
+  pin-make = pins.pin-make-told;
+  pin-enter = pins.pin-enter-told;
+  pin-receive = pins.pin-receive-told;
 }

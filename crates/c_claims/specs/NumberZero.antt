@@ -23,6 +23,12 @@ use Rattle.services_query.specs.declared.all.AllAnswer.{AllAnswer}
 use Rattle.services_lists.specs.ServicesLists as lists
 use Rattle.services_writer.specs.ServicesWriter as writer
 use Rattle.services_writer.specs.declared.ServiceList.{ServiceList}
+use Rattle.pin.specs.SetPin as setPin
+use Rattle.pin.specs.declared.set_pin.SetPin.{SetPin}
+use Rattle.pin.specs.declared.set_pin.SetPinRead.{SetPinRead}
+use Rattle.pin.specs.PinInfo as pinInfo
+use Rattle.pin.specs.declared.pin_info.PinInfo.{PinInfo}
+use Rattle.pin.specs.declared.pin_info.PinInfoRead.{PinInfoRead}
 use Rattle.signal_quality.specs.Decibels.{rsrpOf, snrOf}
 use Rattle.signal_quality.specs.Bars.{barsOf}
 use Rattle.signal_quality.specs.declared.ReadingRead.{ReadingRead}
@@ -41,6 +47,11 @@ use Rattle.lent.specs.LentAssembly.{emptied, receiveIn}
 use Rattle.lent_host.specs.LentHost as host
 use Rattle.lent_modem.specs.LentModem as modem
 use Rattle.lent_modem.specs.declared.ModemReply.{ModemReply}
+use Rattle.pin_entry.specs.declared.PinAnswer.{PinAnswer}
+use Rattle.pin_entry.specs.declared.starts.PinStart.{PinStart}
+use Rattle.lent_pins.specs.LentPins as pins
+use Rattle.lent_pins.specs.LentModems as pinModem
+use Rattle.lent_pins.specs.declared.modems.PinReply.{PinReply}
 use Rattle.c_structs.specs.Answers.{refusalOf, writtenAnswer}
 use Rattle.c_structs.specs.Versions as versionAnswer
 use Rattle.c_structs.specs.Packets as packetAnswer
@@ -50,6 +61,7 @@ use Rattle.c_structs.specs.Services as servicesAnswer
 use Rattle.c_structs.specs.Quality.{readingInfo, barsInfo}
 use Rattle.c_structs.specs.Messages.{wholeInfo, cutInfo, kindInfo, receiveInfo}
 use Rattle.c_structs.specs.Ends.{hostInfo, askInfo}
+use Rattle.c_structs.specs.Pins.{setPinAnswer, pinInfoAnswer, entryAnswer}
 use Rattle.c_structs.specs.declared.packets.PacketServiceInfo.{PacketServiceInfo}
 use Rattle.c_structs.specs.declared.registrations.RegistrationInfo.{RegistrationInfo}
 use Rattle.c_structs.specs.declared.signals.SignalStateInfo.{SignalStateInfo}
@@ -58,7 +70,9 @@ use Rattle.culvertroost.specs.Registrations as registrations
 use Rattle.culvertroost.specs.Signals as signals
 use Rattle.culvertroost.specs.Services as servicesBy
 use Rattle.culvertroost.specs.Modems.{replyInfo}
-use Rattle.c_claims.specs.Refused.{faulty, writtenRefused, versionRefused, packetRefused, registrationRefused, signalRefused, servicesRefused, elementRefused, listedRefused, allRefused, readingRefused, barsRefused, wholeRefused, cutRefused, shownRefused, receivedRefused, hostRefused, askRefused, modemRefused}
+use Rattle.culvertroost.specs.Pins as setPinBy
+use Rattle.culvertroost.specs.Pins.{pinReplyInfo}
+use Rattle.c_claims.specs.Refused.{faulty, writtenRefused, versionRefused, packetRefused, registrationRefused, signalRefused, servicesRefused, elementRefused, listedRefused, allRefused, setPinRefused, pinInfoRefused, readingRefused, barsRefused, wholeRefused, cutRefused, shownRefused, receivedRefused, hostRefused, askRefused, modemRefused, entryRefused, pinModemRefused}
 
 -- the number is 0 exactly where nothing was refused
 abbrev pub Tells : ℕ → Bool → Type 0
@@ -96,6 +110,12 @@ ListedTells a = Tells (servicesAnswer.listedInfo a .refusal .number) (listedRefu
 abbrev pub AllTells : AllAnswer → Type 0
 AllTells a = Tells (servicesAnswer.allInfo a .refusal .number) (allRefused a)
 
+abbrev pub SetPinTells : SetPinRead → Type 0
+SetPinTells a = Tells (setPinAnswer a .refusal .number) (setPinRefused a)
+
+abbrev pub PinInfoTells : PinInfoRead → Type 0
+PinInfoTells a = Tells (pinInfoAnswer a .refusal .number) (pinInfoRefused a)
+
 abbrev pub ReadingTells : ReadingRead → Type 0
 ReadingTells a = Tells (readingInfo a .refusal .number) (readingRefused a)
 
@@ -123,6 +143,12 @@ AskTells a = Tells (askInfo a .refusal .number) (askRefused a)
 abbrev pub ModemTells : ModemReply → Type 0
 ModemTells a = Tells (replyInfo a .refusal .number) (modemRefused (a .answer))
 
+abbrev pub EntryTells : PinAnswer → Type 0
+EntryTells a = Tells (entryAnswer a .refusal .number) (entryRefused a)
+
+abbrev pub PinModemTells : PinReply → Type 0
+PinModemTells a = Tells (pinReplyInfo a .refusal .number) (pinModemRefused (a .answer))
+
 -- ---- every function, by its C name
 
 pub record EveryNumberTells : Type 0 where
@@ -148,6 +174,11 @@ pub record EveryNumberTells : Type 0 where
   pub device-services-all-with : (k : ℕ) (s fields cids : List ℕ) → AllTells (servicesBy.allChosen k s fields cids .answer)
   pub device-services-write : (p : ServiceList) (out : List ℕ) → WrittenTells (writer.writeOf p out .answer)
   pub device-services-write-all : (max : ℕ) (fields cids out : List ℕ) → WrittenTells (lists.writeAllOf max fields cids out .answer)
+  pub set-pin-read : (s : List ℕ) → SetPinTells (setPin.readOf s)
+  pub set-pin-read-with : (k : ℕ) (s : List ℕ) → SetPinTells (setPinBy.readChosen k s)
+  pub set-pin-write : (i : SetPin) (pin new out : List ℕ) → WrittenTells (setPin.writeOf i pin new out .answer)
+  pub pin-info-read : (s : List ℕ) → PinInfoTells (pinInfo.readOf s)
+  pub pin-info-write : (i : PinInfo) (out : List ℕ) → WrittenTells (pinInfo.writeOf i out .answer)
   pub rsrp : (code : ℕ) → ReadingTells (rsrpOf code)
   pub snr : (code : ℕ) → ReadingTells (snrOf code)
   pub bars : (rssi : ℕ) → BarsTells (barsOf rssi)
@@ -166,3 +197,6 @@ pub record EveryNumberTells : Type 0 where
   -- both opening and closing
   pub modem-restart : (memory : List ℕ) → VerdictTells (modem.restartIn memory .verdict)
   pub modem-receive : (memory : List ℕ) (m : MessageHeader) (information out : List ℕ) → ModemTells (modem.receiveIn memory m information out .reply)
+  pub pin-make : (memory : List ℕ) (rows : List PinStart) → VerdictTells (pins.makeIn memory rows .verdict)
+  pub pin-enter : (memory s : List ℕ) → EntryTells (pins.enterIn memory s .answer)
+  pub pin-receive : (memory table : List ℕ) (m : MessageHeader) (information out : List ℕ) → PinModemTells (pinModem.receiveIn memory table m information out .reply)

@@ -21,6 +21,10 @@ use Rattle.services_query.specs.declared.all.AllAnswer.{AllAnswer}
 use Rattle.services_query.specs.declared.all.AllAnswer.the-variants as all
 use Rattle.services_query.specs.declared.ListedAnswer.{ListedAnswer}
 use Rattle.services_query.specs.declared.ListedAnswer.the-variants as listed
+use Rattle.pin.specs.declared.set_pin.SetPinRead.{SetPinRead}
+use Rattle.pin.specs.declared.set_pin.SetPinRead.the-variants as setPin
+use Rattle.pin.specs.declared.pin_info.PinInfoRead.{PinInfoRead}
+use Rattle.pin.specs.declared.pin_info.PinInfoRead.the-variants as pinInfo
 use Rattle.signal_quality.specs.declared.ReadingRead.{ReadingRead}
 use Rattle.signal_quality.specs.declared.ReadingRead.the-variants as reading
 use Rattle.signal_quality.specs.declared.Bars.{Bars}
@@ -39,6 +43,10 @@ use Rattle.host.specs.declared.Ask.{Ask}
 use Rattle.host.specs.declared.Ask.the-variants as ask
 use Rattle.modem.specs.declared.ModemAnswer.{ModemAnswer}
 use Rattle.modem.specs.declared.ModemAnswer.the-variants as modem
+use Rattle.pin_entry.specs.declared.PinAnswer.{PinAnswer}
+use Rattle.pin_entry.specs.declared.PinAnswer.the-variants as entry
+use Rattle.pin_modem.specs.declared.PinModemAnswer.{PinModemAnswer}
+use Rattle.pin_modem.specs.declared.PinModemAnswer.the-variants as pinModem
 
 abbrev pub faulty : Verdict → Bool
 faulty Fits = false
@@ -84,6 +92,14 @@ listedRefused (listed.Refused r) = true
 abbrev pub allRefused : AllAnswer → Bool
 allRefused (all.Listed n k) = false
 allRefused (all.Refused r) = true
+
+abbrev pub setPinRefused : SetPinRead → Bool
+setPinRefused (setPin.Info p t) = false
+setPinRefused (setPin.Refused r) = true
+
+abbrev pub pinInfoRefused : PinInfoRead → Bool
+pinInfoRefused (pinInfo.Info i) = false
+pinInfoRefused (pinInfo.Refused r) = true
 
 abbrev pub readingRefused : ReadingRead → Bool
 readingRefused (reading.Info x) = false
@@ -139,3 +155,14 @@ modemRefused (modem.Version n) = false
 modemRefused (modem.Failed status) = false
 modemRefused (modem.Unknown place) = false
 modemRefused (modem.Refused r) = true
+
+-- ---- PINs: an entry that fails is answered with its status too
+
+abbrev pub entryRefused : PinAnswer → Bool
+entryRefused (entry.Info status i) = false
+entryRefused (entry.Failed status) = false
+entryRefused (entry.Refused r) = true
+
+abbrev pub pinModemRefused : PinModemAnswer → Bool
+pinModemRefused (pinModem.Modem a) = modemRefused a
+pinModemRefused (pinModem.Pin status n) = false

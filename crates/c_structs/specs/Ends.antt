@@ -1,8 +1,9 @@
 -- Answers of the handshake's ends as plain members: a refused one has all other members 0.
 use Prim.Native.Nat.{ℕ}
 use Rattle.protocol.specs.declared.Refusal.{Refusal}
+use Rattle.protocol.specs.Status.{noDeviceSupport}
 use Rattle.handshake.specs.Versions.{numberOf}
-use Rattle.modem.specs.Modem.{noDeviceSupport, settledNumber}
+use Rattle.modem.specs.Modem.{settledNumber}
 use Rattle.host.specs.declared.HostAnswer.{HostAnswer}
 use Rattle.host.specs.declared.HostAnswer.the-variants as host
 use Rattle.host.specs.declared.Ask.{Ask}

@@ -8,4 +8,5 @@ pub mod Services
 pub mod Quality
 pub mod Messages
 pub mod Ends
+pub mod Pins
 pub mod Claims

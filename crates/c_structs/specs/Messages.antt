@@ -3,7 +3,7 @@ use Prim.Native.Nat.{ℕ}
 use mathlib.Core.Bool.{Bool, cond}
 use Rattle.protocol.specs.declared.Refusal.{Refusal}
 use Rattle.protocol.specs.declared.service.Kind.{Kind}
-use Rattle.protocol.specs.declared.service.Kind.the-variants.{RegisterState, PacketService, SignalState, DeviceServices, VersionInfo}
+use Rattle.protocol.specs.declared.service.Kind.the-variants.{RegisterState, PacketService, SignalState, DeviceServices, VersionInfo, SetPin, PinInfo}
 use Rattle.message.specs.declared.MessageHeader.{MessageHeader}
 use Rattle.message.specs.declared.Whole.{Whole}
 use Rattle.message.specs.declared.Whole.the-variants as whole
@@ -34,7 +34,7 @@ unfoldable pub cutInfo : Cutting → CutInfo
 cutInfo (cutting.Fragments count n) = record { refusal = noRefusal; count = count; length = n }
 cutInfo (cutting.Refused r) = record { refusal = r; count = 0; length = 0 }
 
--- ---- the payload that a message shows: 0 none, 1 registration, 2 packet service, 3 signal state, 4 device services, 5 VERSION
+-- ---- the payload that a message shows: 0 none, 1 registration, 2 packet service, 3 signal state, 4 device services, 5 VERSION, 6 SET_PIN, 7 PIN_INFO
 
 abbrev pub kindNumber : Kind → ℕ
 kindNumber RegisterState = 1
@@ -42,6 +42,8 @@ kindNumber PacketService = 2
 kindNumber SignalState = 3
 kindNumber DeviceServices = 4
 kindNumber VersionInfo = 5
+kindNumber SetPin = 6
+kindNumber PinInfo = 7
 
 unfoldable pub kindInfo : Shown → KindInfo
 kindInfo (shown.Payload k) = record { refusal = noRefusal; kind = kindNumber k }

@@ -6,9 +6,9 @@ use host::Ask;
 use host::HostAnswer;
 use modem::ModemAnswer;
 use modem::ModemStage;
-use modem::NO_DEVICE_SUPPORT;
 use modem::settled_number;
 use protocol::Refusal;
+use protocol::status::NO_DEVICE_SUPPORT;
 ghost use mathlib.Core.Path.{_≡_};
 ghost use Rattle.c_structs.specs.Ends.{eventInfo, hostInfo, askInfo, failedInfo, modemInfo};
 

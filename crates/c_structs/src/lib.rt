@@ -4,6 +4,7 @@ pub mod choices;
 pub mod ends;
 pub mod messages;
 pub mod packets;
+pub mod pins;
 pub mod quality;
 pub mod registrations;
 pub mod services;

@@ -169,6 +169,8 @@ pub fn kind_number(kind: Kind) -> u32
         Kind::SignalState => 3,
         Kind::DeviceServices => 4,
         Kind::VersionInfo => 5,
+        Kind::SetPin => 6,
+        Kind::PinInfo => 7,
     }
 }
 

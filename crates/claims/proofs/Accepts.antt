@@ -1,31 +1,31 @@
 -- The cutter accepts every message that carries a record, and such a message shows the record's payload.
 -- Assumes nothing.
-use mathlib.Core.Path.{_≡_, refl, sym, ap, _∙_}
+use mathlib.Core.Path.{_≡_, refl}
 use mathlib.Core.Logic.{_⊎_, inl, inr}
-use mathlib.Core.Bool.{Bool, true, false, not, cond, _&&_, _||_}
+use mathlib.Core.Bool.{true, false, not}
 use mathlib.Core.List.{List}
 use Prim.Native.Nat.{ℕ, _≤_, _<_, _^_}
 use native.Mathlib.Omega.{arith}
-use borrow.Author.Tests.{le-ltb, eq-eqb, ne-eqb}
-use lib.Dec.{ltb, eqb}
+use borrow.Author.Tests.{le-ltb, ne-eqb, not-false}
+use lib.Dec.{eqb}
 use lib.ListN.{length}
 use Rattle.wire.specs.Numbers.{u32At}
-use Rattle.protocol.specs.Verdict.{Kept, judge, faultIf, firstOf, withRoom}
-use Rattle.protocol.specs.MessageType.{COMMAND-DONE, INDICATE-STATUS, isFragmented}
+use Rattle.protocol.specs.Verdict.{judge, faultIf, firstOf, withRoom}
+use Rattle.protocol.specs.MessageType.{COMMAND, COMMAND-DONE, isFragmented}
 use Rattle.protocol.specs.Service.{basicConnect, extensions, idAt, sameId, among, kindOf as payloadKind}
 use Rattle.protocol.specs.declared.Verdict.{Verdict}
 use Rattle.protocol.specs.declared.Verdict.the-variants.{Fits}
 use Rattle.protocol.specs.declared.service.Kind.{Kind}
-use Rattle.protocol.specs.declared.service.Carried.the-variants as known
+use Rattle.protocol.specs.declared.service.Kind.the-variants as kinds
 use Rattle.protocol.proofs.Verdicts.{kept-fits}
 use Rattle.message.specs.Message.{wrongWord}
 use Rattle.message.specs.declared.MessageHeader.{MessageHeader}
 use Rattle.cutter.specs.Cut.{fragmentsOf, joined, wrongSize, wrongTransaction, messageRules, cutBy, cutAfter, cutOf}
 use Rattle.cutter.specs.declared.Cutting.the-variants.{Fragments}
-use Rattle.payload.specs.Payload.{wayOf, rowOf, shownIn, shownBy, shownOf}
+use Rattle.payload.specs.Payload.{commandWay, doneWay, wayOf, rowOf, shownIn, shownBy, shownOf}
 use Rattle.payload.specs.declared.Shown.the-variants.{Payload}
 use Rattle.exchange.specs.Messages.{OfWidth, headerSeen}
-use Rattle.claims.specs.Transfer.{Record, registerState, packetService, signalState, deviceServices, versionInfo, serviceOf, cidOf, kindOf, Reply, Indication, Carries}
+use Rattle.claims.specs.Transfer.{Record, registerState, packetService, signalState, deviceServices, versionInfo, setPin, pinInfo, serviceOf, cidOf, kindOf, SetCommand, Failure, Answer, WayOf, Carries}
 
 -- ---- the rules of the cutter
 
@@ -33,21 +33,49 @@ size-kept : (size : ℕ) → 64 ≤ size → size ≤ 4096 → wrongSize size �
 unfolding wrongSize
 size-kept size low high = rw (le-ltb size 64 low, le-ltb 4096 size high)
 
-way-kept : (m : MessageHeader) → Reply m ⊎ Indication m
-    → (not (isFragmented (m .«message_type»)) ≡ false) × ((wrongTransaction m ≡ false) × (wrongWord m ≡ false))
+-- what the cutter asks of a header
+abbrev pub HeaderKept : MessageHeader → Type 0
+HeaderKept m = (not (isFragmented (m .«message_type»)) ≡ false) × ((wrongTransaction m ≡ false) × (wrongWord m ≡ false))
+
+-- a COMMAND or a COMMAND_DONE of a transaction
+pub numbered-kept : (m : MessageHeader) → (m .«message_type» ≡ COMMAND) ⊎ (m .«message_type» ≡ COMMAND-DONE) → 0 < m .transaction → wrongWord m ≡ false → HeaderKept m
+unfolding isFragmented wrongTransaction
+numbered-kept m kind numbered word = go kind
+  where
+    n : eqb (m .transaction) 0 ≡ false
+    n = ne-eqb (m .transaction) 0 (λ e. omega (arith, numbered))
+
+    go : (m .«message_type» ≡ COMMAND) ⊎ (m .«message_type» ≡ COMMAND-DONE) → HeaderKept m
+    go (inl e) = (rw e refl, (rw (e, n) refl, word))
+    go (inr e) = (rw e refl, (rw (e, n) refl, word))
+
+-- one of the ways, whatever the record
+abbrev AnyWay : MessageHeader → Type 0
+AnyWay m = SetCommand m ⊎ (Answer m ⊎ Failure m)
+
+any-way : (r : Record) (m : MessageHeader) → WayOf r m → AnyWay m
+unfolding WayOf
+any-way (registerState p x y z) m w = inr (inl w)
+any-way (packetService p) m w = inr (inl w)
+any-way (signalState p es) m w = inr (inl w)
+any-way (deviceServices p) m w = inr (inl w)
+any-way (versionInfo i) m w = inr (inl w)
+any-way (setPin p x y) m w = inl w
+any-way (pinInfo i) m w = inr w
+
+way-kept : (m : MessageHeader) → AnyWay m → HeaderKept m
 unfolding isFragmented wrongTransaction wrongWord
-way-kept m (inl r) =
-    let n : eqb (m .transaction) 0 ≡ false = ne-eqb (m .transaction) 0 (λ e. omega (arith, r .numbered)) in
-    (rw (r .done), (rw (r .done, n), rw (r .done)))
-way-kept m (inr i) = (rw (i .indicates), (rw (i .indicates, i .unnumbered), rw (i .indicates)))
+way-kept m (inl w) = numbered-kept m (inl (w .command)) (w .numbered) (rw (w .command, w .set) refl)
+way-kept m (inr (inl (inl w))) = numbered-kept m (inr (w .done)) (w .numbered) (rw (w .done) refl)
+way-kept m (inr (inl (inr w))) = (rw (w .indicates), (rw (w .indicates, w .unnumbered), rw (w .indicates)))
+way-kept m (inr (inr w)) = numbered-kept m (inr (w .done)) (w .numbered) (rw (w .done) refl)
+
+pub carried-kept : (r : Record) (m : MessageHeader) → Carries r m → HeaderKept m
+carried-kept r m c = way-kept m (any-way r m (c .way))
 
 room-fits : (v : Verdict) (b s : List ℕ) → v ≡ Fits → length b ≤ length s → withRoom v b s ≡ Fits
 unfolding withRoom firstOf faultIf
 room-fits v b s e h = rw (e, le-ltb (length s) (length b) h)
-
--- what the cutter asks of a header
-abbrev pub HeaderKept : MessageHeader → Type 0
-HeaderKept m = (not (isFragmented (m .«message_type»)) ≡ false) × ((wrongTransaction m ≡ false) × (wrongWord m ≡ false))
 
 -- with room for its fragments, the message is accepted
 pub kept-accepted : (m : MessageHeader) (size : ℕ) (information stream : List ℕ) → HeaderKept m → 64 ≤ size → size ≤ 4096 → length information ≤ 4096
@@ -60,50 +88,45 @@ kept-accepted m size information stream k low high few room =
     let f : withRoom (judge rules) (joined (fragmentsOf m size information)) stream ≡ Fits = room-fits (judge rules) (joined (fragmentsOf m size information)) stream fits room in
     rw f
 
-pub accepts : (m : MessageHeader) (size : ℕ) (information stream : List ℕ) → Reply m ⊎ Indication m → 64 ≤ size → size ≤ 4096 → length information ≤ 4096
-    → length (joined (fragmentsOf m size information)) ≤ length stream
-    → cutOf m size information stream .answer ≡ Fragments (length (fragmentsOf m size information)) (length (joined (fragmentsOf m size information)))
-accepts m size information stream w = kept-accepted m size information stream (way-kept m w)
-
 -- ---- the payload that the message shows
 
-known-kind : (r : Record) → payloadKind (serviceOf r) (cidOf r) ≡ known.Payload (kindOf r)
-unfolding payloadKind among sameId idAt u32At basicConnect extensions serviceOf cidOf kindOf
-known-kind (registerState p x y z) = refl
-known-kind (packetService p) = refl
-known-kind (signalState p es) = refl
-known-kind (deviceServices p) = refl
-known-kind (versionInfo i) = refl
+-- on each way the column of a row
+in-set : (m : MessageHeader) (k : Kind) → SetCommand m → shownIn (rowOf k) (wayOf (headerSeen m)) ≡ rowOf k .set
+unfolding wayOf commandWay headerSeen
+in-set m k w = rw (w .command, w .set)
 
--- a good reply and an indication are answers
-answers : (m : MessageHeader) (k : Kind) → Reply m ⊎ Indication m → shownIn (rowOf k) (wayOf (headerSeen m)) ≡ rowOf k .answer
-unfolding wayOf headerSeen
-answers m k (inl w) = rw (w .done, w .success)
-answers m k (inr w) = rw (w .indicates)
+in-answer : (m : MessageHeader) (k : Kind) → Answer m → shownIn (rowOf k) (wayOf (headerSeen m)) ≡ rowOf k .answer
+unfolding wayOf doneWay headerSeen
+in-answer m k (inl w) = rw (w .done, w .success)
+in-answer m k (inr w) = rw (w .indicates)
 
-own-row : (r : Record) → rowOf (kindOf r) .answer ≡ Payload (kindOf r)
-unfolding kindOf
-own-row (registerState p x y z) = refl
-own-row (packetService p) = refl
-own-row (signalState p es) = refl
-own-row (deviceServices p) = refl
-own-row (versionInfo i) = refl
+in-failed : (m : MessageHeader) (k : Kind) → Failure m → shownIn (rowOf k) (wayOf (headerSeen m)) ≡ rowOf k .failed
+unfolding wayOf doneWay headerSeen
+in-failed m k w = rw (w .done, w .failure)
 
-kind-of-carried : (r : Record) (m : MessageHeader) → Carries r m → payloadKind (headerSeen m .service) (headerSeen m .cid) ≡ known.Payload (kindOf r)
+-- the row of its service and CID has its payload on its way
+own-row : (r : Record) (m : MessageHeader) → WayOf r m → shownBy (headerSeen m) (payloadKind (serviceOf r) (cidOf r)) ≡ Payload (kindOf r)
+unfolding WayOf shownBy payloadKind among sameId idAt u32At basicConnect extensions serviceOf cidOf kindOf
+own-row (registerState p x y z) m w = in-answer m kinds.RegisterState w
+own-row (packetService p) m w = in-answer m kinds.PacketService w
+own-row (signalState p es) m w = in-answer m kinds.SignalState w
+own-row (deviceServices p) m w = in-answer m kinds.DeviceServices w
+own-row (versionInfo i) m w = in-answer m kinds.VersionInfo w
+own-row (setPin p x y) m w = in-set m kinds.PinInfo w
+own-row (pinInfo i) m (inl w) = in-answer m kinds.PinInfo w
+own-row (pinInfo i) m (inr w) = in-failed m kinds.PinInfo w
+
+fragmented : (r : Record) (m : MessageHeader) → Carries r m → isFragmented (headerSeen m .«message_type») ≡ true
 unfolding headerSeen
-kind-of-carried r m c = rw (c .service, c .cid) (known-kind r)
+fragmented r m c = not-false (isFragmented (m .«message_type»)) (carried-kept r m c .0)
 
-has-payload : (m : MessageHeader) → Reply m ⊎ Indication m → isFragmented (headerSeen m .«message_type») ≡ true
-unfolding isFragmented headerSeen
-has-payload m (inl w) = rw (w .done)
-has-payload m (inr w) = rw (w .indicates)
+own-kind : (r : Record) (m : MessageHeader) → Carries r m → payloadKind (headerSeen m .service) (headerSeen m .cid) ≡ payloadKind (serviceOf r) (cidOf r)
+unfolding headerSeen
+own-kind r m c = rw (c .service, c .cid)
 
--- the service and the CID are its own, and their row has its payload
 pub shows : (r : Record) (m : MessageHeader) → Carries r m → shownOf (headerSeen m) ≡ Payload (kindOf r)
-unfolding shownOf shownBy
-shows r m c =
-    let k : payloadKind (headerSeen m .service) (headerSeen m .cid) ≡ known.Payload (kindOf r) = kind-of-carried r m c in
-    rw (has-payload m (c .way), k) (answers m (kindOf r) (c .way) ∙ own-row r)
+unfolding shownOf
+shows r m c = rw (fragmented r m c, own-kind r m c) (own-row r m (c .way))
 
 -- ---- the header's numbers are of their width
 
@@ -114,16 +137,20 @@ service-small (packetService p) = (omega arith, (omega arith, (omega arith, (ome
 service-small (signalState p es) = (omega arith, (omega arith, (omega arith, (omega arith, omega arith))))
 service-small (deviceServices p) = (omega arith, (omega arith, (omega arith, (omega arith, omega arith))))
 service-small (versionInfo i) = (omega arith, (omega arith, (omega arith, (omega arith, omega arith))))
+service-small (setPin p x y) = (omega arith, (omega arith, (omega arith, (omega arith, omega arith))))
+service-small (pinInfo i) = (omega arith, (omega arith, (omega arith, (omega arith, omega arith))))
 
-type-small : (m : MessageHeader) → Reply m ⊎ Indication m → m .«message_type» < 2 ^ 32
-type-small m (inl w) = omega (arith, w .done)
-type-small m (inr w) = omega (arith, w .indicates)
+type-small : (m : MessageHeader) → AnyWay m → m .«message_type» < 2 ^ 32
+type-small m (inl w) = omega (arith, w .command)
+type-small m (inr (inl (inl w))) = omega (arith, w .done)
+type-small m (inr (inl (inr w))) = omega (arith, w .indicates)
+type-small m (inr (inr w)) = omega (arith, w .done)
 
 pub width : (r : Record) (m : MessageHeader) → Carries r m → OfWidth m
 width r m c =
     let s = service-small r in
     record {
-      type32 = type-small m (c .way);
+      type32 = type-small m (any-way r m (c .way));
       transaction32 = c .transaction32;
       word0 = rw (c .service) (s .0);
       word1 = rw (c .service) (s .1 .0);

@@ -16,7 +16,6 @@ use Rattle.packet_service.specs.declared.PacketService.{PacketService}
 use Rattle.packet_service.proofs.RoundTrip as packetTrip
 use Rattle.packet_service.proofs.OtherVersion as packetOther
 use Rattle.packet_service.proofs.Laws as packetLaws
-use Rattle.version_info.specs.VersionInfo as version
 use Rattle.version_info.proofs.RoundTrip as versionTrip
 use Rattle.version_info.proofs.Acceptance as versionAccepted
 use Rattle.registration.specs.Registration as registration
@@ -43,10 +42,12 @@ use Rattle.signal_state.proofs.RoundTrip as signalTrip
 use Rattle.signal_state.proofs.OtherVersion as signalOther
 use Rattle.signal_state.proofs.Laws as signalLaws
 use Rattle.signal_state.proofs.Acceptance as signalAccepted
-use Rattle.services_writer.specs.ServicesWriter as services
+use Rattle.pin.proofs.SetPinTrip as setPinTrip
+use Rattle.pin.proofs.SetPinLaws as setPinLaws
+use Rattle.pin.proofs.PinInfoLaws as pinInfoLaws
 use Rattle.services_trip.proofs.RoundTrip as servicesTrip
 use Rattle.device_services.proofs.Acceptance as servicesAccepted
-use Rattle.claims.specs.Transfer.{Record, registerState, packetService, signalState, deviceServices, versionInfo, writeOf, OfWidth, RegisterStateBack, PacketServiceBack, SignalStateBack, ReadsBack}
+use Rattle.claims.specs.Transfer.{Record, registerState, packetService, signalState, deviceServices, versionInfo, setPin, pinInfo, writeOf, OfWidth, RegisterStateBack, PacketServiceBack, SignalStateBack, ReadsBack}
 
 -- ---- the bytes of each payload
 
@@ -99,6 +100,8 @@ reads-back (signalState p es) s out n e v choice =
     rw (written-front d b out n e) (signal-state-back choice p es (s .0) (s .1) (written-fits d b out n e) (p .form) v refl)
 reads-back (deviceServices p) s out n e v choice = servicesTrip.round-trip choice p out n s e
 reads-back (versionInfo i) s out n e v choice = versionTrip.round-trip i out n e
+reads-back (setPin p x y) s out n e v choice = setPinTrip.round-trip choice p x y out n s e
+reads-back (pinInfo i) s out n e v choice = pinInfoLaws.round-trip i out n s e
 
 -- ---- and it is no longer than a message can carry
 
@@ -121,3 +124,7 @@ few (signalState p es) s out n e =
     signal-few (signal.versionOf p) _ (signalAccepted.accepted (signal.versionOf p) byDefault _ p _ (signalTrip.round-trip byDefault p es (s .0) (s .1) out n e) .0)
 few (deviceServices p) s out n e = servicesAccepted.accepted byDefault _ (headOf p) (servicesTrip.round-trip byDefault p out n s e .read) .0 .most
 few (versionInfo i) s out n e = omega (arith, versionAccepted.accepted _ i (versionTrip.round-trip i out n e) .0 .long)
+few (setPin p x y) s out n e =
+    let b = setPinTrip.round-trip byDefault p x y out n s e in
+    setPinLaws.accepted byDefault _ p (b .texts) (b .read) .0 .most
+few (pinInfo i) s out n e = omega (arith, pinInfoLaws.accepted _ i (pinInfoLaws.round-trip i out n s e) .0 .long)

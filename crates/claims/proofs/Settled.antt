@@ -11,14 +11,13 @@ use Rattle.wire.specs.Numbers.{u32At}
 use Rattle.protocol.specs.Service.{idAt, basicConnect, extensions}
 use Rattle.protocol.specs.declared.Version.{Version}
 use Rattle.message.specs.Message.{wrongWord}
-use Rattle.message.specs.declared.MessageHeader.{MessageHeader}
 use Rattle.version_info.specs.VersionInfo.{bytesOf}
 use Rattle.services_query.specs.declared.ListedAnswer.the-variants.{Listed, NotListed}
 use Rattle.services_writer.specs.ServicesWriter.{writeOf}
 use Rattle.pairs.specs.Pair.{byDefault}
 use Rattle.services_trip.proofs.RoundTrip.{round-trip}
 use Rattle.handshake.specs.Versions.{infoOf, larger, lower}
-use Rattle.modem.specs.Modem.{noDeviceSupport}
+use Rattle.protocol.specs.Status.{noDeviceSupport}
 use Rattle.handshake.specs.Commands.{versionCid}
 use Rattle.handshake_claims.specs.Run.{Message, asksServices, asksVersion, replyTo, Passes, listedAs}
 use Rattle.handshake_claims.proofs.Run.{ends-settle}

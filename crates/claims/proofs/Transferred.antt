@@ -1,13 +1,11 @@
--- Every record that its writer accepts is headerSeen whole: cut, fed after anything, shown and read back.
+-- Every record that its writer accepts is received whole: cut, fed after anything, shown and read back.
 -- Assumes nothing.
-use mathlib.Core.List.{List}
-use Prim.Native.Nat.{ℕ}
 use lib.ListN.{length, take}
 use Rattle.cutter.specs.Cut.{fragmentsOf, joined}
 use Rattle.exchange.proofs.Delivered.{delivered}
 use Rattle.exchange.proofs.Sent.{sent, sent-parts}
-use Rattle.claims.specs.Transfer.{writeOf, Transferred, EveryRecord}
-use Rattle.claims.proofs.Accepts.{accepts, shows, width}
+use Rattle.claims.specs.Transfer.{writeOf, EveryRecord}
+use Rattle.claims.proofs.Accepts.{carried-kept, kept-accepted, shows, width}
 use Rattle.claims.proofs.Back.{reads-back, few}
 
 pub every-record : EveryRecord
@@ -15,7 +13,7 @@ every-record r z out n e m c size low high stream room earlier rooms =
     let s = take n (writeOf r out .output) in
     let k = length (fragmentsOf m size s) in
     let l = length (joined (fragmentsOf m size s)) in
-    let a = accepts m size s stream (c .way) low high (few r z out n e) room in
+    let a = kept-accepted m size s stream (carried-kept r m c) low high (few r z out n e) room in
     record {
       count = k;
       long = l;

@@ -1,39 +1,28 @@
 -- Over the wire every message that is sent arrives as it was sent.
 -- Assumes nothing.
-use mathlib.Core.Path.{_≡_, refl, sym, ap, _∙_}
+use mathlib.Core.Path.{_≡_, refl, ap, _∙_}
 use mathlib.Core.Logic.{_⊎_, inl, inr}
-use mathlib.Core.Bool.{Bool, true, false, not}
-use mathlib.Core.List.{List, [], _∷_}
-use Prim.Native.Nat.{ℕ, zero, suc, _-_, _≤_, _<_, _^_}
+use mathlib.Core.Bool.{Bool, false}
+use mathlib.Core.List.{List}
+use Prim.Native.Nat.{ℕ, zero, suc, _-_, _≤_}
 use native.Mathlib.Omega.{arith}
-use borrow.Author.Tests.{le-ltb, ne-eqb}
-use lib.Dec.{eqb}
-use lib.ListN.{length, take}
-use Rattle.protocol.specs.MessageType.{COMMAND, COMMAND-DONE, isFragmented}
-use Rattle.message.specs.Message.{wrongWord}
+use borrow.Author.Tests.{le-ltb}
+use lib.ListN.{length}
+use Rattle.protocol.specs.MessageType.{COMMAND, COMMAND-DONE}
 use Rattle.message.specs.declared.MessageHeader.{MessageHeader}
 use Rattle.assembler.specs.Assembly.{empty, isPending}
 use Rattle.assembler.specs.Run.{Run, runOf}
-use Rattle.cutter.specs.Cut.{fragmentsOf, joined, wrongTransaction, cutOf}
-use Rattle.cutter.specs.declared.Cutting.the-variants.{Fragments}
+use Rattle.cutter.specs.Cut.{fragmentsOf, joined}
 use Rattle.cutter.proofs.Whole.{most-cut}
-use Rattle.exchange.specs.Messages.{headerSeen, parts, pieces, received}
+use Rattle.exchange.specs.Messages.{headerSeen, pieces, received}
 use Rattle.exchange.proofs.Delivered.{fragments-received}
 use Rattle.exchange.proofs.Sent.{sent, sent-parts}
-use Rattle.handshake_claims.specs.Run.{Message, Sent, sends}
-use Rattle.claims.specs.Wire.{Way, Open, partsBy, lastArrived, arrives, Sendable, ArrivesWhole}
-use Rattle.claims.proofs.Accepts.{HeaderKept, kept-accepted}
+use Rattle.handshake_claims.specs.Run.{Message, sends}
+use Rattle.claims.specs.Wire.{partsBy, lastArrived, arrives, Sendable, ArrivesWhole}
+use Rattle.claims.proofs.Accepts.{HeaderKept, numbered-kept, kept-accepted}
 
 header-kept : (m : Message) → Sendable m → HeaderKept (m .header)
-unfolding isFragmented wrongTransaction
-header-kept m s = go (s .kind)
-  where
-    n : eqb (m .header .transaction) 0 ≡ false
-    n = ne-eqb (m .header .transaction) 0 (λ e. omega (arith, s .numbered))
-
-    go : (m .header .«message_type» ≡ COMMAND) ⊎ (m .header .«message_type» ≡ COMMAND-DONE) → HeaderKept (m .header)
-    go (inl e) = (rw e refl, (rw (e, n) refl, s .word))
-    go (inr e) = (rw e refl, (rw (e, n) refl, s .word))
+header-kept m s = numbered-kept (m .header) (s .kind) (s .numbered) (s .word)
 
 -- neither a COMMAND nor a COMMAND_DONE loses its word
 same-header : (h : MessageHeader) → (h .«message_type» ≡ COMMAND) ⊎ (h .«message_type» ≡ COMMAND-DONE) → headerSeen h ≡ h

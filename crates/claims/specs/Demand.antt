@@ -1,4 +1,4 @@
--- Demand 3, one claim: any record is headerSeen whole, and host and modem settle on the one version of the rule or the host refuses.
+-- Demand 3, one claim: any record is received whole, and host and modem settle on the one version of the rule or the host refuses.
 use Rattle.claims.specs.Transfer.{EveryRecord}
 use Rattle.claims.specs.Settle.{BothSettle}
 

@@ -1,5 +1,5 @@
--- Demand 3: any record, in a reply or an indication, cut at any transfer size, fed after whatever came before, completes and reads back at its version;
--- at the other version it shows the same fields or is refused.
+-- Demand 3: any record, in a reply or an indication, and SET_PIN in a set COMMAND, cut at any transfer size, fed after whatever came before, completes
+-- and reads back at its version; at the other version it shows the same fields or is refused.
 -- In this order: the records; the messages that carry them; what is read back; the claim. Proved in proofs/Transferred.
 use Prim.Native.Nat.{ℕ, _-_, _≤_, _<_, _^_}
 use mathlib.Core.Path.{_≡_}
@@ -8,7 +8,8 @@ use mathlib.Core.List.{List, _++_}
 use lib.ListN.{length, take}
 use Rattle.protocol.specs.Refusal.{refusal, tooShort, wrongLength}
 use Rattle.protocol.specs.Verdict.{Writing}
-use Rattle.protocol.specs.MessageType.{COMMAND-DONE, INDICATE-STATUS}
+use Rattle.protocol.specs.MessageType.{COMMAND, COMMAND-DONE, INDICATE-STATUS, SET}
+use Rattle.protocol.specs.Status as status
 use Rattle.protocol.specs.Service.{basicConnect, extensions, idAt}
 use Rattle.protocol.specs.declared.Version.{Version}
 use Rattle.protocol.specs.declared.Version.the-variants.{V1, V2}
@@ -37,6 +38,13 @@ use Rattle.signal_state.specs.Claims.{OfWidth as SignalOfWidth}
 use Rattle.signal_state.specs.declared.RsrpSnr.{RsrpSnr}
 use Rattle.signal_state.specs.declared.SignalState.{SignalState}
 use Rattle.signal_state.specs.declared.SignalStateRead.the-variants as signalRead
+use Rattle.pin.specs.SetPin.{writeOf as writeSetPin}
+use Rattle.pin.specs.SetPinClaims.{Returned as SetPinReturned, OfWidth as SetPinOfWidth}
+use Rattle.pin.specs.declared.set_pin.SetPin.{SetPin}
+use Rattle.pin.specs.PinInfo.{readOf as readPinInfo, writeOf as writePinInfo}
+use Rattle.pin.specs.PinInfoClaims.{OfWidth as PinInfoOfWidth}
+use Rattle.pin.specs.declared.pin_info.PinInfo.{PinInfo}
+use Rattle.pin.specs.declared.pin_info.PinInfoRead.the-variants as pinInfoRead
 use Rattle.services_writer.specs.ServicesWriter as services
 use Rattle.services_writer.specs.declared.ServiceList.{ServiceList}
 use Rattle.services_trip.specs.ServicesTrip.{Returned as ServicesReturned, OfWidth as ServicesOfWidth}
@@ -50,7 +58,7 @@ use Rattle.payload.specs.declared.Shown.the-variants.{Payload}
 use Rattle.exchange.specs.Messages.{headerSeen, parts, pieces, received}
 use Rattle.exchange.specs.Delivery.{thenRun}
 
--- ---- the records: one of the five payloads, in either form, with its texts or its entries
+-- ---- the records: one of the seven payloads, in either form where it has two, with its texts or its entries
 
 pub data Record : Type 0 where
   registerState : Registration → List ℕ → List ℕ → List ℕ → Record
@@ -58,6 +66,8 @@ pub data Record : Type 0 where
   signalState : SignalState → List RsrpSnr → Record
   deviceServices : ServiceList → Record
   versionInfo : VersionInfo → Record
+  setPin : SetPin → List ℕ → List ℕ → Record
+  pinInfo : PinInfo → Record
 
 -- what the payload's writer does with an output
 unfoldable pub writeOf : Record → List ℕ → Writing
@@ -66,6 +76,8 @@ writeOf (packetService p) s = packet.writeOf p s
 writeOf (signalState p es) s = signal.writeOf p es s
 writeOf (deviceServices p) s = services.writeOf p s
 writeOf (versionInfo i) s = version.writeOf i s
+writeOf (setPin p x y) s = writeSetPin p x y s
+writeOf (pinInfo i) s = writePinInfo i s
 
 -- each number is of its width, as in every value of the code's types
 unfoldable pub OfWidth : Record → Type 0
@@ -74,8 +86,10 @@ OfWidth (packetService p) = PacketOfWidth p
 OfWidth (signalState p es) = SignalOfWidth p × EntriesOfWidth es
 OfWidth (deviceServices p) = ServicesOfWidth p
 OfWidth (versionInfo i) = Unit
+OfWidth (setPin p x y) = SetPinOfWidth p
+OfWidth (pinInfo i) = PinInfoOfWidth i
 
--- ---- the messages that carry a record: its own service and CID, in a DONE of status 0 or an indication, with a permitted transaction
+-- ---- the messages that carry a record: its own service and CID, on a way that shows it, with a permitted transaction
 
 unfoldable pub serviceOf : Record → ServiceId
 serviceOf (registerState p x y z) = idAt basicConnect 0
@@ -83,6 +97,8 @@ serviceOf (packetService p) = idAt basicConnect 0
 serviceOf (signalState p es) = idAt basicConnect 0
 serviceOf (deviceServices p) = idAt basicConnect 0
 serviceOf (versionInfo i) = idAt extensions 0
+serviceOf (setPin p x y) = idAt basicConnect 0
+serviceOf (pinInfo i) = idAt basicConnect 0
 
 unfoldable pub cidOf : Record → ℕ
 cidOf (registerState p x y z) = 9
@@ -90,6 +106,8 @@ cidOf (packetService p) = 10
 cidOf (signalState p es) = 11
 cidOf (deviceServices p) = 16
 cidOf (versionInfo i) = 15
+cidOf (setPin p x y) = 4
+cidOf (pinInfo i) = 4
 
 unfoldable pub kindOf : Record → Kind
 kindOf (registerState p x y z) = kinds.RegisterState
@@ -97,20 +115,48 @@ kindOf (packetService p) = kinds.PacketService
 kindOf (signalState p es) = kinds.SignalState
 kindOf (deviceServices p) = kinds.DeviceServices
 kindOf (versionInfo i) = kinds.VersionInfo
+kindOf (setPin p x y) = kinds.SetPin
+kindOf (pinInfo i) = kinds.PinInfo
 
+-- a set COMMAND
+pub record SetCommand (m : MessageHeader) : Type 0 where
+  pub command : m .«message_type» ≡ COMMAND
+  pub set : m .word ≡ SET
+  pub numbered : 0 < m .transaction
+
+-- a DONE of status 0
 pub record Reply (m : MessageHeader) : Type 0 where
   pub done : m .«message_type» ≡ COMMAND-DONE
-  pub success : m .word ≡ 0
+  pub success : m .word ≡ status.success
+  pub numbered : 0 < m .transaction
+
+-- a DONE of status 2
+pub record Failure (m : MessageHeader) : Type 0 where
+  pub done : m .«message_type» ≡ COMMAND-DONE
+  pub failure : m .word ≡ status.failure
   pub numbered : 0 < m .transaction
 
 pub record Indication (m : MessageHeader) : Type 0 where
   pub indicates : m .«message_type» ≡ INDICATE-STATUS
   pub unnumbered : m .transaction ≡ 0
 
+abbrev pub Answer : MessageHeader → Type 0
+Answer m = Reply m ⊎ Indication m
+
+-- "on CID 4 .. a set COMMAND and a DONE of status 2 show their payload" (02, order 2): SET_PIN the one, PIN_INFO the other
+unfoldable pub WayOf : Record → MessageHeader → Type 0
+WayOf (registerState p x y z) m = Answer m
+WayOf (packetService p) m = Answer m
+WayOf (signalState p es) m = Answer m
+WayOf (deviceServices p) m = Answer m
+WayOf (versionInfo i) m = Answer m
+WayOf (setPin p x y) m = SetCommand m
+WayOf (pinInfo i) m = Answer m ⊎ Failure m
+
 pub record Carries (r : Record) (m : MessageHeader) : Type 0 where
   pub service : m .service ≡ serviceOf r
   pub cid : m .cid ≡ cidOf r
-  pub way : Reply m ⊎ Indication m
+  pub way : WayOf r m
   pub transaction32 : m .transaction < 2 ^ 32
   pub word32 : m .word < 2 ^ 32
 
@@ -140,13 +186,15 @@ SignalStateBack V2 V2 choice p es s = signal.readWith V2 choice s ≡ record { a
 SignalStateBack V2 V1 choice p es s = signal.readWith V1 choice s ≡ signal.refused (refusal wrongLength (length s))
 SignalStateBack V1 V2 choice p es s = signal.readWith V2 choice s ≡ signal.refused (refusal tooShort 20)
 
--- VERSION and DEVICE_SERVICES have one form at both versions; a payload without pairs is read without a choice
+-- DEVICE_SERVICES, VERSION, SET_PIN and PIN_INFO have one form at both versions; a payload without pairs is read without a choice
 unfoldable pub ReadsBack : Record → Version → ZeroSize → List ℕ → Type 0
 ReadsBack (registerState p x y z) v choice s = RegisterStateBack (registration.versionOf p) v choice p x y z s
 ReadsBack (packetService p) v choice s = PacketServiceBack (packet.versionOf p) v p s
 ReadsBack (signalState p es) v choice s = SignalStateBack (signal.versionOf p) v choice p es s
 ReadsBack (deviceServices p) v choice s = ServicesReturned choice p s
 ReadsBack (versionInfo i) v choice s = version.readOf s ≡ versionRead.Info i
+ReadsBack (setPin p x y) v choice s = SetPinReturned choice p x y s
+ReadsBack (pinInfo i) v choice s = readPinInfo s ≡ pinInfoRead.Info i
 
 -- ---- the claim
 

@@ -3,3 +3,4 @@ pub mod Registrations
 pub mod Signals
 pub mod Services
 pub mod Modems
+pub mod Pins

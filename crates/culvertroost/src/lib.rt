@@ -5,6 +5,7 @@ pub mod hosts;
 pub mod messages;
 pub mod modems;
 pub mod packets;
+pub mod pins;
 pub mod quality;
 pub mod registrations;
 pub mod services;

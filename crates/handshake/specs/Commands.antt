@@ -26,6 +26,8 @@ roleOfKind kind.PacketService = role.Other
 roleOfKind kind.SignalState = role.Other
 roleOfKind kind.DeviceServices = role.Services
 roleOfKind kind.VersionInfo = role.Version
+roleOfKind kind.SetPin = role.Other
+roleOfKind kind.PinInfo = role.Other
 
 unfoldable pub roleOf : Carried → Role
 roleOf (carried.Payload k) = roleOfKind k

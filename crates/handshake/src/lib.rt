@@ -59,6 +59,8 @@ fn role_of_kind(kind: Kind) -> Role
         Kind::SignalState => Role::Other,
         Kind::DeviceServices => Role::Services,
         Kind::VersionInfo => Role::Version,
+        Kind::SetPin => Role::Other,
+        Kind::PinInfo => Role::Other,
     }
 }
 

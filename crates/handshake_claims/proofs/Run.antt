@@ -27,7 +27,8 @@ use Rattle.handshake.specs.Versions.{numberOf, numberVerdict, versionOf, infoOf
 use Rattle.message.specs.declared.MessageHeader.{MessageHeader}
 use Rattle.handshake.specs.Commands.{servicesCid, versionCid, roleOfKind, roleOf, versionListed}
 use Rattle.host.specs.Host.{end, unchanged, settledAt, madeOf, openedOf, askOf, listRules, listAt, answeredAt, answeredBy, servicesReplyOf, versionReplyOf, replyRole, receiveBy, receiveOf}
-use Rattle.modem.specs.Modem.{noDeviceSupport, end as modemEnd, madeRules, madeOf as modemMadeOf, startOf, servedAs, servicesOf, gave, giveOf, answerBy, canAnswer, versionOfCommand, otherAt, commandBy, commandOf, commandRules, receiveBy as commandedBy, receiveOf as modemReceives}
+use Rattle.protocol.specs.Status.{noDeviceSupport}
+use Rattle.modem.specs.Modem.{end as modemEnd, madeRules, madeOf as modemMadeOf, startOf, servedAs, servicesOf, gave, giveOf, answerBy, canAnswer, versionOfCommand, otherAt, commandBy, commandOf, commandRules, receiveBy as commandedBy, receiveOf as modemReceives}
 use Rattle.handshake_claims.specs.Run.{Message, headed, asksServices, asksVersion, sends, replyTo, replyBy, Line, reaches, Passes, both, afterReply, answered, taken, commandOver, Rooms, turn, run, expected, Outcome, listedAs, OtherCommand, Ready}
 use Rattle.host.specs.declared.HostStage.{HostStage}
 use Rattle.host.specs.declared.HostStage.the-variants as host

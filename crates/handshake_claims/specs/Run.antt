@@ -8,7 +8,7 @@ use mathlib.Core.Bool.{Bool, false, not, cond, _&&_}
 use mathlib.Core.List.{List, []}
 use lib.ListN.{length, take}
 use Rattle.protocol.specs.Refusal.{refusal, aboveHost, versionNotListed}
-use Rattle.protocol.specs.MessageType.{COMMAND, COMMAND-DONE}
+use Rattle.protocol.specs.MessageType.{COMMAND, COMMAND-DONE, QUERY}
 use Rattle.protocol.specs.Service.{idAt, basicConnect, extensions, kindOf}
 use Rattle.protocol.specs.declared.Version.{Version}
 use Rattle.protocol.specs.declared.Version.the-variants.{V1}
@@ -20,7 +20,8 @@ use Rattle.message.specs.declared.MessageHeader.{MessageHeader}
 use Rattle.handshake.specs.Versions.{infoOf, larger, lower, above, isLater}
 use Rattle.handshake.specs.Commands.{servicesCid, versionCid, roleOf, versionListed}
 use Rattle.host.specs.Host.{end, unchanged, Asking, askOf, receiveOf}
-use Rattle.modem.specs.Modem.{Commanding, noDeviceSupport, queryType, receiveOf as modemReceives}
+use Rattle.protocol.specs.Status.{noDeviceSupport}
+use Rattle.modem.specs.Modem.{Commanding, receiveOf as modemReceives}
 use Rattle.handshake.specs.declared.Role.the-variants as role
 use Rattle.host.specs.declared.HostStage.the-variants as stage
 use Rattle.host.specs.declared.Host.{Host}
@@ -45,7 +46,7 @@ headed type transaction service cid word = record { «message_type» = type; tra
 
 -- a COMMAND that queries
 abbrev pub query : ℕ → ServiceId → ℕ → List ℕ → Message
-query transaction service cid s = record { header = headed COMMAND transaction service cid queryType; information = s }
+query transaction service cid s = record { header = headed COMMAND transaction service cid QUERY; information = s }
 
 -- DEVICE_SERVICES, and VERSION with the payload of a version
 abbrev pub asksServices : ℕ → Message

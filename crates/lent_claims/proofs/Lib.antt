@@ -9,3 +9,5 @@ pub mod HostReached
 pub mod HostTaken
 pub mod ModemReached
 pub mod ModemTaken
+pub mod PinsTaken
+pub mod PinModemServes

@@ -70,7 +70,7 @@ fields x t =
       behind a t₁ 6 ∙ behind b t₂ 4 ∙ behind d t₃ 2 ∙ behind e t₄ 0 ∙ first f t (stage-small (x .stage) .1),
     )
 
-flag-kept : (b : Bool) → (ltb 1 (flagNumber b) ≡ false) × (not (eqb (flagNumber b) 0) ≡ b)
+pub flag-kept : (b : Bool) → (ltb 1 (flagNumber b) ≡ false) × (not (eqb (flagNumber b) 0) ≡ b)
 flag-kept true = (refl, refl)
 flag-kept false = (refl, refl)
 
@@ -187,7 +187,7 @@ taken-front m x b t =
 
 -- ---- taken exactly where calls reach
 
-one-sound : (x : Modem) (c : ModemCall) → ModemSound x → ModemSound (modemCall x c .after)
+pub one-sound : (x : Modem) (c : ModemCall) → ModemSound x → ModemSound (modemCall x c .after)
 unfolding modemCall modemAfter
 one-sound x modem-opens k = (k .0, tt)
 one-sound x modem-closes k = (k .0, tt)
@@ -205,11 +205,11 @@ modem-taken-exactly m b x = (
 
 -- ---- memory serves
 
-abbrev Holds : List ℕ → Modem → Type 0
+abbrev pub Holds : List ℕ → Modem → Type 0
 Holds m x = (modemSize ≤ length m) × ModemSound x × ModemTakes m x
 
 -- an end put back at the front of the memory
-kept-holds : (m : List ℕ) (x : Modem) → modemSize ≤ length m → ModemSound x → Holds (sets m 0 (modemBytes x)) x
+pub kept-holds : (m : List ℕ) (x : Modem) → modemSize ≤ length m → ModemSound x → Holds (sets m 0 (modemBytes x)) x
 kept-holds m x room k = (rw (length-sets m 0 (modemBytes x)) room, k, modem-held x m k room)
 
 one-holds : (m : List ℕ) (x : Modem) (c : ModemCall) → Holds m x → (modemCallIn m c .answer ≡ modemCall x c .answer) × Holds (modemCallIn m c .after) (modemCall x c .after)
@@ -218,7 +218,7 @@ one-holds m x modem-opens H = rw (H .2 .0, H .2 .1) (refl, kept-holds m (startOf
 one-holds m x modem-closes H = rw (H .2 .0, H .2 .1) (refl, kept-holds m (startOf x) (H .0) (H .1 .0, tt))
 one-holds m x (modem-receives h s out) H = rw (H .2 .0, H .2 .1) (refl, kept-holds m (receiveOf x h s out .step .modem) (H .0) (one-sound x (modem-receives h s out) (H .1)))
 
-made-holds : (m : List ℕ) → modemSize ≤ length m → (native advertised : ℕ) (services : List ℕ) (x : Modem) → madeOf native advertised services ≡ made.Made x
+pub made-holds : (m : List ℕ) → modemSize ≤ length m → (native advertised : ℕ) (services : List ℕ) (x : Modem) → madeOf native advertised services ≡ made.Made x
     → Holds (makeIn m native advertised services .memory) x
 unfolding makeIn
 made-holds m room native advertised services x e =

@@ -1,14 +1,13 @@
--- Memory that holds an end serves any run: told by one call, said once for host and modem.
+-- Memory that holds an end serves any run: told by one call, said once for every end and every memory.
 -- Assumes nothing.
 use mathlib.Core.Path.{_≡_, refl}
 use mathlib.Core.List.{List, [], _∷_}
-use Prim.Native.Nat.{ℕ}
 use Rattle.lent_claims.specs.Turns.{Turn, run}
 
 -- each call is answered as by value and leaves memory that holds the end left
-module _ {E C A : Type 0} (call : E → C → Turn E A) (callIn : List ℕ → C → Turn (List ℕ) A) (Holds : List ℕ → E → Type 0)
-    (one : (m : List ℕ) (e : E) (c : C) → Holds m e → (callIn m c .answer ≡ call e c .answer) × Holds (callIn m c .after) (call e c .after)) where
-  pub run-holds : (m : List ℕ) (e : E) (cs : List C) → Holds m e → (run callIn m cs .answers ≡ run call e cs .answers) × Holds (run callIn m cs .end) (run call e cs .end)
+module _ {M E C A : Type 0} (call : E → C → Turn E A) (callIn : M → C → Turn M A) (Holds : M → E → Type 0)
+    (one : (m : M) (e : E) (c : C) → Holds m e → (callIn m c .answer ≡ call e c .answer) × Holds (callIn m c .after) (call e c .after)) where
+  pub run-holds : (m : M) (e : E) (cs : List C) → Holds m e → (run callIn m cs .answers ≡ run call e cs .answers) × Holds (run callIn m cs .end) (run call e cs .end)
   unfolding run
   run-holds m e [] H = (refl, H)
   run-holds m e (c ∷ cs) H =

@@ -3,3 +3,4 @@ pub mod Turns
 pub mod AssemblyMemory
 pub mod HostMemory
 pub mod ModemMemory
+pub mod PinMemory

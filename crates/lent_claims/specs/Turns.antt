@@ -1,4 +1,4 @@
--- An end in lent memory beside the same end by value, said once for host and modem.
+-- An end in lent memory beside the same end by value, said once for host, modem and a modem with a table of PINs.
 -- In this order: a run of calls; the ends that calls reach; which memory is taken; how memory serves.
 use Prim.Native.Nat.{ℕ}
 use mathlib.Core.Path.{_≡_}
@@ -44,6 +44,6 @@ TakenExactly {E} Takes Reach size bytesOf =
 
 -- ---- memory serves: each call is answered as by value, and the memory is taken as the end that the run by value leaves
 
-pub record Serves {E C A : Type 0} (call : E → C → Turn E A) (callIn : List ℕ → C → Turn (List ℕ) A) (Takes : List ℕ → E → Type 0) (e : E) (m : List ℕ) (cs : List C) : Type 0 where
+pub record Serves {M E C A : Type 0} (call : E → C → Turn E A) (callIn : M → C → Turn M A) (Takes : M → E → Type 0) (e : E) (m : M) (cs : List C) : Type 0 where
   pub answers : run callIn m cs .answers ≡ run call e cs .answers
   pub held : Takes (run callIn m cs .end) (run call e cs .end)

@@ -51,7 +51,7 @@ const LISTED: u16 = 1;
 const SETTLED: u16 = 2;
 
 // What the memory holds.
-enum ModemHeld {
+pub enum ModemHeld {
     Held(Modem),
     Refused(Refusal),
 }
@@ -110,7 +110,8 @@ pub fn receive(
     }
 }
 
-fn modem_at(memory: &[u8]) -> ModemHeld
+// The end in the memory.
+pub fn modem_at(memory: &[u8]) -> ModemHeld
     ensures { λ r. ⌜ r ≡ modemIn (now (memory .entry)) ⌝ }
 {
     match judge_modem(memory) {
@@ -160,7 +161,7 @@ fn store(memory: &mut [u8], modem: Modem) -> Verdict
 }
 
 // Puts the end at the front of the memory.
-fn put_modem(memory: &mut [u8], modem: Modem)
+pub fn put_modem(memory: &mut [u8], modem: Modem)
     ensures { λ _. ⌜ now (memory .exit) ≡ sets (now (memory .entry)) 0 (modemBytes modem) ⌝ }
 {
     let native = modem.native;

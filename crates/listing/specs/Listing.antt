@@ -11,15 +11,19 @@ use Rattle.pairs.specs.declared.ZeroSize.the-variants.{Strict}
 use Rattle.registration.specs.Registration.{readWith as registrationRead}
 use Rattle.signal_state.specs.SignalState.{readWith as signalRead}
 use Rattle.device_services.specs.DeviceServices.{readWith as servicesRead}
+use Rattle.pin.specs.SetPin.{readWith as setPinRead}
+use Rattle.pin.specs.PinInfo.{readOf as pinInfoRead}
 use Rattle.rows.specs.Rows.{row}
 use Rattle.payload_rows.specs.Packets.{packetText}
 use Rattle.payload_rows.specs.Versions.{versionText}
 use Rattle.payload_rows.specs.Registrations.{registrationText}
+use Rattle.payload_rows.specs.SetPins.{setPinText}
+use Rattle.payload_rows.specs.PinInfos.{pinInfoText}
 use Rattle.entry_rows.specs.Signals.{signalText}
 use Rattle.entry_rows.specs.Services.{servicesText}
 use Rattle.request_line.specs.Request.{requestOf}
 use Rattle.request_line.specs.declared.ListingKind.{ListingKind}
-use Rattle.request_line.specs.declared.ListingKind.the-variants.{PacketService as PacketKind, Version as VersionKind, Registration as RegistrationKind, SignalState as SignalKind, DeviceServices as ServicesKind}
+use Rattle.request_line.specs.declared.ListingKind.the-variants.{PacketService as PacketKind, Version as VersionKind, Registration as RegistrationKind, SignalState as SignalKind, DeviceServices as ServicesKind, SetPin as SetPinKind, PinInfo as PinInfoKind}
 use Rattle.request_line.specs.declared.Request.{Request}
 use Rattle.request_line.specs.declared.Request.the-variants.{Payload, BadLine}
 use mathlib.Core.Path.{_≡_}
@@ -30,6 +34,8 @@ payloadText VersionKind version s = versionText (versionRead s)
 payloadText RegistrationKind version s = registrationText s (registrationRead version Strict s)
 payloadText SignalKind version s = signalText (signalRead version Strict s)
 payloadText ServicesKind version s = servicesText s (servicesRead Strict s)
+payloadText SetPinKind version s = setPinText s (setPinRead Strict s)
+payloadText PinInfoKind version s = pinInfoText (pinInfoRead s)
 
 -- the payload that n digits of a line spell, from a place of it on
 unfoldable pub spelledText : List ℕ → ListingKind → Version → ℕ → ℕ → List ℕ

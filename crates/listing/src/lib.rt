@@ -6,7 +6,9 @@ use ascii::unhex;
 use entry_rows::services_rows;
 use entry_rows::signal_rows;
 use payload_rows::packet_rows;
+use payload_rows::pin_info_rows;
 use payload_rows::registration_rows;
+use payload_rows::set_pin_rows;
 use payload_rows::version_rows;
 use protocol::Version;
 use request_line::ListingKind;
@@ -88,5 +90,7 @@ fn put_payload(
         ListingKind::Registration => registration_rows::put(version, payload, out, at),
         ListingKind::SignalState => signal_rows::put(version, payload, out, at),
         ListingKind::DeviceServices => services_rows::put(payload, out, at),
+        ListingKind::SetPin => set_pin_rows::put(payload, out, at),
+        ListingKind::PinInfo => pin_info_rows::put(payload, out, at),
     }
 }

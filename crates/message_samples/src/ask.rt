@@ -3,22 +3,28 @@ use crate::hosts::with_host;
 use crate::messages::about_message;
 use crate::modems::with_modem;
 use crate::pieces::with_assembly;
+use crate::pins::receive;
+use crate::pins::with_pins;
 use sample_lines::answers::Asked;
 use sample_lines::answers::least;
 use sample_lines::answers::no_question;
 use sample_lines::answers::word_at;
+use wire::put_bytes;
+use wire::put_run;
 
-// Where the host's memory and the modem's begin in the state.
+// Where the memory of the host, the modem and the table of PINs begins in the state.
 const ASSEMBLY_SIZE: usize = 4144;
 
 const HOST_END: usize = 4150;
+
+const MODEM_END: usize = 4160;
 
 // The first argument is the input's length.
 pub fn ask(
     question: u8,
     arguments: &[u8; 16640],
     bytes: &[u8; 16640],
-    state: &mut [u8; 4160],
+    state: &mut [u8; 4908],
     out: &mut [u8; 16640],
 ) -> Asked {
     let numbers = &arguments[..];
@@ -39,6 +45,8 @@ fn ask_lent(
         16 | 17 | 18 => with_assembly(question, arguments, input, state, out),
         22 | 23 | 24 | 25 | 26 | 31 => host_of(question, arguments, input, state, out),
         27 | 28 | 29 | 30 | 32 => modem_of(question, arguments, input, state, out),
+        47 | 48 | 50 => pins_of(question, arguments, input, state, out),
+        49 => modem_and_pins_of(arguments, input, state, out),
         _ => no_question(),
     }
 }
@@ -69,8 +77,39 @@ fn modem_of(
     state: &mut [u8],
     out: &mut [u8],
 ) -> Asked {
-    if state.len() < HOST_END {
+    if state.len() < MODEM_END {
         return no_question();
     }
-    with_modem(question, arguments, input, &mut state[HOST_END..], out)
+    with_modem(
+        question,
+        arguments,
+        input,
+        &mut state[HOST_END..MODEM_END],
+        out,
+    )
+}
+
+fn pins_of(
+    question: u8,
+    arguments: &[u8],
+    input: &[u8],
+    state: &mut [u8],
+    out: &mut [u8],
+) -> Asked {
+    if state.len() < MODEM_END {
+        return no_question();
+    }
+    with_pins(question, arguments, input, &mut state[MODEM_END..], out)
+}
+
+// Two parts of the state can't be lent at once: the modem's goes through a block of its own.
+fn modem_and_pins_of(arguments: &[u8], input: &[u8], state: &mut [u8], out: &mut [u8]) -> Asked {
+    if state.len() < MODEM_END {
+        return no_question();
+    }
+    let mut modem = [0u8; 10];
+    put_run(&mut modem, 0, &state[HOST_END..MODEM_END], 10);
+    let asked = receive(arguments, input, &mut modem, &mut state[MODEM_END..], out);
+    put_bytes(state, HOST_END, &modem);
+    asked
 }

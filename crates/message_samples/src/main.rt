@@ -1,13 +1,14 @@
 // Asks the library each question about messages and both ends that stands in the sample lines on
 // standard input, and prints which of its answers are not those of the line (docs/samples.md). What
-// stays from line to line is the memory of the assembly, of the host and of the modem, one after
-// another.
+// stays from line to line is the memory of the assembly, of the host, of the modem and of the table of
+// PINs, one after another.
 mod ask;
 mod hosts;
 mod judge;
 mod messages;
 mod modems;
 mod pieces;
+mod pins;
 
 use judge::is_right;
 use libc::STDIN_FILENO;
@@ -27,7 +28,7 @@ fn read_lines(bytes: &mut [u8; 1048576]) {
 }
 
 fn ask_lines(text: &[u8]) {
-    let mut state = [0u8; 4160];
+    let mut state = [0u8; 4908];
     let mut lines: usize = 0;
     let mut differing: usize = 0;
     let mut from: usize = 0;

@@ -33,7 +33,7 @@ pub fn with_modem(
     }
 }
 
-fn done(refusal: Refusal) -> Asked {
+pub fn done(refusal: Refusal) -> Asked {
     plain(few(refusal.number, refusal.place, 0, 0, 0))
 }
 
@@ -54,7 +54,7 @@ fn receive(arguments: &[u8], input: &[u8], modem: &mut [u8], out: &mut [u8]) -> 
     taken(answer)
 }
 
-fn taken(answer: ModemInfo) -> Asked {
+pub fn taken(answer: ModemInfo) -> Asked {
     let refusal = answer.refusal;
     let length = answer.length;
     let numbers = [

@@ -7,7 +7,8 @@ use mathlib.Core.List.{List, [], _∷_}
 use lib.Dec.{eqb, ltb}
 use Rattle.protocol.specs.Refusal.{wrongVersion, unknown, outsideTable}
 use Rattle.protocol.specs.Verdict.{Rule, rule, judge, Writing}
-use Rattle.protocol.specs.MessageType.{COMMAND}
+use Rattle.protocol.specs.MessageType.{COMMAND, QUERY}
+use Rattle.protocol.specs.Status.{noDeviceSupport}
 use Rattle.protocol.specs.Service.{kindOf}
 use Rattle.protocol.specs.declared.Verdict.{Verdict}
 use Rattle.protocol.specs.declared.Verdict.the-variants.{Fits, Fault}
@@ -79,14 +80,6 @@ settledNumber (Settled v) = numberOf v
 
 -- ---- answers
 
--- the status of a command that is not supported now
-abbrev pub noDeviceSupport : ℕ
-noDeviceSupport = 9
-
--- the command type of a query
-abbrev pub queryType : ℕ
-queryType = 0
-
 abbrev pub step : Modem → ModemAnswer → ModemStep
 step m a = record { modem = m; answer = a }
 
@@ -147,7 +140,7 @@ isListed (Settled v) = false
 
 -- status 9 meets "a VERSION not listed, sent as a set, with a refused payload, or after settling", and one before the list
 unfoldable pub canAnswer : Modem → ℕ → Bool
-canAnswer m type = isListed (m .stage) && (m .«lists_version» && eqb type queryType)
+canAnswer m type = isListed (m .stage) && (m .«lists_version» && eqb type QUERY)
 
 unfoldable pub versionOfCommand : Modem → ℕ → List ℕ → List ℕ → Commanding
 versionOfCommand m type s out = cond (canAnswer m type) (answerBy m (readOf s) out) (plain (failed m) out)

@@ -19,12 +19,14 @@ use protocol::Written;
 use protocol::also;
 use protocol::first;
 use protocol::message_type::COMMAND;
+use protocol::message_type::QUERY;
 use protocol::service::Carried;
 use protocol::service::Kind;
 use protocol::service::ServiceId;
 use protocol::service::VERSION;
 use protocol::service::extensions_id;
 use protocol::service::kind_of;
+use protocol::status::NO_DEVICE_SUPPORT;
 use services_query::ListedAnswer;
 use services_query::is_listed;
 use version_info::VersionInfoRead;
@@ -75,12 +77,6 @@ pub struct ModemStep {
     pub modem: Modem,
     pub answer: ModemAnswer,
 }
-
-// The status of a command that is not supported now.
-pub const NO_DEVICE_SUPPORT: u32 = 9;
-
-// The command type of a query; a set has another.
-pub const QUERY: u32 = 0;
 
 // A modem at its start, from the numbers of its native and its advertised version and the list of
 // services that it serves.

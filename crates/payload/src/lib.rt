@@ -5,13 +5,16 @@ use protocol::Refusal;
 use protocol::UNKNOWN;
 use protocol::message_type::COMMAND;
 use protocol::message_type::COMMAND_DONE;
+use protocol::message_type::SET;
 use protocol::message_type::is_fragmented;
 use protocol::service::Carried;
 use protocol::service::Kind;
 use protocol::service::kind_of;
+use protocol::status::FAILURE;
+use protocol::status::SUCCESS;
 ghost use mathlib.Core.Path.{_≡_};
 ghost use Rattle.protocol.specs.Service.{kindOf};
-ghost use Rattle.payload.specs.Payload.{wayOf, rowOf, shownIn, shownBy, shownOf};
+ghost use Rattle.payload.specs.Payload.{commandWay, doneWay, wayOf, rowOf, shownIn, shownBy, shownOf};
 
 // What a message shows: a payload of some kind, none, or the refusal of its type, service or CID.
 pub enum Shown {
@@ -20,11 +23,14 @@ pub enum Shown {
     Refused(Refusal),
 }
 
-// Which way a message goes: an answer is a DONE of status 0 or an indication.
+// Which way a message goes: an answer is a DONE of status 0 or an indication, a failed one a DONE of
+// status 2. A query is any COMMAND that is no set.
 enum Way {
-    Command,
+    Query,
+    Set,
     Answer,
     Failed,
+    Other,
 }
 
 pub fn payload_of(message: MessageHeader) -> Shown
@@ -54,30 +60,50 @@ fn way_of(message: MessageHeader) -> Way
     ensures { λ r. ⌜ r ≡ wayOf message ⌝ }
 {
     if message.message_type == COMMAND {
-        return Way::Command;
+        return command_way(message.word);
     }
-    if message.message_type != COMMAND_DONE {
-        return Way::Answer;
-    }
-    if message.word != 0 {
-        return Way::Failed;
+    if message.message_type == COMMAND_DONE {
+        return done_way(message.word);
     }
     Way::Answer
+}
+
+fn command_way(command_type: u32) -> Way
+    ensures { λ r. ⌜ r ≡ commandWay «command_type» ⌝ }
+{
+    if command_type == SET {
+        return Way::Set;
+    }
+    Way::Query
+}
+
+fn done_way(status: u32) -> Way
+    ensures { λ r. ⌜ r ≡ doneWay status ⌝ }
+{
+    if status == SUCCESS {
+        return Way::Answer;
+    }
+    if status == FAILURE {
+        return Way::Failed;
+    }
+    Way::Other
 }
 
 fn shown_on(way: Way, kind: Kind) -> Shown
     ensures { λ r. ⌜ r ≡ shownIn (rowOf kind) way ⌝ }
 {
     match way {
-        Way::Command => in_command(kind),
+        Way::Query => in_query(kind),
+        Way::Set => in_set(kind),
         Way::Answer => in_answer(kind),
-        Way::Failed => Shown::NoPayload,
+        Way::Failed => in_failed(kind),
+        Way::Other => Shown::NoPayload,
     }
 }
 
 // The table's first column.
-fn in_command(kind: Kind) -> Shown
-    ensures { λ r. ⌜ r ≡ rowOf kind .command ⌝ }
+fn in_query(kind: Kind) -> Shown
+    ensures { λ r. ⌜ r ≡ rowOf kind .query ⌝ }
 {
     match kind {
         Kind::RegisterState => Shown::NoPayload,
@@ -85,10 +111,27 @@ fn in_command(kind: Kind) -> Shown
         Kind::SignalState => Shown::NoPayload,
         Kind::DeviceServices => Shown::NoPayload,
         Kind::VersionInfo => Shown::Payload(Kind::VersionInfo),
+        Kind::SetPin => Shown::NoPayload,
+        Kind::PinInfo => Shown::NoPayload,
     }
 }
 
-// The table's second column.
+// The second.
+fn in_set(kind: Kind) -> Shown
+    ensures { λ r. ⌜ r ≡ rowOf kind .set ⌝ }
+{
+    match kind {
+        Kind::RegisterState => Shown::NoPayload,
+        Kind::PacketService => Shown::NoPayload,
+        Kind::SignalState => Shown::NoPayload,
+        Kind::DeviceServices => Shown::NoPayload,
+        Kind::VersionInfo => Shown::Payload(Kind::VersionInfo),
+        Kind::SetPin => Shown::NoPayload,
+        Kind::PinInfo => Shown::Payload(Kind::SetPin),
+    }
+}
+
+// The third.
 fn in_answer(kind: Kind) -> Shown
     ensures { λ r. ⌜ r ≡ rowOf kind .answer ⌝ }
 {
@@ -98,5 +141,22 @@ fn in_answer(kind: Kind) -> Shown
         Kind::SignalState => Shown::Payload(Kind::SignalState),
         Kind::DeviceServices => Shown::Payload(Kind::DeviceServices),
         Kind::VersionInfo => Shown::Payload(Kind::VersionInfo),
+        Kind::SetPin => Shown::NoPayload,
+        Kind::PinInfo => Shown::Payload(Kind::PinInfo),
+    }
+}
+
+// The last.
+fn in_failed(kind: Kind) -> Shown
+    ensures { λ r. ⌜ r ≡ rowOf kind .failed ⌝ }
+{
+    match kind {
+        Kind::RegisterState => Shown::NoPayload,
+        Kind::PacketService => Shown::NoPayload,
+        Kind::SignalState => Shown::NoPayload,
+        Kind::DeviceServices => Shown::NoPayload,
+        Kind::VersionInfo => Shown::NoPayload,
+        Kind::SetPin => Shown::NoPayload,
+        Kind::PinInfo => Shown::Payload(Kind::PinInfo),
     }
 }

@@ -1,2 +1,4 @@
+pub mod Ranges
 pub mod Registrations
+pub mod SetPins
 pub mod Lengths

@@ -1,3 +1,6 @@
 pub mod Packets
 pub mod Versions
+pub mod Ranges
 pub mod Registrations
+pub mod SetPins
+pub mod PinInfos

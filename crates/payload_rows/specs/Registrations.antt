@@ -1,10 +1,8 @@
 -- The listing of a REGISTER_STATE payload: texts in hexadecimal, an absent one an empty value.
-use Prim.Native.Nat.{ℕ, _+_, _≤_}
+use Prim.Native.Nat.{ℕ}
 use mathlib.Core.List.{List, [], _++_}
-use lib.ListN.{length}
 use Rattle.ascii.specs.Ascii.{ascii}
 use Rattle.pairs.specs.Claims.{shownIn}
-use Rattle.pairs.specs.declared.Range.{Range}
 use Rattle.registration.specs.declared.RegistrationForm.{RegistrationForm}
 use Rattle.registration.specs.declared.RegistrationForm.the-variants.{V1 as Form1, V2 as Form2}
 use Rattle.registration.specs.declared.Registration.{Registration}
@@ -12,6 +10,7 @@ use Rattle.registration.specs.declared.RegistrationTexts.{RegistrationTexts}
 use Rattle.registration.specs.declared.RegistrationRead.{RegistrationRead}
 use Rattle.registration.specs.declared.RegistrationRead.the-variants.{Info, Refused}
 use Rattle.rows.specs.Rows.{header, row, textRow, refusedLine}
+use Rattle.payload_rows.specs.Ranges.{Listable}
 
 unfoldable pub classRows : Registration → List ℕ
 classRows p =
@@ -38,11 +37,7 @@ unfoldable pub registrationText : List ℕ → RegistrationRead → List ℕ
 registrationText s (Refused r) = refusedLine r
 registrationText s (Info p t) = header ++ (classRows p ++ (textRows s t ++ flagRows p))
 
--- what a range keeps to where its text is listed: inside the payload, and no longer than a text can be (proofs/Registrations)
-pub record Listable (p : Range) (s : List ℕ) : Type 0 where
-  pub within : p .start + p .length ≤ length s
-  pub short : p .length ≤ 126
-
+-- those of an accepted payload keep to it (proofs/Registrations)
 pub record ListableTexts (t : RegistrationTexts) (s : List ℕ) : Type 0 where
   pub id : Listable (t .«provider_id») s
   pub name : Listable (t .«provider_name») s

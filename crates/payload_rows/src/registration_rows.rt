@@ -1,7 +1,6 @@
 // The rows of a REGISTER_STATE payload, read strictly.
-use pairs::Range;
+use crate::range_rows::put_range_row;
 use pairs::ZeroSize;
-use pairs::part_of;
 use protocol::Version;
 use registration::Registration;
 use registration::RegistrationForm;
@@ -10,12 +9,10 @@ use registration::RegistrationTexts;
 use rows::put_refused;
 use rows::put_row;
 use rows::put_text;
-use rows::put_text_row;
-ghost use Rattle.pairs.specs.Claims.{shownIn};
 ghost use Rattle.pairs.specs.declared.ZeroSize.the-variants.{Strict};
 ghost use Rattle.registration.specs.Registration.{readWith};
-ghost use Rattle.rows.specs.Rows.{Put, textRow};
-ghost use Rattle.payload_rows.specs.Registrations.{Listable, ListableTexts, classRows, textRows, flagRows, registrationText};
+ghost use Rattle.rows.specs.Rows.{Put};
+ghost use Rattle.payload_rows.specs.Registrations.{ListableTexts, classRows, textRows, flagRows, registrationText};
 
 pub fn put(version: Version, payload: &[u8], out: &mut [u8], at: usize) -> usize
     ensures { λ r. ⌜ Put (now (out .entry)) at (registrationText (now (payload .entry)) (readWith version Strict (now (payload .entry)))) (now (out .exit)) r ⌝ }
@@ -57,14 +54,6 @@ fn put_texts(texts: RegistrationTexts, payload: &[u8], out: &mut [u8], at: usize
     let second = put_range_row(out, at, b"ProviderId", payload, id);
     let third = put_range_row(out, second, b"ProviderName", payload, name);
     put_range_row(out, third, b"RoamingText", payload, roaming)
-}
-
-// The text of a range of the payload.
-fn put_range_row(out: &mut [u8], at: usize, name: &[u8], payload: &[u8], range: Range) -> usize
-    requires { ⌜ Listable range (now payload) ⌝ }
-    ensures { λ r. ⌜ Put (now (out .entry)) at (textRow (now (name .entry)) (shownIn (now (payload .entry)) range)) (now (out .exit)) r ⌝ }
-{
-    put_text_row(out, at, name, part_of(payload, range))
 }
 
 // The rows from the flag on.

@@ -1,4 +1,5 @@
 // A question put to the library, with what is lent to it.
+use crate::pins::pin_read;
 use crate::readings::reading;
 use crate::reads::read;
 use crate::services::element;
@@ -24,10 +25,11 @@ pub fn ask(
     let input = &all[..n];
     match question {
         1 | 3 | 5 | 7 | 9 | 36 | 37 | 38 => read(question, numbers, input, list),
-        2 | 4 | 6 | 8 | 13 => lend(question, numbers, input, room, &mut out[..]),
+        2 | 4 | 6 | 8 | 13 | 44 | 46 => lend(question, numbers, input, room, &mut out[..]),
         10 | 11 | 39 | 40 => lend_list(question, numbers, input, room, &mut list[..]),
         12 | 41 => listed(question, numbers, input),
         33 | 34 | 35 => reading(question, word_at(numbers, 1)),
+        42 | 43 | 45 => pin_read(question, numbers, input),
         _ => no_question(),
     }
 }

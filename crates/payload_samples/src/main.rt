@@ -2,6 +2,7 @@
 // standard input, and prints which of its answers are not those of the line (docs/samples.md).
 mod ask;
 mod judge;
+mod pins;
 mod readings;
 mod reads;
 mod services;

@@ -1,4 +1,6 @@
-// Payloads written: questions 2, 4, 6 and 8.
+// Payloads written: questions 2, 4, 6 and 8; those of 13, 44 and 46 stand with their readers.
+use crate::pins::pin_info_write;
+use crate::pins::set_pin_write;
 use crate::services::services_write;
 use c_structs::WrittenAnswer;
 use c_structs::packets::PacketServiceInfo;
@@ -35,6 +37,8 @@ fn write_payload(question: u8, arguments: &[u8], input: &[u8], out: &mut [u8]) -
         4 => packet_write(arguments, out),
         6 => registration_write(arguments, input, out),
         8 => signal_write(arguments, out),
+        44 => set_pin_write(arguments, input, out),
+        46 => pin_info_write(arguments, out),
         _ => services_write(arguments, input, out),
     }
 }
@@ -91,7 +95,7 @@ fn registration_info(arguments: &[u8]) -> RegistrationInfo {
 }
 
 // Where a text of a size ends that starts at a place of n bytes.
-fn end_of(start: usize, size: usize, n: usize) -> usize
+pub fn end_of(start: usize, size: usize, n: usize) -> usize
     requires { ⌜ start ≤ n ⌝ }
     ensures { λ r. ⌜ (start ≤ r) × (r ≤ n) ⌝ }
 {

@@ -3,3 +3,4 @@ pub mod Verdict
 pub mod DataClass
 pub mod MessageType
 pub mod Service
+pub mod Status

@@ -31,6 +31,13 @@ FUNCTION-ERROR = 0x80000004
 abbrev pub INDICATE-STATUS : ℕ
 INDICATE-STATUS = 0x80000007
 
+-- "COMMAND has type (0 query, 1 set)"
+abbrev pub QUERY : ℕ
+QUERY = 0
+
+abbrev pub SET : ℕ
+SET = 1
+
 abbrev pub isIn : List ℕ → ℕ → Bool
 isIn [] n = false
 isIn (k ∷ ks) n = eqb n k || isIn ks n

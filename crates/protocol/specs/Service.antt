@@ -1,4 +1,4 @@
--- Known services and their CIDs (document 01, "Known services"): "service ids are 16 bytes in printed order".
+-- Known services and their CIDs (document 01, "Known services"; CID 4 by document 02, order 2): "service ids are 16 bytes in printed order".
 -- In this order: the ids as printed; an id as four words; the CIDs of each service; what a service and a CID stand for.
 use Prim.Native.Nat.{ℕ, _+_}
 use mathlib.Core.Bool.{Bool, cond, _&&_}
@@ -8,7 +8,7 @@ use Rattle.wire.specs.Numbers.{u32At, digits}
 use Rattle.protocol.specs.Refusal.{refusal, unknown}
 use Rattle.protocol.specs.declared.service.ServiceId.{ServiceId}
 use Rattle.protocol.specs.declared.service.Kind.{Kind}
-use Rattle.protocol.specs.declared.service.Kind.the-variants.{RegisterState, PacketService, SignalState, DeviceServices, VersionInfo}
+use Rattle.protocol.specs.declared.service.Kind.the-variants.{RegisterState, PacketService, SignalState, DeviceServices, VersionInfo, PinInfo}
 use Rattle.protocol.specs.declared.service.Carried.{Carried}
 use Rattle.protocol.specs.declared.service.Carried.the-variants.{Payload, Refused}
 
@@ -35,7 +35,7 @@ idBytes i = digits 4 (i .word0) ++ (digits 4 (i .word1) ++ (digits 4 (i .word2) 
 unfoldable pub sameId : ServiceId → ServiceId → Bool
 sameId a b = eqb (a .word0) (b .word0) && (eqb (a .word1) (b .word1) && (eqb (a .word2) (b .word2) && eqb (a .word3) (b .word3)))
 
--- ---- the CIDs of each service, and the payload that each carries
+-- ---- the CIDs of each service, and the payload that its answers carry
 
 pub record Row : Type 0 where
   pub cid : ℕ
@@ -45,7 +45,7 @@ abbrev pub row : ℕ → Kind → Row
 row c k = record { cid = c; kind = k }
 
 abbrev pub basicConnectCids : List Row
-basicConnectCids = row 9 RegisterState ∷ row 10 PacketService ∷ row 11 SignalState ∷ row 16 DeviceServices ∷ []
+basicConnectCids = row 4 PinInfo ∷ row 9 RegisterState ∷ row 10 PacketService ∷ row 11 SignalState ∷ row 16 DeviceServices ∷ []
 
 abbrev pub extensionsCids : List Row
 extensionsCids = row 15 VersionInfo ∷ []

@@ -1,8 +1,9 @@
 // What document 01 fixes for every payload and message: versions, refusals and verdicts here; data
-// classes, message types, and services with their CIDs in modules. No payload is known here.
+// classes, message types, statuses, and services with their CIDs in modules. No payload is known here.
 pub mod data_class;
 pub mod message_type;
 pub mod service;
+pub mod status;
 
 ghost use mathlib.Core.Path.{_≡_};
 ghost use Rattle.protocol.specs.Verdict.{firstOf, faultIf, exactLength, openLength};

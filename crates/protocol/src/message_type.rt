@@ -20,6 +20,11 @@ pub const FUNCTION_ERROR: u32 = 0x80000004;
 
 pub const INDICATE_STATUS: u32 = 0x80000007;
 
+// The types of a COMMAND.
+pub const QUERY: u32 = 0;
+
+pub const SET: u32 = 1;
+
 pub fn is_whole(message_type: u32) -> bool
     ensures { λ r. ⌜ r ≡ isWhole «message_type» ⌝ }
 {

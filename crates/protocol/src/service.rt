@@ -23,17 +23,21 @@ pub enum Kind {
     SignalState,
     DeviceServices,
     VersionInfo,
+    SetPin,
+    PinInfo,
 }
 
-// What a service and a CID stand for.
+// What a service and a CID stand for: the payload that its answers carry.
 pub enum Carried {
     Payload(Kind),
     Refused(Refusal),
 }
 
-// CIDs of Basic Connect.
 // The bytes of an id.
 const ID_SIZE: usize = 16;
+
+// CIDs of Basic Connect.
+pub const PIN: u32 = 4;
 
 pub const REGISTER_STATE: u32 = 9;
 
@@ -42,6 +46,7 @@ pub const PACKET_SERVICE: u32 = 10;
 pub const SIGNAL_STATE: u32 = 11;
 
 pub const DEVICE_SERVICES: u32 = 16;
+
 // CIDs of the extensions.
 pub const VERSION: u32 = 15;
 
@@ -143,6 +148,7 @@ fn basic_connect_kind(cid: u32) -> Carried
     ensures { λ r. ⌜ r ≡ among cid basicConnectCids ⌝ }
 {
     match cid {
+        PIN => Carried::Payload(Kind::PinInfo),
         REGISTER_STATE => Carried::Payload(Kind::RegisterState),
         PACKET_SERVICE => Carried::Payload(Kind::PacketService),
         SIGNAL_STATE => Carried::Payload(Kind::SignalState),

@@ -20,7 +20,7 @@ use Rattle.text_parts.proofs.Parts.{same-right, further-zero, further-further}
 use Rattle.text_parts.proofs.Hex.{hex-right, hex-said, said-hex, hex-at}
 use Rattle.request_line.specs.Request.{kindWords, versionWords, kindOf, kindLength, versionOf, digitsAt, payloadAt, byVersion, byKind, requestOf}
 use Rattle.request_line.specs.declared.ListingKind.{ListingKind}
-use Rattle.request_line.specs.declared.ListingKind.the-variants.{PacketService, Version as VersionKind, Registration, SignalState, DeviceServices}
+use Rattle.request_line.specs.declared.ListingKind.the-variants.{PacketService, Version as VersionKind, Registration, SignalState, DeviceServices, SetPin, PinInfo}
 use Rattle.request_line.specs.declared.Request.{Request}
 use Rattle.request_line.specs.declared.Request.the-variants.{Payload, BadLine}
 use Rattle.text_parts.specs.declared.Reached.{Reached}
@@ -38,7 +38,14 @@ abbrev versionRest : List WordRow
 versionRest = word (ascii "2.00\t") 1 ∷ []
 
 abbrev kindRest : List WordRow
-kindRest = word (ascii "version\t") 1 ∷ word (ascii "registration\t") 2 ∷ word (ascii "signal_state\t") 3 ∷ word (ascii "device_services\t") 4 ∷ []
+kindRest =
+    word (ascii "version\t") 1
+    ∷ word (ascii "registration\t") 2
+    ∷ word (ascii "signal_state\t") 3
+    ∷ word (ascii "device_services\t") 4
+    ∷ word (ascii "set_pin\t") 5
+    ∷ word (ascii "pin_info\t") 6
+    ∷ []
 
 abbrev Versioned : List ℕ → Type 0
 Versioned = AnyOf (HexLine mostDigits) (Worded (ascii "1.00\t") (HexLine mostDigits)) versionRest
@@ -72,22 +79,26 @@ kind-said : (kind : ListingKind) (s : List ℕ) → Worded (kindText kind) Versi
 kind-said kind s m = let v = version-said (m .0) (m .1) in (kind, v .0, v .1, v .2, m .2 ∙ ap (λ (x : List ℕ). kindText kind ++ x) (v .3))
 
 row-good : (s : List ℕ) → Row s → Good s
-row-good s (inl (inl (inl (inl m)))) = kind-said PacketService s m
-row-good s (inl (inl (inl (inr m)))) = kind-said VersionKind s m
-row-good s (inl (inl (inr m))) = kind-said Registration s m
-row-good s (inl (inr m)) = kind-said SignalState s m
-row-good s (inr m) = kind-said DeviceServices s m
+row-good s (inl (inl (inl (inl (inl (inl m)))))) = kind-said PacketService s m
+row-good s (inl (inl (inl (inl (inl (inr m)))))) = kind-said VersionKind s m
+row-good s (inl (inl (inl (inl (inr m))))) = kind-said Registration s m
+row-good s (inl (inl (inl (inr m)))) = kind-said SignalState s m
+row-good s (inl (inl (inr m))) = kind-said DeviceServices s m
+row-good s (inl (inr m)) = kind-said SetPin s m
+row-good s (inr m) = kind-said PinInfo s m
 
 said-version : (v : Version) (hex : List ℕ) → HexDigits mostDigits hex → Versioned (versionText v ++ (hex ++ (lineFeed ∷ [])))
 said-version V1 hex p = inl (hex ++ (lineFeed ∷ []), said-hex mostDigits hex p, refl)
 said-version V2 hex p = inr (hex ++ (lineFeed ∷ []), said-hex mostDigits hex p, refl)
 
 said-kind : (kind : ListingKind) (t : List ℕ) → Versioned t → Row (kindText kind ++ t)
-said-kind PacketService t m = inl (inl (inl (inl (t, m, refl))))
-said-kind VersionKind t m = inl (inl (inl (inr (t, m, refl))))
-said-kind Registration t m = inl (inl (inr (t, m, refl)))
-said-kind SignalState t m = inl (inr (t, m, refl))
-said-kind DeviceServices t m = inr (t, m, refl)
+said-kind PacketService t m = inl (inl (inl (inl (inl (inl (t, m, refl))))))
+said-kind VersionKind t m = inl (inl (inl (inl (inl (inr (t, m, refl))))))
+said-kind Registration t m = inl (inl (inl (inl (inr (t, m, refl)))))
+said-kind SignalState t m = inl (inl (inl (inr (t, m, refl))))
+said-kind DeviceServices t m = inl (inl (inr (t, m, refl)))
+said-kind SetPin t m = inl (inr (t, m, refl))
+said-kind PinInfo t m = inr (t, m, refl)
 
 good-row : (s : List ℕ) → Good s → Row s
 good-row s g = rw (g .4) (said-kind (g .0) (versionText (g .1) ++ (g .2 ++ (lineFeed ∷ []))) (said-version (g .1) (g .2) (g .3)))
@@ -162,7 +173,7 @@ unfolding requestOf
 request-column s =
     shown (reachFrom (Column 0) s 0 kindWords)
     ∙ sym (table-at reachVersion J s 0 (word (ascii "packet_service\t") 0) kindRest kinds-differ
-    (leads PacketService, (leads VersionKind, (leads Registration, (leads SignalState, (leads DeviceServices, tt))))))
+    (leads PacketService, (leads VersionKind, (leads Registration, (leads SignalState, (leads DeviceServices, (leads SetPin, (leads PinInfo, tt))))))))
     ∙ further-zero (reachRow s)
   where
     J : ℕ → Reach

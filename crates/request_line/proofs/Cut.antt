@@ -17,7 +17,7 @@ use Rattle.text_parts.specs.declared.Reached.the-variants.{Word, Column}
 use Rattle.text_parts.proofs.Cut.{part-front, reach-cut}
 use Rattle.request_line.specs.Request.{kindWords, versionWords, kindOf, kindLength, versionOf, digitsAt, payloadAt, byVersion, byKind, requestOf}
 use Rattle.request_line.specs.declared.ListingKind.{ListingKind}
-use Rattle.request_line.specs.declared.ListingKind.the-variants.{PacketService, Version as VersionKind, Registration, SignalState, DeviceServices}
+use Rattle.request_line.specs.declared.ListingKind.the-variants.{PacketService, Version as VersionKind, Registration, SignalState, DeviceServices, SetPin, PinInfo}
 use Rattle.request_line.proofs.Requests.{digits-le}
 
 -- ---- digits of a line that is cut
@@ -59,6 +59,8 @@ after-kind kind n s h l =
     short Registration = omega arith
     short SignalState = omega arith
     short DeviceServices = omega arith
+    short SetPin = omega arith
+    short PinInfo = omega arith
 
 kind-cut : (n : ℕ) (s : List ℕ) (r : Reached) → 16407 ≤ n → n ≤ length s → byKind (take n s) r ≡ byKind s r
 kind-cut n s (Column c) h l = refl
@@ -67,4 +69,4 @@ kind-cut n s (Word w) h l = after-kind (kindOf w) n s h l
 pub request-cut : (n : ℕ) (s : List ℕ) → 16407 ≤ n → n ≤ length s → requestOf (take n s) ≡ requestOf s
 unfolding requestOf
 request-cut n s h l =
-    ap (byKind (take n s)) (reach-cut kindWords (Column 0) 0 n s (omega arith, (omega arith, (omega arith, (omega arith, (omega arith, tt)))))) ∙ kind-cut n s (reachFrom (Column 0) s 0 kindWords) h l
+    ap (byKind (take n s)) (reach-cut kindWords (Column 0) 0 n s (omega arith, (omega arith, (omega arith, (omega arith, (omega arith, (omega arith, (omega arith, tt)))))))) ∙ kind-cut n s (reachFrom (Column 0) s 0 kindWords) h l

@@ -20,7 +20,7 @@ use Rattle.text_parts.proofs.Hex.{hex-found}
 use Rattle.request_line.specs.Good.{kindText, versionText, mostDigits, textOf, Good, GoodWith}
 use Rattle.request_line.specs.Request.{digitsAt, payloadAt, requestOf}
 use Rattle.request_line.specs.declared.ListingKind.{ListingKind}
-use Rattle.request_line.specs.declared.ListingKind.the-variants.{PacketService, Version as VersionKind, Registration, SignalState, DeviceServices}
+use Rattle.request_line.specs.declared.ListingKind.the-variants.{PacketService, Version as VersionKind, Registration, SignalState, DeviceServices, SetPin, PinInfo}
 use Rattle.request_line.specs.declared.Request.{Request}
 use Rattle.request_line.specs.declared.Request.the-variants.{Payload, BadLine}
 use Rattle.request_line.proofs.Columns.{request-right}
@@ -51,6 +51,10 @@ module _ (hex : List ℕ) (p : HexDigits mostDigits hex) where
   request-found SignalState V2 = payload-found (textOf SignalState V2 hex) SignalState V2 18 refl
   request-found DeviceServices V1 = payload-found (textOf DeviceServices V1 hex) DeviceServices V1 21 refl
   request-found DeviceServices V2 = payload-found (textOf DeviceServices V2 hex) DeviceServices V2 21 refl
+  request-found SetPin V1 = payload-found (textOf SetPin V1 hex) SetPin V1 13 refl
+  request-found SetPin V2 = payload-found (textOf SetPin V2 hex) SetPin V2 13 refl
+  request-found PinInfo V1 = payload-found (textOf PinInfo V1 hex) PinInfo V1 14 refl
+  request-found PinInfo V2 = payload-found (textOf PinInfo V2 hex) PinInfo V2 14 refl
 
 -- ---- the claims
 

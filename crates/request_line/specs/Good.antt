@@ -10,7 +10,7 @@ use Rattle.protocol.specs.declared.Version.{Version}
 use Rattle.protocol.specs.declared.Version.the-variants.{V1, V2}
 use Rattle.text_parts.specs.Hex.{HexDigits}
 use Rattle.request_line.specs.declared.ListingKind.{ListingKind}
-use Rattle.request_line.specs.declared.ListingKind.the-variants.{PacketService, Version as VersionKind, Registration, SignalState, DeviceServices}
+use Rattle.request_line.specs.declared.ListingKind.the-variants.{PacketService, Version as VersionKind, Registration, SignalState, DeviceServices, SetPin, PinInfo}
 
 abbrev pub kindText : ListingKind → List ℕ
 kindText PacketService = ascii "packet_service\t"
@@ -18,6 +18,8 @@ kindText VersionKind = ascii "version\t"
 kindText Registration = ascii "registration\t"
 kindText SignalState = ascii "signal_state\t"
 kindText DeviceServices = ascii "device_services\t"
+kindText SetPin = ascii "set_pin\t"
+kindText PinInfo = ascii "pin_info\t"
 
 abbrev pub versionText : Version → List ℕ
 versionText V1 = ascii "1.00\t"

@@ -11,7 +11,7 @@ use Rattle.protocol.specs.declared.Version.{Version}
 use Rattle.protocol.specs.declared.Version.the-variants.{V1, V2}
 use Rattle.request_line.specs.Good.{kindText, versionText, mostDigits}
 use Rattle.request_line.specs.declared.ListingKind.{ListingKind}
-use Rattle.request_line.specs.declared.ListingKind.the-variants.{PacketService, Version as VersionKind, Registration, SignalState, DeviceServices}
+use Rattle.request_line.specs.declared.ListingKind.the-variants.{PacketService, Version as VersionKind, Registration, SignalState, DeviceServices, SetPin, PinInfo}
 use Rattle.request_line.specs.declared.Request.{Request}
 use Rattle.request_line.specs.declared.Request.the-variants.{Payload, BadLine}
 use Rattle.text_parts.specs.declared.Reached.{Reached}
@@ -21,10 +21,23 @@ use Rattle.text_parts.specs.declared.Reached.the-variants.{Word, Column}
 
 abbrev pub kindWords : List WordRow
 kindWords =
-    word (kindText PacketService) 0 ∷ word (kindText VersionKind) 1 ∷ word (kindText Registration) 2 ∷ word (kindText SignalState) 3 ∷ word (kindText DeviceServices) 4 ∷ []
+    word (kindText PacketService) 0
+    ∷ word (kindText VersionKind) 1
+    ∷ word (kindText Registration) 2
+    ∷ word (kindText SignalState) 3
+    ∷ word (kindText DeviceServices) 4
+    ∷ word (kindText SetPin) 5
+    ∷ word (kindText PinInfo) 6
+    ∷ []
 
 abbrev pub kindOf : ℕ → ListingKind
-kindOf n = cond (eqb n 0) PacketService (cond (eqb n 1) VersionKind (cond (eqb n 2) Registration (cond (eqb n 3) SignalState DeviceServices)))
+kindOf n =
+    cond (eqb n 0) PacketService
+    (cond (eqb n 1) VersionKind
+    (cond (eqb n 2) Registration
+    (cond (eqb n 3) SignalState
+    (cond (eqb n 4) DeviceServices
+    (cond (eqb n 5) SetPin PinInfo)))))
 
 abbrev pub kindLength : ListingKind → ℕ
 kindLength kind = length (kindText kind)

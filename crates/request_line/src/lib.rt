@@ -16,6 +16,8 @@ pub enum ListingKind {
     Registration,
     SignalState,
     DeviceServices,
+    SetPin,
+    PinInfo,
 }
 
 pub enum Request {
@@ -96,7 +98,9 @@ fn kind_at(line: &[u8]) -> Reached
     let version = also_word(packet, line, 0, b"version\t", 1);
     let registration = also_word(version, line, 0, b"registration\t", 2);
     let signal = also_word(registration, line, 0, b"signal_state\t", 3);
-    also_word(signal, line, 0, b"device_services\t", 4)
+    let services = also_word(signal, line, 0, b"device_services\t", 4);
+    let set_pin = also_word(services, line, 0, b"set_pin\t", 5);
+    also_word(set_pin, line, 0, b"pin_info\t", 6)
 }
 
 fn kind_of(number: u32) -> ListingKind
@@ -107,7 +111,9 @@ fn kind_of(number: u32) -> ListingKind
         1 => ListingKind::Version,
         2 => ListingKind::Registration,
         3 => ListingKind::SignalState,
-        _ => ListingKind::DeviceServices,
+        4 => ListingKind::DeviceServices,
+        5 => ListingKind::SetPin,
+        _ => ListingKind::PinInfo,
     }
 }
 
@@ -121,6 +127,8 @@ fn kind_length(kind: ListingKind) -> usize
         ListingKind::Registration => 13,
         ListingKind::SignalState => 13,
         ListingKind::DeviceServices => 16,
+        ListingKind::SetPin => 8,
+        ListingKind::PinInfo => 9,
     }
 }
 

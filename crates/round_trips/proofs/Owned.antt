@@ -28,6 +28,12 @@ use Rattle.signal_state.specs.declared.RsrpSnr.{RsrpSnr}
 use Rattle.signal_state.specs.declared.SignalState.{SignalState}
 use Rattle.signal_state.specs.SignalState.{entryIn}
 use Rattle.signal_state.specs.Claims.{OfWidth as SignalOfWidth, EntryOfWidth, EntriesOfWidth}
+use Rattle.pin.proofs.set_pin.SetPin as SetPins
+use Rattle.pin.specs.declared.set_pin.SetPin.{SetPin}
+use Rattle.pin.specs.SetPinClaims.{OfWidth as SetPinOfWidth}
+use Rattle.pin.proofs.pin_info.PinInfo as PinInfos
+use Rattle.pin.specs.declared.pin_info.PinInfo.{PinInfo}
+use Rattle.pin.specs.PinInfoClaims.{OfWidth as PinInfoOfWidth}
 
 packet-form : (f : PacketForm) (vs : List Val) → shadow (enum PacketForms.the-type .row .own (PacketForms.the-type .to f) vs) → PacketFormOfWidth f
 packet-form (packet.V1 class) vs p = omega (arith, p)
@@ -83,3 +89,9 @@ entries-of-width [] us w i = record { rsrp = omega arith; snr = omega arith; str
 entries-of-width (e ∷ es) [] w i = absurd w
 entries-of-width (e ∷ es) (u ∷ us) w zero = entry-of-width e (u ∷ []) (w .0)
 entries-of-width (e ∷ es) (u ∷ us) w (suc i) = entries-of-width es us (w .1) i
+
+pub set-pin-of-width : (p : SetPin) (vs : List Val) → shadow (field SetPins.the-type .row .own (SetPins.the-type .to p) vs) → SetPinOfWidth p
+set-pin-of-width p vs w = record { type = omega (arith, w .1 .1); operation = omega (arith, w .1 .1) }
+
+pub pin-info-of-width : (i : PinInfo) (vs : List Val) → shadow (field PinInfos.the-type .row .own (PinInfos.the-type .to i) vs) → PinInfoOfWidth i
+pin-info-of-width i vs w = record { type = omega (arith, w .1 .1); state = omega (arith, w .1 .1); attempts = omega (arith, w .1 .1) }

@@ -18,7 +18,15 @@ use Rattle.signal_state.specs.Claims.{OfWidth as SignalOfWidth, EntriesOfWidth}
 use Rattle.signal_state.specs.declared.RsrpSnr.{RsrpSnr}
 use Rattle.signal_state.specs.declared.SignalState.{SignalState}
 use Rattle.signal_state.proofs.RoundTrip as signalTrip
-use Rattle.round_trips.specs.Back.{PacketBack, RegistrationBack, SignalBack}
+use Rattle.pin.specs.SetPin as setPin
+use Rattle.pin.specs.SetPinClaims.{OfWidth as SetPinOfWidth}
+use Rattle.pin.specs.declared.set_pin.SetPin.{SetPin}
+use Rattle.pin.proofs.SetPinTrip as setPinTrip
+use Rattle.pin.specs.PinInfo as pinInfo
+use Rattle.pin.specs.PinInfoClaims.{OfWidth as PinInfoOfWidth}
+use Rattle.pin.specs.declared.pin_info.PinInfo.{PinInfo}
+use Rattle.pin.proofs.PinInfoLaws as pinInfoLaws
+use Rattle.round_trips.specs.Back.{PacketBack, RegistrationBack, SignalBack, SetPinBack, PinInfoBack}
 
 pub packet-returned : (p : PacketService) → PacketOfWidth p → (s : List ℕ) (a : Written) (out : List ℕ) → a ≡ packet.writeOf p s .answer → out ≡ packet.writeOf p s .output
     → PacketBack a p out
@@ -34,3 +42,13 @@ pub signal-returned : (p : SignalState) (es : List RsrpSnr) → SignalOfWidth p 
     → a ≡ signal.writeOf p es s .answer → out ≡ signal.writeOf p es s .output → SignalBack a p es out
 signal-returned p es z zs s (Length n) out e q = λ choice. rw q (signalTrip.round-trip choice p es z zs s n (sym e))
 signal-returned p es z zs s (Refused r) out e q = tt
+
+pub set-pin-returned : (p : SetPin) (x y : List ℕ) → SetPinOfWidth p → (s : List ℕ) (a : Written) (out : List ℕ)
+    → a ≡ setPin.writeOf p x y s .answer → out ≡ setPin.writeOf p x y s .output → SetPinBack a p x y out
+set-pin-returned p x y w s (Length n) out e q = λ choice. rw q (setPinTrip.round-trip choice p x y s n w (sym e))
+set-pin-returned p x y w s (Refused r) out e q = tt
+
+pub pin-info-returned : (i : PinInfo) → PinInfoOfWidth i → (s : List ℕ) (a : Written) (out : List ℕ) → a ≡ pinInfo.writeOf i s .answer → out ≡ pinInfo.writeOf i s .output
+    → PinInfoBack a i out
+pin-info-returned i w s (Length n) out e q = rw q (pinInfoLaws.round-trip i s n w (sym e))
+pin-info-returned i w s (Refused r) out e q = tt

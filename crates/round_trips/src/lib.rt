@@ -2,6 +2,10 @@
 // ask that each number of a record is of its width; of a record that a program holds this is so, and
 // here nothing is asked.
 use packet_service::PacketService;
+use pin::pin_info;
+use pin::pin_info::PinInfo;
+use pin::set_pin;
+use pin::set_pin::SetPin;
 use protocol::Written;
 use registration::Registration;
 use signal_state::RsrpSnr;
@@ -10,7 +14,9 @@ ghost use mathlib.Core.Path.{_≡_};
 ghost use Rattle.packet_service.specs.PacketService.{writeOf as packetWritten};
 ghost use Rattle.registration.specs.Registration.{writeOf as registrationWritten};
 ghost use Rattle.signal_state.specs.SignalState.{writeOf as signalWritten};
-ghost use Rattle.round_trips.specs.Back.{PacketBack, RegistrationBack, SignalBack};
+ghost use Rattle.pin.specs.SetPin.{writeOf as setPinWritten};
+ghost use Rattle.pin.specs.PinInfo.{writeOf as pinInfoWritten};
+ghost use Rattle.round_trips.specs.Back.{PacketBack, RegistrationBack, SignalBack, SetPinBack, PinInfoBack};
 
 pub fn write_packet_service(info: PacketService, out: &mut [u8]) -> Written
     ensures { λ r. ⌜ r ≡ packetWritten info (now (out .entry)) .answer ⌝ }
@@ -40,4 +46,20 @@ pub fn write_signal_state(info: SignalState, entries: [RsrpSnr; 16], out: &mut [
     ensures { λ r. ⌜ SignalBack r info entries (now (out .exit)) ⌝ }
 {
     signal_writer::write(info, entries, out)
+}
+
+pub fn write_set_pin(info: SetPin, pin: &[u8], new_pin: &[u8], out: &mut [u8]) -> Written
+    ensures { λ r. ⌜ r ≡ setPinWritten info (now (pin .entry)) (now («new_pin» .entry)) (now (out .entry)) .answer ⌝ }
+    ensures { λ _. ⌜ now (out .exit) ≡ setPinWritten info (now (pin .entry)) (now («new_pin» .entry)) (now (out .entry)) .output ⌝ }
+    ensures { λ r. ⌜ SetPinBack r info (now (pin .entry)) (now («new_pin» .entry)) (now (out .exit)) ⌝ }
+{
+    set_pin::write(info, pin, new_pin, out)
+}
+
+pub fn write_pin_info(info: PinInfo, out: &mut [u8]) -> Written
+    ensures { λ r. ⌜ r ≡ pinInfoWritten info (now (out .entry)) .answer ⌝ }
+    ensures { λ _. ⌜ now (out .exit) ≡ pinInfoWritten info (now (out .entry)) .output ⌝ }
+    ensures { λ r. ⌜ PinInfoBack r info (now (out .exit)) ⌝ }
+{
+    pin_info::write(info, out)
 }

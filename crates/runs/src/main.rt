@@ -16,8 +16,6 @@ use modem::Modem;
 use modem::ModemAnswer;
 use modem::ModemMade;
 use modem::ModemStage;
-use modem::NO_DEVICE_SUPPORT;
-use modem::QUERY;
 use packet_service::PacketForm;
 use packet_service::PacketService;
 use packet_service::PacketServiceRead;
@@ -25,6 +23,7 @@ use protocol::Version;
 use protocol::message_type::COMMAND;
 use protocol::message_type::COMMAND_DONE;
 use protocol::message_type::INDICATE_STATUS;
+use protocol::message_type::QUERY;
 use protocol::service::DEVICE_SERVICES;
 use protocol::service::PACKET_SERVICE;
 use protocol::service::REGISTER_STATE;
@@ -32,6 +31,7 @@ use protocol::service::ServiceId;
 use protocol::service::VERSION;
 use protocol::service::basic_connect_id;
 use protocol::service::extensions_id;
+use protocol::status::NO_DEVICE_SUPPORT;
 
 // Both ends, and the number of the host's refusal, 0 for none.
 struct Ends {

@@ -9,8 +9,7 @@ use crate::refusal::{
 use crate::version::Version;
 use crate::version_info;
 
-/// MBIM_STATUS_NO_DEVICE_SUPPORT.
-pub const STATUS_NO_DEVICE_SUPPORT: u32 = 9;
+pub use crate::message::STATUS_NO_DEVICE_SUPPORT;
 
 /// A modem and where its handshake stands.
 #[derive(Clone, Copy, Debug, PartialEq, Eq)]
@@ -39,6 +38,9 @@ pub enum CommandAnswer {
     Serve { kind: Kind },
     /// Status 0 to VERSION; its 4 bytes stand at the start of the output.
     Version { version: Version },
+    /// This status to a PIN entry; the 12 bytes of PIN_INFO stand at the start of the
+    /// output. Only a modem with a table of PINs answers so.
+    Pin { status: u32 },
     /// As far as the handshake goes it would be served, but what stands at this
     /// place, its service or its CID, is not known: this status.
     Unknown { status: u32, place: usize },
@@ -48,7 +50,7 @@ pub enum CommandAnswer {
     Refused(Refusal),
 }
 
-const FAILED: CommandAnswer = CommandAnswer::Failed { status: STATUS_NO_DEVICE_SUPPORT };
+pub(super) const FAILED: CommandAnswer = CommandAnswer::Failed { status: STATUS_NO_DEVICE_SUPPORT };
 
 impl Modem {
     /// A modem at its start that serves this list of services. A number outside the
@@ -309,6 +311,19 @@ mod tests {
         assert_eq!(unknown, CommandAnswer::Unknown { status: 9, place: 20 });
         assert_eq!(ask(&mut modem, &ASK_V2), FAILED);
         assert_eq!(signal(&mut modem), SIGNAL);
+    }
+
+    #[test]
+    fn pin_is_another_command_set_or_query() {
+        for command_type in [0, 1] {
+            let pin = command(BASIC_CONNECT, 4, command_type);
+            let ask = |modem: &mut Modem| modem.receive(&pin, &[1], &mut []);
+            assert_eq!(ask(&mut make(0x0200, 0x0100)), FAILED);
+            assert_eq!(ask(&mut listed(0x0200, 0x0200)), FAILED);
+            let mut modem = listed(0x0200, 0x0100);
+            assert_eq!(ask(&mut modem), CommandAnswer::Serve { kind: Kind::PinInfo });
+            assert_eq!(modem.version(), Some(Version::V1));
+        }
     }
 
     #[test]

@@ -24,5 +24,13 @@ returns-5 : tie.Need-returns-5
 unfolding payloadText
 returns-5 c = rw (c .before .before .before .before .enum-told5 .given .1) (c .before .before .put5 .ensures)
 
+returns-6 : tie.Need-returns-6
+unfolding payloadText
+returns-6 c = rw (c .before .before .before .before .enum-told6 .given .1) (c .before .before .put6 .ensures)
+
+returns-7 : tie.Need-returns-7
+unfolding payloadText
+returns-7 c = rw (c .before .before .before .before .enum-told7 .given .1) (c .before .before .put7 .ensures)
+
 pub put-payload-spec : {M : Type 1} → statement M
-put-payload-spec = tie.close (tie.spec (λ c. search needs) (λ c. search needs) (λ c. search needs) (λ c. search needs) (λ c. search needs) (λ c. search needs) (λ c. search needs) (λ c. search needs) (λ c. search needs) (λ c. search needs) (λ c. search needs) returns (λ c. search needs) returns-2 (λ c. search needs) returns-3 (λ c. search needs) returns-4 (λ c. search needs) returns-5)
+put-payload-spec = tie.close (tie.spec (λ c. search needs) (λ c. search needs) (λ c. search needs) (λ c. search needs) (λ c. search needs) (λ c. search needs) (λ c. search needs) (λ c. search needs) (λ c. search needs) (λ c. search needs) (λ c. search needs) (λ c. search needs) (λ c. search needs) (λ c. search needs) (λ c. search needs) returns (λ c. search needs) returns-2 (λ c. search needs) returns-3 (λ c. search needs) returns-4 (λ c. search needs) returns-5 (λ c. search needs) returns-6 (λ c. search needs) returns-7)

@@ -42,6 +42,7 @@ pub fn all(samples: &mut Samples) {
     offsets(samples);
     walk(samples);
     strays(samples);
+    pins(samples);
 }
 
 /// Gives the host a message: type, transaction, CID and word.
@@ -259,4 +260,17 @@ fn strays(samples: &mut Samples) {
     show(samples);
     services_reply(samples, 0, &twice());
     show(samples);
+}
+
+/// Replies on PIN change nothing at any stage, with a payload or with none.
+fn pins(samples: &mut Samples) {
+    let info = words(&[2, 1, 3]);
+    for stage in 0..4 {
+        at_stage(samples, stage);
+        for (status, payload) in [(0, &info[..]), (2, &info), (2, &[])] {
+            receive(samples, BASIC_CONNECT, [COMMAND_DONE.into(), 3, 4, status], payload);
+        }
+        receive(samples, BASIC_CONNECT, [INDICATE_STATUS.into(), 0, 4, 0], &info);
+        show(samples);
+    }
 }

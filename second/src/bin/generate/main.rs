@@ -10,6 +10,9 @@ mod hosts;
 mod messages;
 mod modems;
 mod packets;
+mod pin_entries;
+mod pin_modems;
+mod pins;
 mod qualities;
 mod random;
 mod registrations;
@@ -53,5 +56,8 @@ fn all() -> Samples {
     modems::all(&mut samples);
     runs::all(&mut samples);
     qualities::all(&mut samples);
+    pins::all(&mut samples);
+    pin_entries::all(&mut samples);
+    pin_modems::all(&mut samples);
     samples
 }

@@ -35,6 +35,7 @@ pub fn all(samples: &mut Samples) {
         samples.ask(NEXT_TRANSACTION, &[transaction], &[]);
     }
     kinds(samples);
+    pin_kinds(samples);
 }
 
 fn whole(samples: &mut Samples) {
@@ -166,6 +167,32 @@ fn kinds(samples: &mut Samples) {
         }
         for status in [1, 9] {
             samples.ask(PAYLOAD_KIND, &[COMMAND_DONE.into(), 15, status], &service);
+        }
+    }
+}
+
+/// PIN's CID with every word that counts, and beside it CIDs close to it, the other service, and
+/// the words that count there on other CIDs.
+fn pin_kinds(samples: &mut Samples) {
+    for word in [0, 1, 2, 3, 9, 0x100, 0x101, 0x102, 0x8000_0002, 0xFFFF_FFFF] {
+        for message_type in [COMMAND, COMMAND_DONE, INDICATE_STATUS] {
+            samples.ask(PAYLOAD_KIND, &[message_type.into(), 4, word], &BASIC_CONNECT);
+        }
+    }
+    for message_type in [COMMAND, COMMAND_DONE, INDICATE_STATUS] {
+        for cid in [1, 2, 3, 5, 6, 0x104, 0x8000_0004] {
+            samples.ask(PAYLOAD_KIND, &[message_type.into(), cid, 1], &BASIC_CONNECT);
+        }
+        for service in [EXTENSIONS, [0; 16]] {
+            for word in [0, 1, 2] {
+                samples.ask(PAYLOAD_KIND, &[message_type.into(), 4, word], &service);
+            }
+        }
+    }
+    for (service, cids) in [(BASIC_CONNECT, &[9, 10, 11, 16][..]), (EXTENSIONS, &[15])] {
+        for cid in cids {
+            samples.ask(PAYLOAD_KIND, &[COMMAND_DONE.into(), *cid, 2], &service);
+            samples.ask(PAYLOAD_KIND, &[COMMAND.into(), *cid, 1], &service);
         }
     }
 }

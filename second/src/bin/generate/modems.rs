@@ -12,11 +12,11 @@ use second::payload::{BASIC_CONNECT, EXTENSIONS};
 const NUMBERS: [u64; 5] = [0x0100, 0x0200, 0, 0x0101, 0x0300];
 /// Native and advertised version, and whether VERSION is in the list.
 type Modem = (u64, u64, bool);
-const MODEMS: [(u64, u64); 3] = [(0x0100, 0x0100), (0x0200, 0x0100), (0x0200, 0x0200)];
+pub const MODEMS: [(u64, u64); 3] = [(0x0100, 0x0100), (0x0200, 0x0100), (0x0200, 0x0200)];
 const ASKS: [&[u8]; 6] =
     [&[0, 1, 0, 1], &[0, 1, 0, 2], &[0, 1, 0, 3], &[0, 2, 0, 2], &[0, 1, 0], &[0, 1, 0, 2, 0]];
 /// Commands other than VERSION and DEVICE_SERVICES, known and not.
-const OTHERS: [([u8; 16], u64); 6] = [
+pub const OTHERS: [([u8; 16], u64); 6] = [
     (BASIC_CONNECT, 9),
     (BASIC_CONNECT, 10),
     (BASIC_CONNECT, 11),
@@ -40,9 +40,10 @@ pub fn all(samples: &mut Samples) {
     no_commands(samples);
     walk(samples);
     strays(samples);
+    pins(samples);
 }
 
-fn show(samples: &mut Samples) {
+pub fn show(samples: &mut Samples) {
     samples.ask(SHOW_MODEM, &[], &[]);
 }
 
@@ -270,5 +271,35 @@ fn strays(samples: &mut Samples) {
     let services = &stray_lists()[0];
     samples.ask(MAKE_MODEM, &[0x0100, 0x0200, MODEM_SIZE], services);
     samples.ask(MAKE_MODEM, &[0x0200, 0x0100, 0], services);
+    show(samples);
+}
+
+/// PIN, query and set, at every stage: before the list, as the first command, after VERSION, and
+/// after a new start. Without a table its information is not looked at.
+fn pins(samples: &mut Samples) {
+    let entry = words(&[2, 0, 0, 0, 0, 0]);
+    for (native, advertised) in MODEMS {
+        for command_type in [0, 1] {
+            make(samples, (native, advertised, true));
+            command(samples, BASIC_CONNECT, [12, 4, command_type], &entry);
+            serve_list(samples, 0);
+            command(samples, BASIC_CONNECT, [0, 4, command_type], &[]);
+            show(samples);
+            command(samples, EXTENSIONS, [4, 15, 0], &[0, 1, 0, 2]);
+            command(samples, BASIC_CONNECT, [12, 4, command_type], &entry);
+            show(samples);
+            samples.ask(MODEM_OPEN, &[], &[]);
+            command(samples, BASIC_CONNECT, [12, 4, command_type], &entry);
+        }
+    }
+    // CIDs close to it, and the other service's.
+    make(samples, (0x0200, 0x0100, true));
+    serve_list(samples, 0);
+    for (service, cid) in
+        [(BASIC_CONNECT, 3), (BASIC_CONNECT, 0x104), (EXTENSIONS, 4), ([0; 16], 4)]
+    {
+        command(samples, service, [12, cid, 1], &entry);
+    }
+    command(samples, BASIC_CONNECT, [12, 4, 2], &entry);
     show(samples);
 }

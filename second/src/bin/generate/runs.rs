@@ -73,7 +73,7 @@ fn to_host(samples: &mut Samples, head: [u32; 4], information: &[u8]) -> Answer 
 }
 
 /// Cuts, receives and gives the service and the information that came together.
-fn carry(samples: &mut Samples, head: [u32; 4], information: &[u8]) -> Vec<u8> {
+pub fn carry(samples: &mut Samples, head: [u32; 4], information: &[u8]) -> Vec<u8> {
     let mut output = service(head[2]).to_vec();
     for piece in pieces(samples, 64, head, information) {
         output.extend(samples.ask(q::RECEIVE, &[ROOM, ASSEMBLY_SIZE], &piece).output);
@@ -83,8 +83,9 @@ fn carry(samples: &mut Samples, head: [u32; 4], information: &[u8]) -> Vec<u8> {
     output
 }
 
-fn write_list(samples: &mut Samples, lists_version: u64) -> Vec<u8> {
-    let mut arguments = vec![ROOM, 1 + lists_version, 0, 0, 0, 4, 9, 10, 11, 16];
+/// The list of our modem, with VERSION or without it.
+pub fn write_list(samples: &mut Samples, lists_version: u64) -> Vec<u8> {
+    let mut arguments = vec![ROOM, 1 + lists_version, 0, 0, 0, 5, 4, 9, 10, 11, 16];
     let mut input = BASIC_CONNECT.to_vec();
     if lists_version == 1 {
         arguments.extend([0, 0, 1, 15]);

@@ -34,17 +34,27 @@ impl Samples {
         let line = line(question, arguments, input, &answer);
         assert!(line.len() <= MOST_BYTES, "line too long");
         if has_state(question) || self.seen.insert(line.clone()) {
-            let is_message = (question::WHOLE_MESSAGE..=question::SHOW_MODEM).contains(&question);
-            let text = if is_message { &mut self.messages } else { &mut self.payloads };
+            let text = if is_message(question) { &mut self.messages } else { &mut self.payloads };
             text.push_str(&line);
         }
         answer
     }
 }
 
+/// Whether a question is one of messages and of both ends.
+fn is_message(asked: u32) -> bool {
+    (question::WHOLE_MESSAGE..=question::SHOW_MODEM).contains(&asked) || is_of_pins(asked)
+}
+
 fn has_state(asked: u32) -> bool {
     (question::RECEIVE..=question::SHOW_ASSEMBLY).contains(&asked)
         || (question::MAKE_HOST..=question::SHOW_MODEM).contains(&asked)
+        || is_of_pins(asked)
+}
+
+/// Whether a question is one of the table of PINs.
+fn is_of_pins(asked: u32) -> bool {
+    (question::MAKE_PINS..=question::SHOW_PINS).contains(&asked)
 }
 
 /// A sample as docs/samples.md has it.

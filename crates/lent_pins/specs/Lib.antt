@@ -1,0 +1,2 @@
+pub mod LentPins
+pub mod LentModems

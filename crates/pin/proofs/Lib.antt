@@ -1,0 +1,4 @@
+pub mod PinInfoLaws
+pub mod SetPinParts
+pub mod SetPinLaws
+pub mod SetPinTrip

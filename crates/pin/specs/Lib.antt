@@ -1,0 +1,4 @@
+pub mod PinInfo
+pub mod PinInfoClaims
+pub mod SetPin
+pub mod SetPinClaims

@@ -1,0 +1,2 @@
+pub mod PinModem
+pub mod Claims
