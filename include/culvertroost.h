@@ -82,9 +82,9 @@ extern "C" {
 #endif
 
 /* This library's own version. A call, a struct or a number that changes raises the first two. */
-#define CVR_LIBRARY_VERSION "0.6.0"
+#define CVR_LIBRARY_VERSION "0.7.0"
 #define CVR_LIBRARY_VERSION_MAJOR 0
-#define CVR_LIBRARY_VERSION_MINOR 6
+#define CVR_LIBRARY_VERSION_MINOR 7
 #define CVR_LIBRARY_VERSION_PATCH 0
 
 /* ---- refusals ---------------------------------------------------------------------------------- */
@@ -131,7 +131,10 @@ enum cvr_refusal_number {
     CVR_MISALIGNED_OFFSET = 17,
     /* An offset other than 0 beside size 0; given only where CVR_ZERO_SIZE_STRICT is chosen, and by
      * cvr_pin_enter, which is strict. Place: the offset field. */
-    CVR_OFFSET_WITH_ZERO_SIZE = 18
+    CVR_OFFSET_WITH_ZERO_SIZE = 18,
+    /* A line of a station's trace without the form of one; the replay program gives it, no function
+     * here. Place: the first column, from 0, where no good line can go on or end. */
+    CVR_BAD_LINE = 19
 };
 
 /* The faults of an offset/size pair are judged at its offset field, in this order: WRONG_SIZE (over its
@@ -145,7 +148,7 @@ static inline const char *cvr_refusal_name(uint32_t number)
         "NO_REFUSAL", "TOO_SHORT", "WRONG_LENGTH", "UNKNOWN", "WRONG_FRAGMENT", "TOO_LONG",
         "OFFSET_IN_FIXED_PART", "PAST_END", "WRONG_SIZE", "OUTSIDE_TABLE", "CONTRADICTION",
         "OUTPUT_TOO_SMALL", "WRONG_VERSION", "ABOVE_HOST", "VERSION_NOT_LISTED", "WRONG_COUNT",
-        "WRONG_TRANSFER_SIZE", "MISALIGNED_OFFSET", "OFFSET_WITH_ZERO_SIZE"
+        "WRONG_TRANSFER_SIZE", "MISALIGNED_OFFSET", "OFFSET_WITH_ZERO_SIZE", "BAD_LINE"
     };
     return number < sizeof names / sizeof names[0] ? names[number] : "?";
 }

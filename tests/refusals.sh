@@ -26,14 +26,15 @@ for other in protocol header bindings names; do
     diff "$work/page" "$work/$other" || { echo "refusals: the page (<) and $other (>) differ"; exit 1; }
 done
 
-# The examples: `00*N` written out, and what is answered below each.
+# The examples: `00*N` written out, and what is answered below each. A row of `replay` begins with a digit as a
+# line of a trace does, but has over three columns. In any answer that refuses, the number is the last column
+# but one.
 awk -v work="$work" '
     /^## / { if (number && !met) { print "refusals: no example of " number; exit 1 } number = $2; met = 0 }
     !/^    / { next }
-    { line = substr($0, 5) }
-    line ~ /^refused\t/ {
-        split(line, answer, "\t")
-        if (answer[2] == number) met = 1
+    { line = substr($0, 5); columns = split(line, column, "\t") }
+    column[1] == "refused" || (line ~ /^[0-9]/ && columns > 3) {
+        if (column[columns - 1] == number) met = 1
         print line >(work "/" asked ".want")
         next
     }
@@ -43,11 +44,20 @@ awk -v work="$work" '
             gsub(/ /, "00", bytes)
             line = substr(line, 1, RSTART - 1) bytes
         }
-        asked = line ~ /^cvr_/ ? "refusals" : "list"
+        asked = line ~ /^cvr_/ ? "refusals" : line ~ /^[0-9]/ ? "replay" : "list"
         print line >(work "/" asked ".in")
     }
     END { if (!met) { print "refusals: no example of " number; exit 1 } }
 ' "$page"
+
+# replayed: each line of the input as a trace of its own, without the header row
+replayed() {
+    while IFS= read -r line; do
+        printf '%s\n' "$line" | target/bin/replay | tail -n +2
+    done
+}
+
 target/bin/list <"$work/list.in" | diff "$work/list.want" - || { echo 'refusals: list answers otherwise (>)'; exit 1; }
+replayed <"$work/replay.in" | diff "$work/replay.want" - || { echo 'refusals: replay answers otherwise (>)'; exit 1; }
 "$work/refusals" <"$work/refusals.in" | diff "$work/refusals.want" - || { echo 'refusals: the library answers otherwise (>)'; exit 1; }
 echo "refusals: ok, $(wc -l <"$work/page") numbers, $(cat "$work"/*.in | wc -l) examples"

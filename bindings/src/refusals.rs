@@ -34,4 +34,5 @@ numbers! {
     WRONG_TRANSFER_SIZE = 16,
     MISALIGNED_OFFSET = 17,
     OFFSET_WITH_ZERO_SIZE = 18,
+    BAD_LINE = 19,
 }

@@ -43,7 +43,7 @@ pub fn receive(
 /// Whether a piece has one of the six whole types. A shorter one than a type reads
 /// as type 0, which is none of them.
 #[inline]
-fn is_whole(piece: &[u8]) -> bool {
+pub(crate) fn is_whole(piece: &[u8]) -> bool {
     message::whole_length(word(piece, MESSAGE_TYPE)).is_some()
 }
 

@@ -1,6 +1,7 @@
 //! A second, independent implementation of the MBIM scope: payload readers
-//! and writers, fragments, the version handshake, PIN entry and signal readings.
-//! It answers every input without a panic, and only `flat` allocates.
+//! and writers, fragments, the version handshake, PIN entry, signal readings and the
+//! replay of traces. It answers every input without a panic; only `flat`, `rows` and
+//! `replay` allocate.
 
 mod bytes;
 mod pair;
@@ -21,8 +22,11 @@ pub mod pin_entry;
 pub mod pin_memory;
 pub mod refusal;
 pub mod registration;
+pub mod replay;
+pub mod rows;
 pub mod signal_quality;
 pub mod signal_state;
+pub mod trace;
 pub mod version;
 pub mod version_info;
 

@@ -37,8 +37,10 @@ pub const TRANSFER_SIZE: u32 = 16;
 pub const OFFSET_MISALIGNED: u32 = 17;
 /// Offset not 0 with size 0.
 pub const OFFSET_WITH_ZERO_SIZE: u32 = 18;
+/// A line of a trace without the form of one; its place is a column.
+pub const BAD_LINE: u32 = 19;
 
-/// A refusal: the number of its rule and a byte offset.
+/// A refusal: the number of its rule and a byte offset, in a line a column.
 #[derive(Clone, Copy, Debug, PartialEq, Eq)]
 pub struct Refusal {
     pub number: u32,

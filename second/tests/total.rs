@@ -3,6 +3,8 @@
 
 use second::flat::{question, Second, ASSEMBLY_SIZE, PINS_SIZE};
 use second::pin_memory;
+use second::replay::Replay;
+use second::trace::LONGEST_LINE;
 
 struct Random(u64);
 
@@ -217,5 +219,47 @@ fn damaged_streams_are_answered() {
         assert!(!is_whole || shown == before);
         let empty = answer.numbers[0] != 0 || answer.numbers[1] == 3;
         assert!(is_whole || !empty || shown.output == [0; 4144]);
+    }
+}
+
+/// Random bytes, or the line of a random piece, now and then damaged.
+fn line(random: &mut Random) -> Vec<u8> {
+    if random.below(4) == 0 {
+        return (0..random.below(700)).map(|_| random.next() as u8).collect();
+    }
+    let input = random.input();
+    let digits: String = input.iter().take(256).map(|byte| format!("{byte:02x}")).collect();
+    let sender = if random.below(2) == 0 { 'H' } else { 'D' };
+    let counter = random.number() as u32;
+    let mut line = format!("{counter}\t{sender}\t{digits}\n").into_bytes();
+    if random.below(4) == 0 {
+        let place = random.below(line.len() as u64) as usize;
+        line[place] ^= 1 << random.below(8);
+    }
+    line
+}
+
+/// Every line has rows, which begin with its number. Of a bad line one row comes, and nothing
+/// but its beginning counts.
+#[test]
+fn any_line_is_replayed() {
+    let mut random = Random(0x2468_ACE0_1357_9BDF);
+    let mut replay = Replay::new();
+    for number in 1..=40_000 {
+        let line = line(&mut random);
+        let mut text = String::new();
+        replay.line(&line, &mut text);
+        assert!(text.ends_with('\n') && text.len() > 1);
+        let start = format!("{number}\t");
+        assert!(text.lines().all(|row| row.starts_with(&start)));
+        let bad = text.strip_prefix(&format!("{start}\t\tbad line\t19\t"));
+        let Some(column) = bad.map(|column| column.trim_end().parse::<usize>().unwrap()) else {
+            assert!(line.ends_with(b"\n") && line.len() <= LONGEST_LINE);
+            continue;
+        };
+        assert!(column <= line.len() && column < LONGEST_LINE);
+        let mut again = String::new();
+        Replay::new().line(&line[..line.len().min(LONGEST_LINE)], &mut again);
+        assert_eq!(again, format!("1\t\t\tbad line\t19\t{column}\n"));
     }
 }

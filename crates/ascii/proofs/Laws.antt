@@ -9,9 +9,9 @@ use native.Mathlib.Numerals.{add-one}
 use native.Mathlib.Omega.{arith}
 use borrow.Author.Tests.{lt-ltb, le-ltb, eq-eqb, ne-eqb}
 use lib.Dec.{ltb, eqb}
-use lib.ListN.{length, length-append, length-set, getD, set, take, drop, drop-of-length-le}
+use lib.ListN.{length, length-append, length-set, length-drop, getD, set, take, drop, drop-of-length-le}
 use lib.Seq.{sets, set-split, drop-at, drop-cons, length-take-le}
-use Rattle.wire.proofs.Laws.{sets-append, sets-then}
+use Rattle.wire.proofs.Laws.{sets-append, sets-then, sets-over, take-over}
 use Rattle.ascii.specs.Ascii.{decimalIn, valueFrom, hexDigit, isHex, hexValue, hexRun, unhexed, hexPair, hexedIn, agreement, through}
 
 -- what holds of both sides of a test holds of what it picks
@@ -200,3 +200,19 @@ pub run-le : (s : List ℕ) → hexRun s ≤ length s
 unfolding hexRun
 run-le [] = omega arith
 run-le (b ∷ s) = by-test (λ (k : ℕ). k ≤ suc (length s)) (isHex b) (omega (arith, run-le s)) (omega arith)
+
+-- ---- the bytes that n digits of a text spell, from a place of it on, put at the front of a buffer
+
+part-length : (s : List ℕ) (from n : ℕ) → from + n ≤ length s → length (take n (drop from s)) ≡ n
+part-length s from n h = length-take-le n (drop from s) (rw (length-drop from s) (omega arith))
+
+pub spelled-front : (s : List ℕ) (from n : ℕ) (p : List ℕ) {q : List ℕ} → from + n ≤ length s → n / 2 ≤ length p
+    → q ≡ sets p 0 (unhexed (length (take (from + n - from) (drop from s)) / 2) (take (from + n - from) (drop from s)))
+    → take (n / 2) q ≡ unhexed (n / 2) (take n (drop from s))
+spelled-front s from n p h l g =
+    let m : from + n - from ≡ n = omega arith in
+    let d = take n (drop from s) in
+    let x : length d ≡ n = part-length s from n h in
+    let f : unhexed (length d / 2) d ≡ unhexed (n / 2) d = ap (λ (k : ℕ). unhexed (k / 2) d) x in
+    let y : length (unhexed (n / 2) d) ≡ n / 2 = length-unhexed (n / 2) d in
+    ap (take (n / 2)) ((rw m at g) ∙ ap (sets p 0) f ∙ sets-over (unhexed (n / 2) d) p (omega arith)) ∙ take-over (unhexed (n / 2) d) p (n / 2) y

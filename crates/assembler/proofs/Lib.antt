@@ -2,3 +2,4 @@ pub mod Laws
 pub mod View
 pub mod Left
 pub mod Clean
+pub mod Delivered

@@ -1,7 +1,8 @@
 -- The assembler (document 01, "Messages and fragments"): "the assembly holds 4,096 bytes, all zero when empty, and zero past those gathered".
 -- In this order: assemblies; what a feed gives; the bytes of a piece gathered; how a first piece is judged, a later piece, any piece; the whole step.
 -- That every assembly which feeding reaches is zero past the bytes gathered is a theorem (proofs/Clean).
-use Prim.Native.Nat.{ℕ, _+_, _-_}
+use Prim.Native.Nat.{ℕ, _+_, _-_, _≤_}
+use mathlib.Core.Path.{_≡_}
 use mathlib.Core.Bool.{Bool, false, not, cond, _&&_}
 use mathlib.Core.List.{List, [], _∷_, _++_}
 use lib.Dec.{ltb, leb, eqb}
@@ -161,3 +162,9 @@ lentStepOf p bytes s room =
       answer = Refused (refusal outputTooSmall mostInformation);
       information = [];
     } (stepOf (assemblyOf p (take mostInformation bytes)) s room)
+
+-- the information of a complete message is as long as its answer says, and has room (proofs/Delivered)
+abbrev pub Delivers : Answer → List ℕ → ℕ → Type 0
+Delivers (Complete m n dropped) information room = (length information ≡ n) × (n ≤ room)
+Delivers (Pending dropped) information room = Unit
+Delivers (Refused r) information room = Unit

@@ -1,8 +1,10 @@
 -- The door for a received piece (document 01, "Messages and fragments"): whole messages by their types, which touch no assembly; any other piece is a fragment.
 -- In this order: what a whole message shows; what a fed piece shows; any piece; a run of pieces.
-use Prim.Native.Nat.{ℕ}
+use Prim.Native.Nat.{ℕ, _≤_}
+use mathlib.Core.Path.{_≡_}
 use mathlib.Core.Bool.{cond}
 use mathlib.Core.List.{List, [], _∷_}
+use lib.ListN.{length}
 use Rattle.wire.specs.Numbers.{u32At}
 use Rattle.message.specs.Message.{wholeOf, isWholePiece}
 use Rattle.message.specs.declared.Whole.{Whole}
@@ -15,6 +17,7 @@ use Rattle.assembler.specs.declared.Answer.the-variants as answer
 use Rattle.assembler.specs.declared.door.Received.{Received}
 use Rattle.assembler.specs.declared.door.Received.the-variants as received
 use Rattle.assembler.specs.declared.door.Receipt.{Receipt}
+use Rattle.assembler.specs.declared.door.ReceiptInPlace.{ReceiptInPlace}
 
 -- ---- a whole message: its type, its transaction and its one number
 
@@ -39,8 +42,12 @@ pub record Receiving : Type 0 where
   pub received : Received
   pub information : List ℕ
 
+-- what the two forms of receiving return of it
 abbrev pub byValue : Receiving → Receipt
 byValue x = record { assembly = x .assembly; received = x .received }
+
+abbrev pub inPlace : Receiving → ReceiptInPlace
+inPlace x = record { progress = x .assembly .progress; received = x .received }
 
 -- a whole message, good or not, leaves the assembly as it was
 abbrev pub wholeReceived : Assembly → List ℕ → Receiving
@@ -51,6 +58,13 @@ fedReceived s x = record { assembly = x .assembly; received = fedShown s (x .ans
 
 unfoldable pub receiveOf : Assembly → List ℕ → ℕ → Receiving
 receiveOf a s room = cond (isWholePiece s) (wholeReceived a s) (fedReceived s (stepOf a s room))
+
+-- the information of a complete message is as long as its answer says, and has room (proofs/Delivered)
+abbrev pub Delivered : Received → List ℕ → ℕ → Type 0
+Delivered (received.Complete m n dropped) information room = (length information ≡ n) × (n ≤ room)
+Delivered (received.Whole type transaction word) information room = Unit
+Delivered (received.Pending type transaction dropped) information room = Unit
+Delivered (received.Refused r) information room = Unit
 
 -- ---- a run of pieces: what a caller sees of each, and the assembly at the end
 

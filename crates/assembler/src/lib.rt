@@ -26,7 +26,7 @@ ghost use lib.ListN.{length, take, replicate};
 ghost use Rattle.wire.specs.Output.{over};
 ghost use Rattle.protocol.specs.Verdict.{judge};
 ghost use Rattle.message.specs.Message.{firstLength};
-ghost use Rattle.assembler.specs.Assembly.{assemblyOf, empty, byValue, inPlace, refused, grownProgress, gatherOf, begunProgress, begunBytes, continues, joinRules, joinOf, judgedOf, stepOf, lentStepOf};
+ghost use Rattle.assembler.specs.Assembly.{assemblyOf, empty, byValue, inPlace, refused, grownProgress, gatherOf, begunProgress, begunBytes, continues, joinRules, joinOf, judgedOf, stepOf, lentStepOf, Delivers};
 
 // How far the pending message has come: 01's assembly without its buffer. Total 0 is no message.
 pub struct Progress {
@@ -141,6 +141,7 @@ pub fn feed_in_place(
     ensures { λ r. ⌜ r ≡ inPlace (stepOf (assemblyOf progress (now (bytes .entry))) (now (piece .entry)) (length (now (out .entry)))) ⌝ }
     ensures { λ _. ⌜ now (bytes .exit) ≡ stepOf (assemblyOf progress (now (bytes .entry))) (now (piece .entry)) (length (now (out .entry))) .assembly .bytes ⌝ }
     ensures { λ _. ⌜ now (out .exit) ≡ over (stepOf (assemblyOf progress (now (bytes .entry))) (now (piece .entry)) (length (now (out .entry))) .information) (now (out .entry)) ⌝ }
+    ensures { λ r. ⌜ Delivers (r .answer) (stepOf (assemblyOf progress (now (bytes .entry))) (now (piece .entry)) (length (now (out .entry))) .information) (length (now (out .entry))) ⌝ }
 {
     feed_whole(progress, &mut bytes[..], piece, out)
 }

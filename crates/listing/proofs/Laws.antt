@@ -1,39 +1,18 @@
--- The payload that digits spell, and a line's part of a chunk.
+-- A line's part of a chunk.
 -- Assumes nothing.
-use mathlib.Core.Path.{_≡_, refl, sym, ap, _∙_}
-use mathlib.Core.List.{List, [], _++_, append-nil}
-use Prim.Native.Nat.{ℕ, _+_, _-_, _/_, _≤_, _<_}
-use native.Mathlib.Nat.{add-zero}
-use native.Mathlib.Numerals.{add-one}
+use mathlib.Core.Path.{_≡_, ap, _∙_}
+use mathlib.Core.List.{List, []}
+use Prim.Native.Nat.{ℕ, _+_, _-_, _≤_, _<_}
 use native.Mathlib.Omega.{arith}
 use borrow.Author.Tests.{lt-leb}
 use lib.Dec.{leb}
-use lib.ListN.{length, length-append, length-drop, set, take, drop, drop-of-length-le}
-use lib.Seq.{sets, length-take-le}
-use Rattle.wire.specs.Output.{over, fitted}
-use Rattle.wire.proofs.Laws.{sets-append, sets-over, take-over, take-rest, fitted-take}
-use Rattle.ascii.specs.Ascii.{decimal, unhexed, through}
-use Rattle.ascii.proofs.Laws.{by-test, length-decimal, length-unhexed, through-le, through-some}
+use lib.ListN.{length, length-drop, take, drop, drop-of-length-le}
+use Rattle.wire.specs.Output.{fitted}
+use Rattle.wire.proofs.Laws.{take-rest, fitted-take}
+use Rattle.ascii.specs.Ascii.{through}
+use Rattle.ascii.proofs.Laws.{by-test, through-le, through-some}
 use Rattle.listing.specs.Lines.{lineLength, lineBytes, collectOf}
 use Rattle.listing.specs.declared.lines.Collected.{Collected}
-
--- ---- the payload that the digits of a line spell
-
-part-length : (line : List ℕ) (from n : ℕ) → from + n ≤ length line → length (take n (drop from line)) ≡ n
-part-length line from n h = length-take-le n (drop from line) (rw (length-drop from line) (omega arith))
-
-pub spelled-front : (line : List ℕ) (from n : ℕ) (p : List ℕ) {q : List ℕ} → from + n ≤ length line → n ≤ 16384 → 8192 ≡ length p
-    → q ≡ sets p 0 (unhexed (length (take (from + n - from) (drop from line)) / 2) (take (from + n - from) (drop from line)))
-    → take (n / 2) q ≡ unhexed (n / 2) (take n (drop from line))
-spelled-front line from n p h l e g =
-    let m : from + n - from ≡ n = omega arith in
-    let d = take n (drop from line) in
-    let x : length d ≡ n = part-length line from n h in
-    let f : unhexed (length d / 2) d ≡ unhexed (n / 2) d = ap (λ (k : ℕ). unhexed (k / 2) d) x in
-    let y : length (unhexed (n / 2) d) ≡ n / 2 = length-unhexed (n / 2) d in
-    ap (take (n / 2)) ((rw m at g) ∙ ap (sets p 0) f ∙ sets-over (unhexed (n / 2) d) p (omega arith)) ∙ take-over (unhexed (n / 2) d) p (n / 2) y
-
--- ---- a line's part of a chunk
 
 pub line-length : (chunk : List ℕ) (from : ℕ) {n : ℕ} → n ≡ through (take (length chunk - from) (drop from chunk)) 10 → n ≡ lineLength chunk from
 unfolding lineLength

@@ -75,7 +75,7 @@ fn payload_room() -> [u8; 8192]
 }
 
 // The rows of a payload of a kind, at any place of any output.
-fn put_payload(
+pub fn put_payload(
     kind: ListingKind,
     version: Version,
     payload: &[u8],

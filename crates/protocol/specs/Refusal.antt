@@ -79,3 +79,7 @@ misalignedOffset = 17
 -- order 1: an offset other than 0 beside size 0
 abbrev pub offsetWithZeroSize : ℕ
 offsetWithZeroSize = 18
+
+-- order 5: a bad line; its place is "the first column, from 0, where no good line can go on or end"
+abbrev pub badLine : ℕ
+badLine = 19

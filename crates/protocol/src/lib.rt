@@ -14,7 +14,7 @@ pub enum Version {
     V2,
 }
 
-// 01's refusal: a number of its table and a place, a byte offset where 01 says no other.
+// 01's refusal: a number of its table and a place, a byte offset where 01 or 02 says no other.
 #[repr(C)]
 pub struct Refusal {
     pub number: u32,
@@ -57,6 +57,8 @@ pub const WRONG_TRANSFER_SIZE: u32 = 16;
 pub const MISALIGNED_OFFSET: u32 = 17;
 
 pub const OFFSET_WITH_ZERO_SIZE: u32 = 18;
+
+pub const BAD_LINE: u32 = 19;
 
 // The most information bytes of a message.
 pub const MOST_INFORMATION: usize = 4096;

@@ -1,28 +1,29 @@
 -- A request line that is refused: its column is where its longest good beginning ends.
 -- Assumes nothing.
 use mathlib.Core.Path.{_≡_, refl, sym, ap, _∙_}
-use mathlib.Core.Logic.{_⊎_, inl, inr, ⊎-elim}
-use mathlib.Core.Bool.{Bool, true, false, cond, not}
+use mathlib.Core.Logic.{inl, inr}
 use mathlib.Core.List.{List, [], _∷_, _++_}
-use Prim.Native.Nat.{ℕ, zero, suc, _+_, _%_, _≤_, _<_}
+use Prim.Native.Nat.{ℕ, _+_}
 use native.Mathlib.Omega.{arith}
-use borrow.Author.Tests.{eqb-true, eqb-false, eq-eqb, ne-eqb, lt-ltb, le-ltb, ltb-true, ltb-false}
-use lib.Dec.{eqb, ltb}
-use lib.ListN.{length, take, drop, getD, List·getD-eq-default}
+use lib.ListN.{drop}
 use lib.Seq.{drop-drop}
 use Rattle.ascii.specs.Ascii.{lineFeed, ascii, agreement}
 use Rattle.protocol.specs.declared.Version.{Version}
 use Rattle.protocol.specs.declared.Version.the-variants.{V1, V2}
-use Rattle.text_parts.specs.Parts.{Longest, Reach, whole, stops, Right, further}
+use Rattle.text_parts.specs.Parts.{Reach, whole, stops, Right, further}
 use Rattle.text_parts.specs.Words.{Worded, WordRow, word, reachFrom}
-use Rattle.text_parts.specs.Hex.{HexLine, reachHexLine, HexDigits}
+use Rattle.text_parts.specs.Hex.{HexLine, reachHexLine, HexDigits, lineEndAt, endColumn}
 use Rattle.text_parts.proofs.Parts.{same-right, further-zero, further-further}
-use Rattle.text_parts.proofs.Hex.{hex-right, hex-said, said-hex, hex-at}
-use Rattle.request_line.specs.Request.{kindWords, versionWords, kindOf, kindLength, versionOf, digitsAt, payloadAt, byVersion, byKind, requestOf}
+use Rattle.text_parts.proofs.Hex.{hex-right, hex-said, said-hex}
+use Rattle.text_parts.proofs.Ends.{end-column}
+use Rattle.request_line.specs.Request.{kindWords, versionWords, kindOf, kindLength, versionOf, payloadBy, payloadAt, byVersion, byKind, requestOf}
 use Rattle.request_line.specs.declared.ListingKind.{ListingKind}
 use Rattle.request_line.specs.declared.ListingKind.the-variants.{PacketService, Version as VersionKind, Registration, SignalState, DeviceServices, SetPin, PinInfo}
 use Rattle.request_line.specs.declared.Request.{Request}
 use Rattle.request_line.specs.declared.Request.the-variants.{Payload, BadLine}
+use Rattle.text_parts.specs.declared.LineEnd.{LineEnd}
+use Rattle.text_parts.specs.declared.LineEnd.the-variants.{Digits}
+use Rattle.text_parts.specs.declared.LineEnd.the-variants as end
 use Rattle.text_parts.specs.declared.Reached.{Reached}
 use Rattle.text_parts.specs.declared.Reached.the-variants.{Word, Column}
 use Rattle.request_line.specs.Good.{kindText, versionText, mostDigits, Good}
@@ -105,42 +106,13 @@ good-row s g = rw (g .4) (said-kind (g .0) (versionText (g .1) ++ (g .2 ++ (line
 
 -- ---- the column
 
-odd-even : (n : ℕ) → eqb (n % 2) 0 ≡ not (eqb (n % 2) 1)
-odd-even n = go (eqb (n % 2) 1) refl
-  where
-    go : (t : Bool) → eqb (n % 2) 1 ≡ t → eqb (n % 2) 0 ≡ not t
-    go true e = let f = eqb-true (n % 2) 1 e in ne-eqb (n % 2) 0 (λ z. omega arith)
-    go false e = let f = eqb-false (n % 2) 1 e in eq-eqb (n % 2) 0 (omega arith)
-
-inside : (s : List ℕ) (e : ℕ) → getD s e 0 ≡ 10 → e < length s
-inside s e f = go (ltb e (length s)) refl
-  where
-    go : (t : Bool) → ltb e (length s) ≡ t → e < length s
-    go true h = ltb-true e (length s) h
-    go false h = let z = List·getD-eq-default s 0 {n = e} (ltb-false e (length s) h) in absurd (omega (arith, z))
-
-last-feed : (s : List ℕ) (e : ℕ) → getD s e 0 ≡ 10 → ltb (e + 1) (length s) ≡ not (eqb (length s) (e + 1))
-last-feed s e f = go (eqb (length s) (e + 1)) refl
-  where
-    go : (t : Bool) → eqb (length s) (e + 1) ≡ t → ltb (e + 1) (length s) ≡ not t
-    go true a = let k = eqb-true (length s) (e + 1) a in le-ltb (e + 1) (length s) (omega arith)
-    go false a = let k = eqb-false (length s) (e + 1) a in lt-ltb (e + 1) (length s) (omega (arith, inside s e f))
-
 payload-column : (s : List ℕ) (kind : ListingKind) (v : Version) (from : ℕ) → columnOf (payloadAt s kind v from) ≡ further from (reachHexLine mostDigits (drop from s))
-unfolding payloadAt digitsAt
-payload-column s kind v from =
-    let n = digitsAt s from in
-    go (eqb (n % 2) 1) (eqb (n % 2) 0) (eqb (getD s (from + n) 0) 10) (eqb (length s) (from + n + 1)) (ltb (from + n + 1) (length s)) n (odd-even n)
-    (λ b. last-feed s (from + n) (eqb-true (getD s (from + n) 0) 10 b))
-    ∙ sym (hex-at mostDigits from s n refl)
+unfolding payloadAt
+payload-column s kind v from = shown (lineEndAt mostDigits s from) ∙ end-column mostDigits s from
   where
-    go : (a a′ b c c′ : Bool) (n : ℕ) → a′ ≡ not a → (b ≡ true → c′ ≡ not c)
-        → columnOf (cond a (BadLine (from + n)) (cond (not b) (BadLine (from + n)) (cond (not c) (BadLine (from + n + 1)) (Payload kind v from n))))
-        ≡ cond a′ (cond b (cond c′ (stops (from + n + 1)) whole) (stops (from + n))) (stops (from + n))
-    go true a′ b c c′ n p q = rw p
-    go false a′ false c c′ n p q = rw p
-    go false a′ true true c′ n p q = rw (p, q refl)
-    go false a′ true false c′ n p q = rw (p, q refl)
+    shown : (x : LineEnd) → columnOf (payloadBy kind v from x) ≡ endColumn x
+    shown (Digits n) = refl
+    shown (end.Column c) = refl
 
 versions-differ : AllDiffer versionWords
 unfolding agreement

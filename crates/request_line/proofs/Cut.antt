@@ -1,42 +1,25 @@
 -- What is kept of a line decides: a line and its front of at least 16,407 bytes ask for the same.
 -- Assumes nothing.
 use mathlib.Core.Path.{_≡_, refl, ap, _∙_}
-use mathlib.Core.Bool.{false}
 use mathlib.Core.List.{List}
 use Prim.Native.Nat.{ℕ, _+_, _≤_}
 use native.Mathlib.Omega.{arith}
-use borrow.Author.Tests.{ne-eqb}
-use lib.Dec.{eqb}
-use lib.ListN.{length, getD, take}
-use lib.Seq.{getD-take, length-take-le}
-use Rattle.ascii.specs.Ascii.{hexRun}
+use lib.ListN.{length, take}
 use Rattle.protocol.specs.declared.Version.{Version}
 use Rattle.text_parts.specs.Words.{reachFrom}
 use Rattle.text_parts.specs.declared.Reached.{Reached}
 use Rattle.text_parts.specs.declared.Reached.the-variants.{Word, Column}
-use Rattle.text_parts.proofs.Cut.{part-front, reach-cut}
-use Rattle.request_line.specs.Request.{kindWords, versionWords, kindOf, kindLength, versionOf, digitsAt, payloadAt, byVersion, byKind, requestOf}
+use Rattle.text_parts.proofs.Cut.{reach-cut}
+use Rattle.text_parts.proofs.Ends.{end-cut}
+use Rattle.request_line.specs.Good.{mostDigits}
+use Rattle.request_line.specs.Request.{kindWords, versionWords, kindOf, kindLength, versionOf, payloadBy, payloadAt, byVersion, byKind, requestOf}
 use Rattle.request_line.specs.declared.ListingKind.{ListingKind}
 use Rattle.request_line.specs.declared.ListingKind.the-variants.{PacketService, Version as VersionKind, Registration, SignalState, DeviceServices, SetPin, PinInfo}
-use Rattle.request_line.proofs.Requests.{digits-le}
-
--- ---- digits of a line that is cut
-
-digits-cut : (from n : ℕ) (s : List ℕ) → from + 16384 ≤ n → digitsAt (take n s) from ≡ digitsAt s from
-unfolding digitsAt
-digits-cut from n s h = ap hexRun (part-front from 16384 n s h)
 
 payload-cut : (from n : ℕ) (s : List ℕ) (kind : ListingKind) (version : Version) → from + 16386 ≤ n → n ≤ length s
     → payloadAt (take n s) kind version from ≡ payloadAt s kind version from
 unfolding payloadAt
-payload-cut from n s kind version h l =
-    let d = digits-le s from in
-    let c : digitsAt (take n s) from ≡ digitsAt s from = digits-cut from n s (omega arith) in
-    let g : getD (take n s) (from + digitsAt s from) 0 ≡ getD s (from + digitsAt s from) 0 = getD-take n s (from + digitsAt s from) 0 (omega arith) in
-    let m : length (take n s) ≡ n = length-take-le n s l in
-    let x : eqb n (from + digitsAt s from + 1) ≡ false = ne-eqb n (from + digitsAt s from + 1) (λ e. omega arith) in
-    let y : eqb (length s) (from + digitsAt s from + 1) ≡ false = ne-eqb (length s) (from + digitsAt s from + 1) (λ e. omega arith) in
-    rw (c, g, m, x, y)
+payload-cut from n s kind version h l = ap (payloadBy kind version from) (end-cut mostDigits from n s (omega arith) l)
 
 -- ---- what a long line asks for, cut or whole
 

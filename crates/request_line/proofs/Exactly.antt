@@ -1,24 +1,18 @@
 -- A line is accepted exactly where it is good, with its parts; else the column is where its longest good beginning ends.
 -- Assumes nothing.
 use mathlib.Core.Path.{_≡_, refl, sym, ap, _∙_}
-use mathlib.Core.Logic.{_↔_}
-use mathlib.Core.Bool.{false}
 use mathlib.Core.List.{List, [], _∷_, _++_}
-use Prim.Native.Nat.{ℕ, _+_, _%_}
-use native.Mathlib.Omega.{arith}
-use borrow.Author.Tests.{eq-eqb, ne-eqb}
-use lib.Dec.{eqb}
-use lib.ListN.{length, take, drop, getD, length-append, length-drop}
-use lib.Seq.{getD-append-seam, getD-drop}
-use Rattle.ascii.specs.Ascii.{lineFeed, agreement, hexRun}
+use Prim.Native.Nat.{ℕ, _+_}
+use lib.ListN.{length, drop}
+use Rattle.ascii.specs.Ascii.{lineFeed, agreement}
 use Rattle.protocol.specs.declared.Version.{Version}
 use Rattle.protocol.specs.declared.Version.the-variants.{V1, V2}
 use Rattle.text_parts.specs.Parts.{Longest}
 use Rattle.text_parts.specs.Hex.{HexDigits}
 use Rattle.text_parts.proofs.Parts.{longest-one}
-use Rattle.text_parts.proofs.Hex.{hex-found}
+use Rattle.text_parts.proofs.Ends.{end-found}
 use Rattle.request_line.specs.Good.{kindText, versionText, mostDigits, textOf, Good, GoodWith}
-use Rattle.request_line.specs.Request.{digitsAt, payloadAt, requestOf}
+use Rattle.request_line.specs.Request.{payloadBy, payloadAt, requestOf}
 use Rattle.request_line.specs.declared.ListingKind.{ListingKind}
 use Rattle.request_line.specs.declared.ListingKind.the-variants.{PacketService, Version as VersionKind, Registration, SignalState, DeviceServices, SetPin, PinInfo}
 use Rattle.request_line.specs.declared.Request.{Request}
@@ -30,14 +24,8 @@ use Rattle.request_line.specs.Claims.{AcceptedExactly, BadExactly}
 
 module _ (hex : List ℕ) (p : HexDigits mostDigits hex) where
   payload-found : (s : List ℕ) (kind : ListingKind) (v : Version) (from : ℕ) → drop from s ≡ hex ++ (lineFeed ∷ []) → payloadAt s kind v from ≡ Payload kind v from (length hex)
-  unfolding payloadAt digitsAt
-  payload-found s kind v from e =
-      let d : digitsAt s from ≡ length hex = ap (λ (u : List ℕ). hexRun (take mostDigits u)) e ∙ hex-found mostDigits hex p in
-      let f : getD s (from + length hex) 0 ≡ lineFeed =
-      sym (getD-drop from s (length hex) 0) ∙ ap (λ (u : List ℕ). getD u (length hex) 0) e ∙ getD-append-seam hex lineFeed [] 0 in
-      let n : length s ≡ from + length hex + 1 = omega (arith, ap length e, length-drop from s, length-append hex (lineFeed ∷ [])) in
-      let even : eqb (length hex % 2) 1 ≡ false = ne-eqb (length hex % 2) 1 (λ o. omega (arith, p .even)) in
-      rw (d, even, f, n, eq-eqb (from + length hex + 1) (from + length hex + 1) refl)
+  unfolding payloadAt
+  payload-found s kind v from e = ap (payloadBy kind v from) (end-found mostDigits hex p s from e)
 
   request-found : (kind : ListingKind) (v : Version) → requestOf (textOf kind v hex) ≡ Payload kind v (length (kindText kind) + length (versionText v)) (length hex)
   unfolding requestOf agreement

@@ -1,12 +1,12 @@
 -- How a request line is read: by its words, and then by its digits.
 -- In this order: the words; the digits; what a line asks for.
-use Prim.Native.Nat.{ℕ, _+_, _%_}
-use mathlib.Core.Bool.{Bool, cond, not}
+use Prim.Native.Nat.{ℕ, _+_}
+use mathlib.Core.Bool.{cond}
 use mathlib.Core.List.{List, [], _∷_}
 use lib.Dec.{eqb}
-use lib.ListN.{length, getD, take, drop}
-use Rattle.ascii.specs.Ascii.{lineFeed, hexRun}
+use lib.ListN.{length}
 use Rattle.text_parts.specs.Words.{WordRow, word, reachFrom}
+use Rattle.text_parts.specs.Hex.{lineEndAt}
 use Rattle.protocol.specs.declared.Version.{Version}
 use Rattle.protocol.specs.declared.Version.the-variants.{V1, V2}
 use Rattle.request_line.specs.Good.{kindText, versionText, mostDigits}
@@ -14,6 +14,9 @@ use Rattle.request_line.specs.declared.ListingKind.{ListingKind}
 use Rattle.request_line.specs.declared.ListingKind.the-variants.{PacketService, Version as VersionKind, Registration, SignalState, DeviceServices, SetPin, PinInfo}
 use Rattle.request_line.specs.declared.Request.{Request}
 use Rattle.request_line.specs.declared.Request.the-variants.{Payload, BadLine}
+use Rattle.text_parts.specs.declared.LineEnd.{LineEnd}
+use Rattle.text_parts.specs.declared.LineEnd.the-variants.{Digits}
+use Rattle.text_parts.specs.declared.LineEnd.the-variants as end
 use Rattle.text_parts.specs.declared.Reached.{Reached}
 use Rattle.text_parts.specs.declared.Reached.the-variants.{Word, Column}
 
@@ -50,15 +53,12 @@ versionOf n = cond (eqb n 0) V1 V2
 
 -- ---- the digits: at most those of 8,192 bytes, an even number, and then the line feed that ends the line
 
-unfoldable pub digitsAt : List ℕ → ℕ → ℕ
-digitsAt s from = hexRun (take mostDigits (drop from s))
+abbrev pub payloadBy : ListingKind → Version → ℕ → LineEnd → Request
+payloadBy kind version from (Digits n) = Payload kind version from n
+payloadBy kind version from (end.Column c) = BadLine c
 
 unfoldable pub payloadAt : List ℕ → ListingKind → Version → ℕ → Request
-payloadAt s kind version from =
-    cond (eqb (digitsAt s from % 2) 1) (BadLine (from + digitsAt s from))
-    (cond (not (eqb (getD s (from + digitsAt s from) 0) lineFeed)) (BadLine (from + digitsAt s from))
-    (cond (not (eqb (length s) (from + digitsAt s from + 1))) (BadLine (from + digitsAt s from + 1))
-    (Payload kind version from (digitsAt s from))))
+payloadAt s kind version from = payloadBy kind version from (lineEndAt mostDigits s from)
 
 -- ---- what a line asks for
 

@@ -1,13 +1,13 @@
 // One request line: kind, tab, version, tab, the payload in hexadecimal, line feed.
-use ascii::hex_run;
 use protocol::Version;
+use text_parts::LineEnd;
 use text_parts::Reached;
 use text_parts::also_word;
-use wire::byte_at;
+use text_parts::line_end_at;
 ghost use mathlib.Core.Path.{_≡_};
 ghost use Prim.Native.Nat.{_≤_};
 ghost use Rattle.text_parts.specs.Words.{reachFrom};
-ghost use Rattle.request_line.specs.Request.{kindWords, versionWords, kindOf, kindLength, versionOf, digitsAt, payloadAt, requestOf};
+ghost use Rattle.request_line.specs.Request.{kindWords, versionWords, kindOf, kindLength, versionOf, payloadAt, requestOf};
 
 // What a listing can be asked of.
 pub enum ListingKind {
@@ -32,7 +32,6 @@ pub enum Request {
     BadLine(usize),
 }
 
-const LINE_FEED: u8 = 10;
 // The most digits of a line: those of 8,192 bytes.
 const MOST_DIGITS: usize = 16384;
 
@@ -54,41 +53,17 @@ pub fn request_of(line: &[u8]) -> Request
 
 // The rest of a line whose payload begins at `from`.
 fn payload_at(line: &[u8], kind: ListingKind, version: Version, from: usize) -> Request
-    requires { ⌜ from ≤ 64 ⌝ }
     ensures { λ r. ⌜ r ≡ payloadAt (now (line .entry)) kind version from ⌝ }
 {
-    let digits = digits_at(line, from);
-    let end = from + digits;
-    if digits % 2 == 1 {
-        return Request::BadLine(end);
+    match line_end_at(line, from, MOST_DIGITS) {
+        LineEnd::Column(column) => Request::BadLine(column),
+        LineEnd::Digits(digits) => Request::Payload {
+            kind,
+            version,
+            from,
+            digits,
+        },
     }
-    if byte_at(line, end) != LINE_FEED {
-        return Request::BadLine(end);
-    }
-    if line.len() != end + 1 {
-        return Request::BadLine(end + 1);
-    }
-    Request::Payload {
-        kind,
-        version,
-        from,
-        digits,
-    }
-}
-
-// How many digits stand from `from` on, up to the most of a line.
-fn digits_at(line: &[u8], from: usize) -> usize
-    requires { ⌜ from ≤ 64 ⌝ }
-    ensures { λ r. ⌜ r ≡ digitsAt (now (line .entry)) from ⌝ }
-{
-    if line.len() < from {
-        return 0;
-    }
-    let most = from + MOST_DIGITS;
-    if line.len() < most {
-        return hex_run(&line[from..]);
-    }
-    hex_run(&line[from..most])
 }
 
 fn kind_at(line: &[u8]) -> Reached

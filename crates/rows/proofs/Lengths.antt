@@ -10,7 +10,7 @@ use Rattle.ascii.specs.Ascii.{ascii}
 use Rattle.ascii.proofs.Laws.{length-decimal, length-hexed}
 use Rattle.folds.specs.Folds.{joined}
 use Rattle.protocol.specs.declared.Refusal.{Refusal}
-use Rattle.rows.specs.Rows.{field, row, indexedRow, textRow, refusedLine}
+use Rattle.rows.specs.Rows.{field, row, indexedRow, textRow, refusalLine, refusedLine}
 
 pub field-le : (v : ℕ) → length (field v) ≤ 21
 unfolding field
@@ -28,9 +28,12 @@ pub text-le : (name text : List ℕ) → length name ≤ 50 → length text ≤ 
 unfolding textRow
 text-le name text h k = simp length-append (omega (arith, length-hexed (length text) text))
 
-pub refused-le : (r : Refusal) → length (refusedLine r) ≤ 50
-unfolding refusedLine
-refused-le r = simp length-append (omega (arith, field-le (r .number), field-le (r .place)))
+pub refusal-le : (name : List ℕ) (r : Refusal) → length name ≤ 50 → length (refusalLine name r) ≤ 93
+unfolding refusalLine
+refusal-le name r h = simp length-append (omega (arith, field-le (r .number), field-le (r .place)))
+
+pub refused-le : (r : Refusal) → length (refusedLine r) ≤ 93
+refused-le r = refusal-le (ascii "refused") r (omega arith)
 
 -- texts one behind another, none longer than b
 pub joined-le : (f : ℕ → List ℕ) (b n : ℕ) → ((i : ℕ) → i < n → length (f i) ≤ b) → length (joined f n) ≤ b * n

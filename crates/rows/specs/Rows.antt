@@ -28,9 +28,12 @@ indexedRow name i value = name ++ (ascii "[" ++ (decimal i ++ (ascii "]" ++ (fie
 unfoldable pub textRow : List ℕ → List ℕ → List ℕ
 textRow name text = name ++ ((tab ∷ []) ++ (hexed text ++ (lineFeed ∷ [])))
 
--- "a refusal is one line: refused, number, place"
-unfoldable pub refusedLine : Refusal → List ℕ
-refusedLine r = ascii "refused" ++ (field (r .number) ++ (field (r .place) ++ (lineFeed ∷ [])))
+-- a refusal's number and place behind a name; "a refusal is one line: refused, number, place"
+unfoldable pub refusalLine : List ℕ → Refusal → List ℕ
+refusalLine name r = name ++ (field (r .number) ++ (field (r .place) ++ (lineFeed ∷ [])))
+
+abbrev pub refusedLine : Refusal → List ℕ
+refusedLine r = refusalLine (ascii "refused") r
 
 -- ---- what a function that puts text leaves
 

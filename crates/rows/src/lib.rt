@@ -7,7 +7,7 @@ use wire::put_bytes;
 ghost use mathlib.Core.Path.{_≡_};
 ghost use Prim.Native.Nat.{_+_, _-_, min};
 ghost use Rattle.ascii.specs.Ascii.{decimal, hexPair, hexed};
-ghost use Rattle.rows.specs.Rows.{Put, field, row, indexedRow, textRow, refusedLine};
+ghost use Rattle.rows.specs.Rows.{Put, field, row, indexedRow, textRow, refusalLine, refusedLine};
 
 // A row whose value is a number. Like every function here it answers the place behind what it put.
 pub fn put_row(out: &mut [u8], at: usize, name: &[u8], value: u64) -> usize
@@ -44,7 +44,14 @@ pub fn put_text_row(out: &mut [u8], at: usize, name: &[u8], text: &[u8]) -> usiz
 pub fn put_refused(out: &mut [u8], at: usize, refusal: Refusal) -> usize
     ensures { λ r. ⌜ Put (now (out .entry)) at (refusedLine refusal) (now (out .exit)) r ⌝ }
 {
-    let number = put_text(out, at, b"refused");
+    put_refusal(out, at, b"refused", refusal)
+}
+
+// A name, the number and the place.
+pub fn put_refusal(out: &mut [u8], at: usize, name: &[u8], refusal: Refusal) -> usize
+    ensures { λ r. ⌜ Put (now (out .entry)) at (refusalLine (now (name .entry)) refusal) (now (out .exit)) r ⌝ }
+{
+    let number = put_text(out, at, name);
     let place = put_field(out, number, refusal.number as u64);
     let end = put_field(out, place, refusal.place as u64);
     put_text(out, end, b"\n")

@@ -1,4 +1,4 @@
--- The words of a text's front are those of the whole.
+-- The words and the digits of a text's front are those of the whole.
 -- Assumes nothing.
 use mathlib.Core.Path.{_≡_, refl, sym, ap, _∙_}
 use mathlib.Core.Bool.{cond}
@@ -8,8 +8,9 @@ use native.Mathlib.Omega.{arith}
 use lib.Dec.{eqb}
 use lib.ListN.{length, take, drop}
 use lib.Seq.{take-take}
-use Rattle.ascii.specs.Ascii.{agreement}
+use Rattle.ascii.specs.Ascii.{agreement, hexRun}
 use Rattle.text_parts.specs.Words.{WordRow, alsoWord, reachFrom}
+use Rattle.text_parts.specs.Hex.{hexDigitsAt}
 use Rattle.text_parts.specs.declared.Reached.{Reached}
 use Rattle.text_parts.specs.declared.Reached.the-variants.{Word, Column}
 
@@ -46,3 +47,9 @@ pub reach-cut : (ws : List WordRow) (r : Reached) (at n : ℕ) (s : List ℕ) �
 reach-cut [] r at n s h = refl
 reach-cut (w ∷ ws) r at n s h =
     ap (λ (x : Reached). reachFrom x (take n s) at ws) (word-cut r at n s w (h .0)) ∙ reach-cut ws (alsoWord r s at w) at n s (h .1)
+
+-- ---- digits of a text that is cut
+
+pub hex-digits-cut : (most from n : ℕ) (s : List ℕ) → from + most ≤ n → hexDigitsAt most (take n s) from ≡ hexDigitsAt most s from
+unfolding hexDigitsAt
+hex-digits-cut most from n s h = ap hexRun (part-front from most n s h)

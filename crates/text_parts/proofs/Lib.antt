@@ -4,3 +4,4 @@ pub mod Hex
 pub mod Decimals
 pub mod Tables
 pub mod Cut
+pub mod Ends

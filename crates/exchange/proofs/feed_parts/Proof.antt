@@ -30,7 +30,7 @@ part-feed-in-place-end : tie.Need-part-feed-in-place-end Inv-loop μ-loop
 part-feed-in-place-end c = omega (arith, c .before .before .part-end .ensures, c .before .before .before .before .loop .inv .within)
 
 loop-again : tie.Need-loop-again Inv-loop μ-loop
-loop-again c = turn _ _ _ _ (c .before .before .before .before .before .before .before .before .before .loop .inv) (c .before .before .before .before .before .before .before .before .loop-test .taken) (c .before .before .before .before .before .before .before .part-end .ensures) (c .before .before .feed-in-place .ensures .0) (c .before .before .feed-in-place .ensures .1 .0) (c .before .before .feed-in-place .ensures .1 .1) (c .before .before .feed-in-place .kept .1 .1 .1 .0)
+loop-again c = turn _ _ _ _ (c .before .before .before .before .before .before .before .before .before .loop .inv) (c .before .before .before .before .before .before .before .before .loop-test .taken) (c .before .before .before .before .before .before .before .part-end .ensures) (c .before .before .feed-in-place .ensures .0) (c .before .before .feed-in-place .ensures .1 .0) (c .before .before .feed-in-place .ensures .1 .1 .0) (c .before .before .feed-in-place .kept .1 .1 .1 .0)
 
 same-length : tie.Need-same-length Inv-loop μ-loop
 same-length c = c .before .loop .inv .same

@@ -1,9 +1,12 @@
 //! Prints the samples of payloads or those of messages: questions with the answers of
-//! this program, one a line. The same samples come out at every run.
+//! this program, one a line; or a trace for the replay: a long one with all that can go
+//! wrong, or that of a station's day. The same comes out at every run.
 //!
-//!     generate payloads|messages
+//!     generate payloads|messages|traces|day
 
+mod bad_lines;
 mod damage;
+mod day;
 mod doors;
 mod feeds;
 mod hosts;
@@ -15,11 +18,13 @@ mod pin_modems;
 mod pins;
 mod qualities;
 mod random;
+mod records;
 mod registrations;
 mod runs;
 mod samples;
 mod services;
 mod signals;
+mod traces;
 mod versions;
 
 use samples::Samples;
@@ -27,16 +32,17 @@ use std::io::{self, Write};
 use std::process::ExitCode;
 
 fn main() -> ExitCode {
-    let samples = all();
     let text = match std::env::args().nth(1).as_deref() {
-        Some("payloads") => samples.payloads(),
-        Some("messages") => samples.messages(),
+        Some("payloads") => all().payloads().as_bytes().to_vec(),
+        Some("messages") => all().messages().as_bytes().to_vec(),
+        Some("traces") => traces::all(),
+        Some("day") => day::all(),
         _ => {
-            eprintln!("usage: generate payloads|messages");
+            eprintln!("usage: generate payloads|messages|traces|day");
             return ExitCode::from(2);
         }
     };
-    match io::stdout().lock().write_all(text.as_bytes()) {
+    match io::stdout().lock().write_all(&text) {
         Ok(()) => ExitCode::SUCCESS,
         Err(_) => ExitCode::FAILURE,
     }

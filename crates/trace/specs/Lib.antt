@@ -1,0 +1,4 @@
+pub mod Marked
+pub mod Heads
+pub mod Replay
+pub mod Claims

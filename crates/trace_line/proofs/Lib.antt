@@ -1,0 +1,4 @@
+pub mod Rows
+pub mod Exactly
+pub mod Cases
+pub mod Cut
