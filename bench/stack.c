@@ -60,6 +60,11 @@ static void device_services_listed(void) {
     seen = cvr_device_services_listed(payload, length, service, 15).refusal.number;
 }
 
+static void device_services_ask(void) {
+    cvr_service service = CVR_EXTENSIONS;
+    seen = cvr_device_services_ask(payload, length, service, 15).refusal.number;
+}
+
 static void device_services_write(void) {
     seen = cvr_device_services_write(list, out, sizeof out).refusal.number;
 }
@@ -213,6 +218,7 @@ int main(void) {
     make_list();
     row("cvr_device_services_cids", device_services_cids);
     row("cvr_device_services_listed", device_services_listed);
+    row("cvr_device_services_ask", device_services_ask);
     row("cvr_device_services_write", device_services_write);
     row("cvr_device_services_write_all", device_services_write_all);
     cvr_host_make(host, sizeof host, CVR_VERSION_2_00);

@@ -240,16 +240,16 @@ static void print_services(const message *reply)
     cvr_device_services_answer list = cvr_device_services_read(reply->bytes, reply->length);
     cvr_element_answer found = cvr_device_services_cids(reply->bytes, reply->length, basic_connect,
                                                         cids, CVR_MOST_CIDS);
-    cvr_listed_answer listed = cvr_device_services_listed(reply->bytes, reply->length, extensions,
+    cvr_position_answer version = cvr_device_services_ask(reply->bytes, reply->length, extensions,
                                                           CVR_CID_VERSION);
     need(list.refusal, "services read");
     need(found.refusal, "services CIDs");
-    need(listed.refusal, "services listed");
+    need(version.refusal, "services ask");
     need_equal(found.listed, 1, "Basic Connect listed");
     printf("host: %u services; CIDs of Basic Connect:", (unsigned)list.info.device_services_count);
     for (i = 0; i < found.element.cid_count; i++)
         printf(" %u", (unsigned)cids[i]);
-    printf("; VERSION %s\n", listed.listed ? "listed" : "not listed");
+    printf("; VERSION %s\n", version.listed ? "listed" : "not listed");
 }
 
 static void ask_services(void)

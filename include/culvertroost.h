@@ -82,9 +82,9 @@ extern "C" {
 #endif
 
 /* This library's own version. A call, a struct or a number that changes raises the first two. */
-#define CVR_LIBRARY_VERSION "0.7.0"
+#define CVR_LIBRARY_VERSION "0.8.0"
 #define CVR_LIBRARY_VERSION_MAJOR 0
-#define CVR_LIBRARY_VERSION_MINOR 7
+#define CVR_LIBRARY_VERSION_MINOR 8
 #define CVR_LIBRARY_VERSION_PATCH 0
 
 /* ---- refusals ---------------------------------------------------------------------------------- */
@@ -597,6 +597,13 @@ typedef struct cvr_listed_answer {
     uint32_t listed; /* 0 or 1 */
 } cvr_listed_answer;
 
+typedef struct cvr_position_answer {
+    cvr_refusal refusal;
+    uint32_t listed;         /* 0 or 1 */
+    uint32_t element_number; /* from 0; 0 where it isn't listed, as the next */
+    uint32_t cid_number;     /* of the CID in its element, from 0 */
+} cvr_position_answer;
+
 /* An element with its CIDs, of which the first fields.cid_count count. */
 typedef struct cvr_service_element {
     cvr_device_service fields;
@@ -611,8 +618,8 @@ typedef struct cvr_service_list {
     cvr_service_element elements[CVR_MOST_SERVICES];
 } cvr_service_list;
 
-/* Each of these judges the whole payload first. The second of two, .._with, is the same by a choice, enum
- * cvr_zero_size. No element may be absent, so size 0 is refused under either.
+/* Each of these, up to .._listed_with, judges the whole payload first. The second of two, .._with, is the
+ * same by a choice, enum cvr_zero_size. No element may be absent, so size 0 is refused under either.
  * Refuses: .._with, OUTSIDE_TABLE at 0 (the choice); TOO_SHORT (under 8); WRONG_COUNT at 0;
  * TOO_SHORT (pairs missing); TOO_LONG at 0; for each element, at its offset field: the faults of a pair
  * (the limit is 540), WRONG_SIZE (under 28); WRONG_COUNT at its CID count; WRONG_SIZE at its offset
@@ -649,11 +656,28 @@ cvr_all_answer cvr_device_services_all_with(uint32_t zero_size, const uint8_t *p
                                             uint32_t *fields, size_t fields_room, uint32_t *cids,
                                             size_t cids_room);
 
-/* Whether any element of the service holds the CID. */
+/* Whether any element of the service holds the CID. The one to call where the whole list must be good: one
+ * that you serve or keep. */
 cvr_listed_answer cvr_device_services_listed(const uint8_t *payload, size_t length, cvr_service service,
                                              uint32_t cid);
 cvr_listed_answer cvr_device_services_listed_with(uint32_t zero_size, const uint8_t *payload,
                                                   size_t length, cvr_service service, uint32_t cid);
+
+/* The same question, judged no further than the answer needs, and where the first match in listed order
+ * stands. The one to call at start-up, and wherever one fact is wanted of a list that was received.
+ * Elements are judged one at a time, each in full before its CIDs count; those behind the match are not
+ * looked at.
+ *
+ *   the whole list   the first match          answer
+ *   accepted         anywhere or nowhere      as cvr_device_services_listed
+ *   refused          before the first fault   listed
+ *   refused          not before it            the whole list's refusal
+ *
+ * Choice, length and count are judged before every element. */
+cvr_position_answer cvr_device_services_ask(const uint8_t *payload, size_t length, cvr_service service,
+                                            uint32_t cid);
+cvr_position_answer cvr_device_services_ask_with(uint32_t zero_size, const uint8_t *payload,
+                                                 size_t length, cvr_service service, uint32_t cid);
 
 /* Writes the list: CVR_MOST_INFORMATION is room enough.
  * Refuses: WRONG_COUNT at 0; WRONG_SIZE at the offset field of an element with too many CIDs; TOO_LONG
@@ -1026,12 +1050,15 @@ cvr_ask_answer cvr_host_next_command(const uint8_t *memory, size_t size, uint8_t
  *   OPEN             .. advertised 2.00, VERSION not in   0       VERSION_NOT_LISTED at 0   OPEN
  *   OPEN             .. native 2.00, VERSION in it        0       ASKS_VERSION              AWAITS_VERSION
  *   OPEN             .. any other list                    0       SETTLED at 1.00           SETTLED
- *   any other        .. a good list                       0       UNCHANGED                 the same
+ *   any other        .. any list                          0       UNCHANGED                 the same
  *   AWAITS_VERSION   VERSION                              not 0   SETTLED at advertised     SETTLED
  *   any              VERSION, the payload refused         0       the payload's refusal     the same
  *   AWAITS_VERSION   VERSION                              0       SETTLED, at the larger of SETTLED
  *                                                                 advertised and answered
  *   any other        VERSION                              any     UNCHANGED                 the same
+ *
+ * A list is asked for VERSION as by cvr_device_services_ask, and not judged in full: it is refused where
+ * that refuses, and a fault in an element behind VERSION's is not seen.
  *
  * After ABOVE_HOST and VERSION_NOT_LISTED the next command is DEVICE_SERVICES again, and the answer
  * will be the same: close. A modem answers one VERSION in a session, and a second one with status 9,
@@ -1153,6 +1180,7 @@ CVR_LAYOUT(cvr_device_service, 28, cid_count, 24, 28);
 CVR_LAYOUT(cvr_element_answer, 48, element, 20, 48);
 CVR_LAYOUT(cvr_all_answer, 32, cids, 24, 32);
 CVR_LAYOUT(cvr_listed_answer, 24, listed, 16, 20);
+CVR_LAYOUT(cvr_position_answer, 32, cid_number, 24, 28);
 CVR_LAYOUT(cvr_service_element, 540, cids, 28, 540);
 CVR_LAYOUT(cvr_service_list, 17288, elements, 8, 17288);
 CVR_LAYOUT(cvr_set_pin, 8, pin_operation, 4, 8);

@@ -80,6 +80,7 @@ static void services(void)
            CVR_OUTPUT_TOO_SMALL, 8);
     expect("services listed", cvr_device_services_listed(NULL, 0, basic_connect, 9).refusal,
            CVR_TOO_SHORT, 0);
+    expect("services ask", cvr_device_services_ask(NULL, 0, basic_connect, 9).refusal, CVR_TOO_SHORT, 0);
     expect_equal("services element", cvr_device_services_element(list, length, 0, NULL, 0).listed, 1);
     expect_equal("services CIDs", cvr_device_services_cids(list, length, basic_connect, NULL, 0).listed,
                  1);
@@ -118,6 +119,8 @@ static void choices(uint32_t choice)
     expect("services all", cvr_device_services_all_with(choice, NULL, 0, NULL, 0, NULL, 0).refusal,
            CVR_TOO_SHORT, 0);
     expect("services listed", cvr_device_services_listed_with(choice, NULL, 0, basic_connect, 9).refusal,
+           CVR_TOO_SHORT, 0);
+    expect("services ask", cvr_device_services_ask_with(choice, NULL, 0, basic_connect, 9).refusal,
            CVR_TOO_SHORT, 0);
     expect_equal("services element",
                  cvr_device_services_element_with(choice, list, length, 0, NULL, 0).listed, 1);

@@ -15,7 +15,7 @@
 #define UNTOUCHED 0xAA
 #define MOST_ROOM 16384
 #define MOST_LIST 1024
-#define QUESTIONS 50
+#define QUESTIONS 52
 
 static sample now; /* the sample whose question is asked; its input with the zeros at the end */
 static const uint8_t *given = now.field[INPUT];
@@ -754,6 +754,30 @@ static void show_pins(void)
     show(pins, sizeof pins);
 }
 
+/* ---- 51 and 52: where a CID stands */
+
+static void put_position(cvr_position_answer answer)
+{
+    put_refusal(answer.refusal);
+    put(answer.listed);
+    put(answer.element_number);
+    put(answer.cid_number);
+}
+
+static void ask_cid(void)
+{
+    size_t length;
+    const uint8_t *payload = lend_information(&length);
+    put_position(cvr_device_services_ask(payload, length, service_at(0), word(1)));
+}
+
+static void ask_cid_with(void)
+{
+    size_t length;
+    const uint8_t *payload = lend_information(&length);
+    put_position(cvr_device_services_ask_with(word(2), payload, length, service_at(0), word(1)));
+}
+
 /* ---- all questions */
 
 static void (*const questions[QUESTIONS + 1])(void) = {
@@ -763,7 +787,7 @@ static void (*const questions[QUESTIONS + 1])(void) = {
     next_command, host_receive, modem_make, modem_open, modem_close, modem_receive, show_host, show_modem,
     rsrp, snr, bars, registration_read_with, signal_read_with, services_read_with, element_with,
     service_cids_with, is_listed_with, set_pin_read, set_pin_read_with, set_pin_write, pin_info_read,
-    pin_info_write, pin_make, pin_enter, pin_receive, show_pins
+    pin_info_write, pin_make, pin_enter, pin_receive, show_pins, ask_cid, ask_cid_with
 };
 
 static void ask(void)

@@ -1,8 +1,8 @@
 /*
  * The tables of the header, row by row: which data classes and PIN numbers may stand where, which numbers
- * choose what a size of 0 is, which payload a message shows, what each end answers at each stage, and
- * where lent memory is refused. An 'any' of the header is tried at every stage. tests/pins.c has the
- * tables of PINs.
+ * choose what a size of 0 is, which payload a message shows, how far a list is judged that is asked for
+ * one CID, what each end answers at each stage, and where lent memory is refused. An 'any' of the header is
+ * tried at every stage. tests/pins.c has the tables of PINs.
  */
 #include "culvertroost.h"
 
@@ -13,13 +13,16 @@
 #define V1 CVR_VERSION_1_00
 #define V2 CVR_VERSION_2_00
 
+#define OTHER_CID 14 /* of the extensions */
+
 typedef struct payload {
-    uint8_t bytes[128];
+    uint8_t bytes[160];
     size_t length;
 } payload;
 
 static const cvr_service basic_connect = CVR_BASIC_CONNECT, extensions = CVR_EXTENSIONS;
-static payload listed, unlisted, sizeless, version_1, version_2, broken;
+static payload listed, unlisted, twice, uncounted, version_1, version_2, broken;
+static payload fault_before, fault_at, fault_behind; /* the element with VERSION, the first of two */
 static int failed;
 
 static void check(const char *table, int row, const char *what, uint64_t got, uint64_t expected)
@@ -39,16 +42,26 @@ static void check_refusal(const char *table, int row, cvr_refusal got, uint32_t 
 
 /* ---- payloads */
 
+/* The first so many of three elements; the second has VERSION, the third has it too, and another CID twice. */
 static void write_list(payload *out, uint32_t services)
 {
     static cvr_service_list list;
     memset(&list, 0, sizeof list);
     list.device_services_count = services;
     list.elements[0].fields.device_service_id = basic_connect;
-    list.elements[1].fields.device_service_id = extensions;
+    list.elements[1].fields.device_service_id = list.elements[2].fields.device_service_id = extensions;
     list.elements[1].fields.cid_count = 1;
-    list.elements[1].cids[0] = CVR_CID_VERSION;
+    list.elements[2].fields.cid_count = 3;
+    list.elements[1].cids[0] = list.elements[2].cids[0] = CVR_CID_VERSION;
+    list.elements[2].cids[1] = list.elements[2].cids[2] = OTHER_CID;
     out->length = cvr_device_services_write(list, out->bytes, sizeof out->bytes).length;
+}
+
+/* All three, of which one has size 0. */
+static void write_sizeless(payload *out, int number)
+{
+    write_list(out, 3);
+    memset(out->bytes + CVR_AT_DEVICE_SERVICES_ELEMENT(number) + 4, 0, 4);
 }
 
 static void write_payloads(void)
@@ -56,8 +69,12 @@ static void write_payloads(void)
     cvr_version_info info = {CVR_MBIM_1_00, V1};
     write_list(&listed, 2);
     write_list(&unlisted, 1);
-    sizeless = listed;
-    memset(sizeless.bytes + CVR_AT_DEVICE_SERVICES_ELEMENT(0) + 4, 0, 4);
+    write_list(&twice, 3);
+    write_sizeless(&fault_before, 0);
+    write_sizeless(&fault_at, 1);
+    write_sizeless(&fault_behind, 2);
+    uncounted = twice;
+    uncounted.bytes[CVR_AT_DEVICE_SERVICES_COUNT] = CVR_MOST_SERVICES + 1;
     version_1.length = cvr_version_info_write(info, version_1.bytes, 4).length;
     info.bcd_mbim_extended_version = V2;
     version_2.length = cvr_version_info_write(info, version_2.bytes, 4).length;
@@ -280,7 +297,7 @@ static void kind_table(void)
 
 /* ---- what a size of 0 is: each reader, by every number for the choice */
 
-enum reader { REGISTRATION, SIGNAL, SET_PIN, HEAD, ELEMENT, CIDS, ALL, LISTED };
+enum reader { REGISTRATION, SIGNAL, SET_PIN, HEAD, ELEMENT, CIDS, ALL, LISTED, ASK };
 
 /* The refusals of a payload whose first pair has size 0 beside an offset, at the pair's place. */
 typedef struct zero_row {
@@ -303,6 +320,7 @@ static const zero_row zero_rows[] = {
     {"services CIDs", CIDS, 0, CVR_WRONG_SIZE, CVR_OFFSET_WITH_ZERO_SIZE, 8},
     {"services all", ALL, 0, CVR_WRONG_SIZE, CVR_OFFSET_WITH_ZERO_SIZE, 8},
     {"services listed", LISTED, 0, CVR_WRONG_SIZE, CVR_OFFSET_WITH_ZERO_SIZE, 8},
+    {"services ask", ASK, 0, CVR_WRONG_SIZE, CVR_OFFSET_WITH_ZERO_SIZE, 8},
 };
 
 enum { FIELDS = CVR_ELEMENT_WORDS * CVR_MOST_SERVICES };
@@ -327,8 +345,10 @@ static cvr_refusal without_choice(enum reader reader, uint16_t version, const pa
         return cvr_device_services_cids(bytes, length, extensions, cids, CVR_MOST_CIDS).refusal;
     case ALL:
         return cvr_device_services_all(bytes, length, fields, FIELDS, cids, CVR_MOST_CIDS).refusal;
-    default:
+    case LISTED:
         return cvr_device_services_listed(bytes, length, extensions, CVR_CID_VERSION).refusal;
+    default:
+        return cvr_device_services_ask(bytes, length, extensions, CVR_CID_VERSION).refusal;
     }
 }
 
@@ -353,8 +373,10 @@ static cvr_refusal by_choice(enum reader reader, uint16_t version, uint32_t choi
     case ALL:
         return cvr_device_services_all_with(choice, bytes, length, fields, FIELDS, cids, CVR_MOST_CIDS)
             .refusal;
-    default:
+    case LISTED:
         return cvr_device_services_listed_with(choice, bytes, length, extensions, CVR_CID_VERSION).refusal;
+    default:
+        return cvr_device_services_ask_with(choice, bytes, length, extensions, CVR_CID_VERSION).refusal;
     }
 }
 
@@ -412,6 +434,61 @@ static void zero_size_table(void)
     }
 }
 
+/* ---- the question for one CID beside the full one, by either choice */
+
+/* Whether it is listed and where, and the refusal of the full question, which is both's where it isn't. */
+typedef struct ask_row {
+    const payload *list;
+    const cvr_service *service;
+    uint32_t cid;
+    uint32_t listed, element, number;
+    uint32_t absent, strict;
+    uint64_t place;
+} ask_row;
+
+static const ask_row ask_rows[] = {
+    {&listed, &extensions, CVR_CID_VERSION, 1, 1, 0, 0, 0, 0},
+    {&listed, &extensions, OTHER_CID, 0, 0, 0, 0, 0, 0},
+    {&listed, &basic_connect, CVR_CID_VERSION, 0, 0, 0, 0, 0, 0},
+    {&unlisted, &extensions, CVR_CID_VERSION, 0, 0, 0, 0, 0, 0},
+    {&twice, &extensions, CVR_CID_VERSION, 1, 1, 0, 0, 0, 0},
+    {&twice, &extensions, OTHER_CID, 1, 2, 1, 0, 0, 0},
+    {&fault_before, &extensions, CVR_CID_VERSION, 0, 0, 0, CVR_WRONG_SIZE, CVR_OFFSET_WITH_ZERO_SIZE, 8},
+    {&fault_at, &extensions, CVR_CID_VERSION, 0, 0, 0, CVR_WRONG_SIZE, CVR_OFFSET_WITH_ZERO_SIZE, 16},
+    {&fault_behind, &extensions, CVR_CID_VERSION, 1, 1, 0, CVR_WRONG_SIZE, CVR_OFFSET_WITH_ZERO_SIZE, 24},
+    {&fault_behind, &extensions, OTHER_CID, 0, 0, 0, CVR_WRONG_SIZE, CVR_OFFSET_WITH_ZERO_SIZE, 24},
+    {&uncounted, &extensions, CVR_CID_VERSION, 0, 0, 0, CVR_WRONG_COUNT, CVR_WRONG_COUNT, 0},
+    {&broken, &extensions, CVR_CID_VERSION, 0, 0, 0, CVR_TOO_SHORT, CVR_TOO_SHORT, 1},
+};
+
+static void try_ask(int i, const ask_row *row, uint32_t number, cvr_listed_answer full,
+                    cvr_position_answer answer)
+{
+    check_refusal("listed", i, full.refusal, number, row->place);
+    check("listed", i, "what is listed", full.listed, number ? 0 : row->listed);
+    check_refusal("ask", i, answer.refusal, row->listed ? CVR_NO_REFUSAL : number, row->place);
+    check("ask", i, "what is listed", answer.listed, row->listed);
+    check("ask", i, "the element", answer.element_number, row->element);
+    check("ask", i, "the CID", answer.cid_number, row->number);
+}
+
+static void ask_table(void)
+{
+    int i;
+    for (i = 0; i < (int)(sizeof ask_rows / sizeof ask_rows[0]); i++) {
+        const ask_row *row = &ask_rows[i];
+        const uint8_t *bytes = row->list->bytes;
+        size_t length = row->list->length;
+        uint32_t choice;
+        try_ask(i, row, row->absent, cvr_device_services_listed(bytes, length, *row->service, row->cid),
+                cvr_device_services_ask(bytes, length, *row->service, row->cid));
+        for (choice = CVR_ZERO_SIZE_ABSENT; choice <= CVR_ZERO_SIZE_STRICT; choice++)
+            try_ask(i, row, choice == CVR_ZERO_SIZE_STRICT ? row->strict : row->absent,
+                    cvr_device_services_listed_with(choice, bytes, length, *row->service, row->cid),
+                    cvr_device_services_ask_with(choice, bytes, length, *row->service, row->cid));
+    }
+}
+
 /* ---- the host's table */
 
 enum { ANY = 100, OTHER = 101, SAME = 102 }; /* of stages: any; any but AWAITS_VERSION; the same */
@@ -430,22 +507,36 @@ static const host_row host_rows[] = {
     {ANY, V2, V1, CVR_CID_REGISTER_STATE, 0, &broken, 0, CVR_EVENT_UNCHANGED, 0, SAME},
     {ANY, V2, V1, CVR_CID_DEVICE_SERVICES, 9, &listed, 0, CVR_EVENT_UNCHANGED, 0, SAME},
     {ANY, V2, V1, CVR_CID_DEVICE_SERVICES, 0, &broken, CVR_TOO_SHORT, 0, 0, SAME},
-    {ANY, V2, V1, CVR_CID_DEVICE_SERVICES, 0, &sizeless, CVR_WRONG_SIZE, 0, 0, SAME},
+    {ANY, V2, V1, CVR_CID_DEVICE_SERVICES, 0, &fault_before, CVR_WRONG_SIZE, 0, 0, SAME},
+    {ANY, V2, V1, CVR_CID_DEVICE_SERVICES, 0, &fault_at, CVR_WRONG_SIZE, 0, 0, SAME},
+    {CVR_HOST_OPEN, V1, V2, CVR_CID_DEVICE_SERVICES, 0, &fault_at, CVR_WRONG_SIZE, 0, 0, SAME},
+    {CVR_HOST_OPEN, V2, V2, CVR_CID_DEVICE_SERVICES, 0, &fault_at, CVR_WRONG_SIZE, 0, 0, SAME},
     {CVR_HOST_OPEN, V1, V2, CVR_CID_DEVICE_SERVICES, 0, &listed, CVR_ABOVE_HOST, 0, 0, SAME},
+    {CVR_HOST_OPEN, V1, V2, CVR_CID_DEVICE_SERVICES, 0, &fault_behind, CVR_ABOVE_HOST, 0, 0, SAME},
     {CVR_HOST_OPEN, V1, V2, CVR_CID_DEVICE_SERVICES, 0, &unlisted, CVR_ABOVE_HOST, 0, 0, SAME},
     {CVR_HOST_OPEN, V2, V2, CVR_CID_DEVICE_SERVICES, 0, &unlisted, CVR_VERSION_NOT_LISTED, 0, 0, SAME},
     {CVR_HOST_OPEN, V2, V1, CVR_CID_DEVICE_SERVICES, 0, &listed, 0, CVR_EVENT_ASKS_VERSION, 0,
      CVR_HOST_AWAITS_VERSION},
     {CVR_HOST_OPEN, V2, V2, CVR_CID_DEVICE_SERVICES, 0, &listed, 0, CVR_EVENT_ASKS_VERSION, 0,
      CVR_HOST_AWAITS_VERSION},
+    {CVR_HOST_OPEN, V2, V1, CVR_CID_DEVICE_SERVICES, 0, &fault_behind, 0, CVR_EVENT_ASKS_VERSION, 0,
+     CVR_HOST_AWAITS_VERSION},
+    {CVR_HOST_OPEN, V2, V2, CVR_CID_DEVICE_SERVICES, 0, &fault_behind, 0, CVR_EVENT_ASKS_VERSION, 0,
+     CVR_HOST_AWAITS_VERSION},
     {CVR_HOST_OPEN, V1, V1, CVR_CID_DEVICE_SERVICES, 0, &listed, 0, CVR_EVENT_SETTLED, V1,
+     CVR_HOST_SETTLED},
+    {CVR_HOST_OPEN, V1, V1, CVR_CID_DEVICE_SERVICES, 0, &fault_behind, 0, CVR_EVENT_SETTLED, V1,
      CVR_HOST_SETTLED},
     {CVR_HOST_OPEN, V2, V1, CVR_CID_DEVICE_SERVICES, 0, &unlisted, 0, CVR_EVENT_SETTLED, V1,
      CVR_HOST_SETTLED},
     {CVR_HOST_CLOSED, V1, V2, CVR_CID_DEVICE_SERVICES, 0, &listed, 0, CVR_EVENT_UNCHANGED, 0, SAME},
+    {CVR_HOST_CLOSED, V1, V2, CVR_CID_DEVICE_SERVICES, 0, &fault_behind, 0, CVR_EVENT_UNCHANGED, 0, SAME},
     {CVR_HOST_AWAITS_VERSION, V2, V2, CVR_CID_DEVICE_SERVICES, 0, &unlisted, 0, CVR_EVENT_UNCHANGED, 0,
      SAME},
+    {CVR_HOST_AWAITS_VERSION, V2, V2, CVR_CID_DEVICE_SERVICES, 0, &fault_behind, 0, CVR_EVENT_UNCHANGED, 0,
+     SAME},
     {CVR_HOST_SETTLED, V2, V2, CVR_CID_DEVICE_SERVICES, 0, &unlisted, 0, CVR_EVENT_UNCHANGED, 0, SAME},
+    {CVR_HOST_SETTLED, V2, V2, CVR_CID_DEVICE_SERVICES, 0, &fault_behind, 0, CVR_EVENT_UNCHANGED, 0, SAME},
     {CVR_HOST_AWAITS_VERSION, V2, V1, CVR_CID_VERSION, 9, &broken, 0, CVR_EVENT_SETTLED, V1,
      CVR_HOST_SETTLED},
     {CVR_HOST_AWAITS_VERSION, V2, V2, CVR_CID_VERSION, 9, &broken, 0, CVR_EVENT_SETTLED, V2,
@@ -568,6 +659,16 @@ static uint32_t served_kind(const modem_row *row)
 {
     const kind_row *known = kind_of(&basic_connect, row->cid);
     return row->action == CVR_ACTION_SERVE ? known->kinds[SUCCEEDED] : CVR_KIND_NONE;
+}
+
+/* A modem's own list is judged in full. */
+static void make_modem_table(void)
+{
+    uint8_t modem[CVR_MODEM_SIZE];
+    check_refusal("modem made", 0, cvr_modem_make(modem, sizeof modem, V2, V1, twice.bytes, twice.length),
+                  CVR_NO_REFUSAL, 0);
+    check_refusal("modem made", 1, cvr_modem_make(modem, sizeof modem, V2, V1, fault_behind.bytes,
+                                                  fault_behind.length), CVR_WRONG_SIZE, 24);
 }
 
 static void modem_table(void)
@@ -695,7 +796,9 @@ int main(void)
     pin_number_table();
     kind_table();
     zero_size_table();
+    ask_table();
     host_table();
+    make_modem_table();
     modem_table();
     memory_table();
     assembly_table();

@@ -131,6 +131,7 @@ impl Inputs {
         assert_eq!(c::signal_state_read(0x0200, &self.signal).refusal.number, 0);
         let id = c::service_id(&self.last_service);
         assert_eq!(c::device_services_listed(&self.services, id, 8).listed, 1);
+        assert_eq!(c::device_services_ask(&self.services, id, 8).listed, 1);
         let mut out = [0; 4096];
         let (fields, cids) = (&self.service_fields, &self.service_cids);
         assert_eq!(c::device_services_write_all(0, fields, cids, &mut out).refusal.number, 0);

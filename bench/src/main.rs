@@ -1,11 +1,12 @@
 //! Nanoseconds a call, of the static library, of the second program (release build) and of a loop that
 //! only copies the same bytes, in one run: the rounds of the three take turns, and each shows its least.
 //! No buffer is cleared between calls; what the library itself clears is part of its time. Then how the
-//! library's time grows with its input.
+//! library's time grows with its input, and its question for one CID beside the full one.
 //!
-//! `bench calls COUNT [ROW]` measures nothing: it makes so many calls of each row of both tables, or of
+//! `bench calls COUNT [ROW]` measures nothing: it makes so many calls of each row of the tables, or of
 //! those whose name begins so, for a program that counts: `bench/instructions`, a profiler.
 
+mod asks;
 mod growth;
 mod inputs;
 mod measure;
@@ -48,4 +49,8 @@ fn main() {
         );
     }
     growth::run(mode);
+    if heads {
+        println!("\n{:26} {:>5} {:>9} {:>9} {:>6}", "a CID", "bytes", "ask", "listed", "ratio");
+    }
+    asks::run(mode);
 }

@@ -104,6 +104,25 @@ impl Row<'_> {
     }
 }
 
+/// Two calls of the library on one input, each behind its name, which take turns: the times of both, and
+/// the first's divided by the second's.
+pub fn beside(mode: Mode, place: &str, bytes: usize, mut calls: [(&str, &mut dyn FnMut()); 2]) {
+    if let Mode::Calls { .. } = mode {
+        for (name, call) in &mut calls {
+            mode.calls(&format!("{name}, {place}"), 1, call);
+        }
+        return;
+    }
+    let mut times = [Least::new(1), Least::new(1)];
+    for _ in 0..ROUNDS {
+        for (time, (_, call)) in times.iter_mut().zip(&mut calls) {
+            time.round(call);
+        }
+    }
+    let [one, other] = times.map(|time| time.nanoseconds);
+    println!("{place:26} {bytes:5} {one:9.1} {other:9.1} {:6.2}", one / other);
+}
+
 /// A call of the library on one size of its input: `count` elements or fragments in so many bytes.
 pub struct Size<'a> {
     pub count: usize,

@@ -3,7 +3,7 @@
 
 use crate::inputs;
 use second::assembler::Assembler;
-use second::device_services::{self, Element, Shown};
+use second::device_services::{self, Element, Position, Shown};
 use second::door::{self, Received};
 use second::handshake::{self, CommandAnswer, Host, Modem, ReplyAnswer};
 use second::message::{Header, COMMAND};
@@ -127,6 +127,11 @@ pub fn services_read(payload: &[u8]) -> Result<[u32; 2], Refusal> {
 #[inline(never)]
 pub fn listed(payload: &[u8], service: &[u8; 16], cid: u32) -> Result<bool, Refusal> {
     device_services::listed(payload, service, cid)
+}
+
+#[inline(never)]
+pub fn ask(payload: &[u8], service: &[u8; 16], cid: u32) -> Result<Option<Position>, Refusal> {
+    device_services::ask(payload, service, cid)
 }
 
 #[inline(never)]

@@ -143,6 +143,13 @@ fn device_services(mode: Mode, inputs: &Inputs) {
     );
     row(
         mode,
+        "ask for a CID, the last of all",
+        payload,
+        &mut || keep(c::device_services_ask(black_box(payload), service, 8)),
+        &mut || keep(plain::ask(black_box(payload), &id, 8)),
+    );
+    row(
+        mode,
         "services write, 8 of 8 CIDs",
         payload,
         &mut || keep(c::device_services_write(*black_box(&list), &mut out)),

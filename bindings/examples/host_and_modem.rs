@@ -135,10 +135,10 @@ fn print_services(payload: &[u8]) -> Play<()> {
     let mut cids = [0; c::MOST_CIDS];
     let count = DeviceServices::read(payload)?.device_services_count;
     let found = DeviceServices::cids(payload, BASIC_CONNECT, &mut cids)?.expect("Basic Connect");
-    let listed = DeviceServices::is_listed(payload, EXTENSIONS, VERSION)?;
+    let version = DeviceServices::ask(payload, EXTENSIONS, VERSION)?;
     print!("host: {count} services; CIDs of Basic Connect:");
     cids[..found.cid_count as usize].iter().for_each(|cid| print!(" {cid}"));
-    println!("; VERSION {}", if listed { "listed" } else { "not listed" });
+    println!("; VERSION {}", if version.is_some() { "listed" } else { "not listed" });
     Ok(())
 }
 

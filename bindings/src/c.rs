@@ -117,6 +117,12 @@ layout!(#[derive(Default, Eq)] DeviceService, 28, 24, {
 layout!(#[derive(Default)] ElementAnswer, 48, 20, { refusal: Refusal, listed: u32, element: DeviceService });
 layout!(#[derive(Default)] AllAnswer, 32, 24, { refusal: Refusal, elements: u32, cids: u64 });
 layout!(#[derive(Default)] ListedAnswer, 24, 16, { refusal: Refusal, listed: u32 });
+layout!(#[derive(Default)] PositionAnswer, 32, 24, {
+    refusal: Refusal,
+    listed: u32,
+    element_number: u32,
+    cid_number: u32,
+});
 layout!(
     /// An element with its CIDs, of which the first `fields.cid_count` count.
     #[derive(Eq)]
@@ -342,6 +348,19 @@ extern "C" {
         service: ServiceId,
         cid: u32,
     ) -> ListedAnswer;
+    fn cvr_device_services_ask(
+        payload: *const u8,
+        payload_length: usize,
+        service: ServiceId,
+        cid: u32,
+    ) -> PositionAnswer;
+    fn cvr_device_services_ask_with(
+        zero_size: u32,
+        payload: *const u8,
+        payload_length: usize,
+        service: ServiceId,
+        cid: u32,
+    ) -> PositionAnswer;
     fn cvr_device_services_write(
         list: ServiceList,
         out: *mut u8,
@@ -670,6 +689,23 @@ pub fn device_services_listed_with(
 ) -> ListedAnswer {
     unsafe {
         cvr_device_services_listed_with(zero_size, payload.as_ptr(), payload.len(), service, cid)
+    }
+}
+
+#[inline]
+pub fn device_services_ask(payload: &[u8], service: ServiceId, cid: u32) -> PositionAnswer {
+    unsafe { cvr_device_services_ask(payload.as_ptr(), payload.len(), service, cid) }
+}
+
+#[inline]
+pub fn device_services_ask_with(
+    zero_size: u32,
+    payload: &[u8],
+    service: ServiceId,
+    cid: u32,
+) -> PositionAnswer {
+    unsafe {
+        cvr_device_services_ask_with(zero_size, payload.as_ptr(), payload.len(), service, cid)
     }
 }
 

@@ -60,7 +60,7 @@ impl Host {
     }
 
     /// Any message that came together. The host takes replies to DEVICE_SERVICES and VERSION out of
-    /// them; all others change nothing.
+    /// them; all others change nothing. A list is asked for VERSION as by `DeviceServices::ask`.
     pub fn receive(
         &mut self,
         message: &MessageHeader,

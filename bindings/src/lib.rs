@@ -23,7 +23,7 @@ pub use c::{
 };
 pub use ends::{Action, Event, Host, Modem, Next, Taken};
 pub use messages::{judge, next_transaction, Assembly, Fragments, Kind, Received, Whole};
-pub use payloads::{bars, rsrp, snr, Reading, Texts, ZeroSize};
+pub use payloads::{bars, rsrp, snr, Position, Reading, Texts, ZeroSize};
 pub use pins::{pin_type, Entered, PinTable, PinTexts};
 
 /// Versions of the extensions, and the one MBIM version beside them.

@@ -95,7 +95,14 @@ impl SignalState {
     }
 }
 
-/// Each `.._with` is the one before it by a choice.
+/// Where a CID stands in a list: the number of its element and its own in that, both from 0.
+#[derive(Clone, Copy, Debug, PartialEq, Eq)]
+pub struct Position {
+    pub element_number: u32,
+    pub cid_number: u32,
+}
+
+/// Each `.._with` is the one before it by a choice. Every reader but `ask` judges the whole list first.
 impl DeviceServices {
     pub fn read(payload: &[u8]) -> Result<DeviceServices, Refusal> {
         head(c::device_services_read(payload))
@@ -170,7 +177,8 @@ impl DeviceServices {
         written(c::device_services_write_all(max_dss_sessions, fields, cids, out))
     }
 
-    /// Whether any element of the service holds the CID.
+    /// Whether any element of the service holds the CID. The one to call where the whole list must be good:
+    /// one that you serve or keep.
     pub fn is_listed(payload: &[u8], service: ServiceId, cid: u32) -> Result<bool, Refusal> {
         listed(c::device_services_listed(payload, service, cid))
     }
@@ -182,6 +190,23 @@ impl DeviceServices {
         cid: u32,
     ) -> Result<bool, Refusal> {
         listed(c::device_services_listed_with(zero_size as u32, payload, service, cid))
+    }
+
+    /// Where the service and the CID stand first; none where they are not listed. The one to call at
+    /// start-up, and wherever one fact is wanted of a list that was received: each element is judged in full
+    /// before its CIDs count, and those behind the match are not looked at, so that a list with a fault there
+    /// has its answer.
+    pub fn ask(payload: &[u8], service: ServiceId, cid: u32) -> Result<Option<Position>, Refusal> {
+        position(c::device_services_ask(payload, service, cid))
+    }
+
+    pub fn ask_with(
+        zero_size: ZeroSize,
+        payload: &[u8],
+        service: ServiceId,
+        cid: u32,
+    ) -> Result<Option<Position>, Refusal> {
+        position(c::device_services_ask_with(zero_size as u32, payload, service, cid))
     }
 }
 
@@ -274,6 +299,11 @@ fn counted(answer: c::AllAnswer) -> Result<(u32, u64), Refusal> {
 
 fn listed(answer: c::ListedAnswer) -> Result<bool, Refusal> {
     answer.refusal.or(answer.listed != 0)
+}
+
+fn position(answer: c::PositionAnswer) -> Result<Option<Position>, Refusal> {
+    let c::PositionAnswer { refusal, listed, element_number, cid_number } = answer;
+    refusal.or((listed != 0).then_some(Position { element_number, cid_number }))
 }
 
 fn reading(answer: c::ReadingAnswer) -> Result<Reading, Refusal> {

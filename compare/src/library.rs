@@ -76,6 +76,7 @@ fn ask_stateless(question: u32, asked: &Asked) -> Flat {
         q::ELEMENT => element(asked),
         q::SERVICE_CIDS => service_cids(asked),
         q::LISTED => listed(asked),
+        q::ASK_CID => ask_cid(asked),
         q::SERVICES_WRITE => services_write(asked),
         q::WHOLE_MESSAGE => whole_message(asked),
         q::WHOLE_WRITE => whole_write(asked),
@@ -102,6 +103,7 @@ fn ask_with(question: u32, asked: &Asked) -> Flat {
         q::ELEMENT_WITH => element_with(asked),
         q::SERVICE_CIDS_WITH => service_cids_with(asked),
         q::LISTED_WITH => listed_with(asked),
+        q::ASK_CID_WITH => ask_cid_with(asked),
         q::SET_PIN_READ_WITH => set_pin_shown(c::set_pin_read_with(asked.word(0), asked.input)),
         _ => none(),
     }
@@ -199,7 +201,7 @@ macro_rules! refusable {
 
 refusable!(WrittenAnswer, VersionInfoAnswer, PacketServiceAnswer, RegistrationAnswer);
 refusable!(SignalStateAnswer, ReadingAnswer, BarsAnswer, DeviceServicesAnswer, ElementAnswer);
-refusable!(ListedAnswer, WholeAnswer, CutAnswer, KindAnswer, ReceiveAnswer);
+refusable!(ListedAnswer, PositionAnswer, WholeAnswer, CutAnswer, KindAnswer, ReceiveAnswer);
 refusable!(HostAnswer, AskAnswer, ModemAnswer, SetPinAnswer, PinInfoAnswer, PinAnswer);
 
 impl Refusable for Refusal {
@@ -518,6 +520,21 @@ fn listed_with(asked: &Asked) -> Flat {
 
 fn is_listed(answer: ListedAnswer) -> Flat {
     plain(&[accepted(answer)?.listed.into()])
+}
+
+fn ask_cid(asked: &Asked) -> Flat {
+    let (service, payload) = asked.service();
+    position(c::device_services_ask(payload, service, asked.word(0)))
+}
+
+fn ask_cid_with(asked: &Asked) -> Flat {
+    let ((service, payload), cid, zero_size) = (asked.service(), asked.word(0), asked.word(1));
+    position(c::device_services_ask_with(zero_size, payload, service, cid))
+}
+
+fn position(answer: PositionAnswer) -> Flat {
+    let PositionAnswer { listed, element_number, cid_number, .. } = accepted(answer)?;
+    plain(&words(&[listed, element_number, cid_number]))
 }
 
 fn services_write(asked: &Asked) -> Flat {

@@ -3,8 +3,10 @@
 //!
 //!     compare [CASES [SEED]]
 //!
-//! Exit status 1 if any answer differs, or if the library does what its header rules out.
+//! Exit status 1 if any answer differs, if the library does what its header rules out, or if something was
+//! not asked or not met.
 
+mod asks;
 mod damage;
 mod ends;
 mod lent;
@@ -26,13 +28,14 @@ const CASES: usize = 100_000;
 const SEED: u64 = 20;
 
 /// What makes up questions; each is asked in turn.
-const MAKERS: [fn(&mut Sides, &mut Random); 15] = [
+const MAKERS: [fn(&mut Sides, &mut Random); 16] = [
     payloads::version,
     payloads::packet,
     payloads::registration,
     payloads::signal,
     payloads::readings,
     services::services,
+    asks::lists,
     messages::whole,
     messages::kind,
     messages::cut,
@@ -67,8 +70,12 @@ fn main() -> ExitCode {
     if !unasked.is_empty() {
         println!("not asked: {unasked:?}");
     }
+    let unmet = sides.met.missing();
+    if !unmet.is_empty() {
+        println!("not met: {unmet:?}");
+    }
     println!("{} differences, {wrong} wrong with hostile memory", sides.differences);
-    ExitCode::from((sides.differences + wrong + unasked.len() > 0) as u8)
+    ExitCode::from((sides.differences + wrong + unasked.len() + unmet.len() > 0) as u8)
 }
 
 fn arguments() -> Option<(usize, u64)> {

@@ -1,5 +1,6 @@
 //! The device services list: written, read, asked for its elements, whole and damaged.
 
+use crate::asks;
 use crate::damage;
 use crate::payloads::{moved, put, written};
 use crate::random::Random;
@@ -132,7 +133,7 @@ fn choose(sides: &mut Sides, random: &mut Random, payload: &[u8]) {
     sides.ask_by(&[choice], q::ELEMENT, &[room, number.into()], payload);
     let input = [&service(random)[..], payload].concat();
     sides.ask_by(&[choice], q::SERVICE_CIDS, &[room], &input);
-    sides.ask_by(&[choice], q::LISTED, &[cid(random).into()], &input);
+    asks::ask(sides, &[choice], cid(random).into(), &input);
     let rooms = (random.pick(&[0, 6, 7, 14, 224, 224, 230]), random.pick(&[0, 3, 40, 4096, 4096]));
     same_all(sides, &[choice], payload, rooms);
 }

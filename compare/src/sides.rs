@@ -1,5 +1,6 @@
 //! The two sides: every question goes to both, and their answers must be equal.
 
+use crate::asks::Met;
 use crate::library::Library;
 use second::flat::{question as q, Answer, Second};
 use std::collections::BTreeSet;
@@ -25,6 +26,8 @@ const GROUPS: [(&str, &[u32]); 13] = [
             q::SERVICE_CIDS_WITH,
             q::LISTED,
             q::LISTED_WITH,
+            q::ASK_CID,
+            q::ASK_CID_WITH,
             q::SERVICES_WRITE,
         ],
     ),
@@ -61,14 +64,21 @@ pub struct Sides {
     second: Second,
     library: Library,
     counts: Vec<Count>,
+    pub met: Met,
     pub cases: usize,
     pub differences: usize,
 }
 
 impl Sides {
     pub fn new() -> Sides {
-        let counts = vec![Count::default(); q::SHOW_PINS as usize + 1];
-        Sides { second: Second::new(), library: Library::new(), counts, cases: 0, differences: 0 }
+        Sides {
+            second: Second::new(),
+            library: Library::new(),
+            counts: vec![Count::default(); q::ASK_CID_WITH as usize + 1],
+            met: Met::default(),
+            cases: 0,
+            differences: 0,
+        }
     }
 
     /// Asks both sides and gives the library's answer, or none where it has done wrong.
@@ -149,7 +159,15 @@ impl Sides {
         }
     }
 
-    fn differ(&mut self, question: u32, arguments: &[u64], input: &[u8], want: &Answer, got: &str) {
+    /// Counts a difference and shows it.
+    pub fn differ(
+        &mut self,
+        question: u32,
+        arguments: &[u64],
+        input: &[u8],
+        want: &Answer,
+        got: &str,
+    ) {
         self.differences += 1;
         if self.differences > PRINTED {
             return;
@@ -162,7 +180,7 @@ impl Sides {
         println!("  library   {got}");
     }
 
-    /// One line for each group, and the total.
+    /// One line for each group, and the total; then what the question for one CID came to.
     pub fn report(&self) {
         let mut total = Count::default();
         for (name, questions) in GROUPS {
@@ -174,6 +192,7 @@ impl Sides {
             total.add(&group);
         }
         total.print("total");
+        self.met.report();
     }
 
     /// Questions that were not asked.
@@ -205,6 +224,7 @@ fn by_choice(question: u32) -> Option<u32> {
         q::ELEMENT => Some(q::ELEMENT_WITH),
         q::SERVICE_CIDS => Some(q::SERVICE_CIDS_WITH),
         q::LISTED => Some(q::LISTED_WITH),
+        q::ASK_CID => Some(q::ASK_CID_WITH),
         q::SET_PIN_READ => Some(q::SET_PIN_READ_WITH),
         _ => None,
     }

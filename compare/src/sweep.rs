@@ -2,6 +2,7 @@
 //! and around the limits, and each payload is cut short at every length. A reader with a choice is asked
 //! without it, by each and by a number that is none.
 
+use crate::asks;
 use crate::library::WHOLE;
 use crate::messages::fragments;
 use crate::payloads::put;
@@ -49,7 +50,7 @@ const LIMITS: [u32; 28] = [
     0xFFFF_FFFE,
 ];
 
-fn numbers() -> impl Iterator<Item = u32> {
+pub fn numbers() -> impl Iterator<Item = u32> {
     let near = LIMITS.into_iter().flat_map(|limit| limit - 1..=limit + 1);
     near.chain((0..32).map(|bit| 1 << bit)).chain([0xFFFF_FFFC])
 }
@@ -64,6 +65,7 @@ pub fn all(sides: &mut Sides) {
     version_info(sides);
     services(sides);
     service_lists(sides);
+    asks::sweep(sides);
     codes(sides);
     whole(sides);
     for message_type in [COMMAND, COMMAND_DONE, INDICATE_STATUS] {
@@ -237,7 +239,9 @@ fn services(sides: &mut Sides) {
     for service in [EXTENSIONS, BASIC_CONNECT, [0; 16]] {
         let input = [&service[..], &payload].concat();
         rooms(sides, q::SERVICE_CIDS, &[], &input, 2);
-        changed_numbers(sides, q::LISTED, &[15], 0, &input);
+        for cid in numbers() {
+            asks::ask(sides, &CHOICES, cid.into(), &input);
+        }
     }
 }
 
@@ -258,7 +262,7 @@ fn about_list(sides: &mut Sides, choices: &[u64], payload: &[u8]) {
     sides.ask_by(choices, q::SERVICES_READ, &[], payload);
     sides.ask_by(choices, q::ELEMENT, &[128, 1], payload);
     sides.ask_by(choices, q::SERVICE_CIDS, &[128], &input);
-    sides.ask_by(choices, q::LISTED, &[15], &input);
+    asks::ask(sides, choices, 15, &input);
     same_all(sides, choices, payload, (224, 4096));
 }
 

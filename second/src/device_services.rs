@@ -1,5 +1,6 @@
 //! The DEVICE_SERVICES payload: a list of elements, each a service with its CIDs.
-//! The whole list is judged before anything of it is shown.
+//! The whole list is judged before anything of it is shown; only `ask` goes from element to
+//! element and stops at what it looks for.
 
 use crate::bytes::{put, put_word, service, word};
 use crate::pair::{judge_list, Bounds, Range, ZeroSize};
@@ -47,6 +48,13 @@ pub struct Shown {
     pub cid_count: usize,
 }
 
+/// Where a CID stands: the number of its element and its own number in that, both from 0.
+#[derive(Clone, Copy, Debug, PartialEq, Eq)]
+pub struct Position {
+    pub element: usize,
+    pub cid: usize,
+}
+
 /// An accepted payload.
 #[derive(Clone, Copy, Debug, PartialEq, Eq)]
 pub struct DeviceServices<'a> {
@@ -63,13 +71,7 @@ pub fn read(payload: &[u8]) -> Result<DeviceServices<'_>, Refusal> {
 /// Reads a payload as `read` does, but by this choice where an element has size 0.
 #[inline]
 pub fn read_with(zero_size: ZeroSize, payload: &[u8]) -> Result<DeviceServices<'_>, Refusal> {
-    let length = payload.len();
-    require(length >= PAIRS, TOO_SHORT, length)?;
-    let count = word(payload, DEVICE_SERVICES_COUNT) as usize;
-    require(count <= MAX_ELEMENTS, COUNT_OVER_LIMIT, DEVICE_SERVICES_COUNT)?;
-    let bounds = Bounds { fixed: PAIRS + PAIR * count, length };
-    require(length >= bounds.fixed, TOO_SHORT, length)?;
-    require(length <= MAX_INFORMATION, INFORMATION_TOO_LONG, 0)?;
+    let (count, bounds) = judge_head(payload)?;
     for number in 0..count {
         judge_element(payload, PAIRS + PAIR * number, zero_size, bounds)?;
     }
@@ -177,6 +179,37 @@ pub fn listed_with(
     Ok(read_with(zero_size, payload)?.lists(service_id, cid))
 }
 
+/// Where this service and this CID stand first, in listed order; `None` where no element holds
+/// both. Elements are judged one by one, each in full before its CIDs count, and those after
+/// the match not at all: a list that `read` refuses may have an answer.
+#[inline]
+pub fn ask(payload: &[u8], service_id: &ServiceId, cid: u32) -> Result<Option<Position>, Refusal> {
+    ask_with(ZeroSize::default(), payload, service_id, cid)
+}
+
+/// Answers as `ask` does, but by this choice where an element has size 0.
+#[inline]
+pub fn ask_with(
+    zero_size: ZeroSize,
+    payload: &[u8],
+    service_id: &ServiceId,
+    cid: u32,
+) -> Result<Option<Position>, Refusal> {
+    let (count, bounds) = judge_head(payload)?;
+    for number in 0..count {
+        let field = PAIRS + PAIR * number;
+        judge_element(payload, field, zero_size, bounds)?;
+        let bytes = Range::at(payload, field).of(payload);
+        if service(bytes, DEVICE_SERVICE_ID) != *service_id {
+            continue;
+        }
+        if let Some(place) = cids(bytes).position(|listed| listed == cid) {
+            return Ok(Some(Position { element: number, cid: place }));
+        }
+    }
+    Ok(None)
+}
+
 impl<'a> DeviceServices<'a> {
     #[inline]
     pub fn count(&self) -> usize {
@@ -274,6 +307,20 @@ pub fn write_all(
     Ok(length)
 }
 
+/// What comes before the elements: length, count, pairs missing, and the 4,096. Gives the count
+/// and what pairs are judged by.
+#[inline(always)]
+fn judge_head(payload: &[u8]) -> Result<(usize, Bounds), Refusal> {
+    let length = payload.len();
+    require(length >= PAIRS, TOO_SHORT, length)?;
+    let count = word(payload, DEVICE_SERVICES_COUNT) as usize;
+    require(count <= MAX_ELEMENTS, COUNT_OVER_LIMIT, DEVICE_SERVICES_COUNT)?;
+    let bounds = Bounds { fixed: PAIRS + PAIR * count, length };
+    require(length >= bounds.fixed, TOO_SHORT, length)?;
+    require(length <= MAX_INFORMATION, INFORMATION_TOO_LONG, 0)?;
+    Ok((count, bounds))
+}
+
 /// The pair's rules, then its element: size, count, size against count.
 #[inline(always)]
 fn judge_element(
@@ -361,6 +408,7 @@ mod tests {
 
     const A: ServiceId = [0xA; 16];
     const B: ServiceId = [0xB; 16];
+    const CHOICES: [ZeroSize; 2] = [ZeroSize::Absent, ZeroSize::Strict];
 
     fn of(device_service_id: ServiceId, cids: &[u32]) -> Element<'_> {
         Element { device_service_id, dss_payload: 1, max_dss_instances: 2, cids }
@@ -481,7 +529,7 @@ mod tests {
     #[test]
     fn a_good_list_answers_alike_by_either_choice() {
         let payload = written(&[of(A, &[1, 2]), of(B, &[3])]);
-        for zero_size in [ZeroSize::Absent, ZeroSize::Strict] {
+        for zero_size in CHOICES {
             assert_eq!(read_with(zero_size, &payload), read(&payload));
             assert_eq!(listed_with(zero_size, &payload, &B, 3), Ok(true));
             assert_eq!(listed_with(zero_size, &payload, &A, 3), Ok(false));
@@ -491,6 +539,154 @@ mod tests {
             let shown = first_of_service_with(zero_size, &payload, &A, &mut list);
             assert_eq!((shown.unwrap().unwrap().cid_count, list), (2, [1, 2]));
             assert_eq!(all_with(zero_size, &payload, &mut [0; 14], &mut [0; 3]), Ok((2, 3)));
+        }
+    }
+
+    /// That by either choice the CID of A stands here.
+    fn assert_found(payload: &[u8], cid: u32, element: usize, place: usize) {
+        let found = Ok(Some(Position { element, cid: place }));
+        assert_eq!(ask(payload, &A, cid), found);
+        for zero_size in CHOICES {
+            assert_eq!(ask_with(zero_size, payload, &A, cid), found);
+        }
+    }
+
+    /// That by either choice the question and the full reader refuse alike.
+    fn assert_ask_refused(payload: &[u8], cid: u32, number: u32, place: usize) {
+        let refusal = Refusal::new(number, place);
+        assert_eq!(ask(payload, &A, cid), Err(refusal));
+        for zero_size in CHOICES {
+            assert_eq!(ask_with(zero_size, payload, &A, cid), Err(refusal));
+            assert_eq!(read_with(zero_size, payload), Err(refusal));
+        }
+    }
+
+    /// A:[1, 2], A:[3] and B:[3], with a fault of each kind in the element of this number: the
+    /// payload, and its refusal by either choice.
+    fn faults(element: usize) -> Vec<(Vec<u8>, u32, usize)> {
+        let good = written(&[of(A, &[1, 2]), of(A, &[3]), of(B, &[3])]);
+        let pair = 8 + 8 * element;
+        let offset = word(&good, pair);
+        let count = offset as usize + 24;
+        let pairs = [(0, 28, 6), (33, 28, 17), (132, 28, 7), (32, 541, 8), (32, 27, 8), (0, 0, 8)];
+        let pair_with = |at, size| with(&with(&good, pair, at), pair + 4, size);
+        let mut all = pairs.map(|(at, size, number)| (pair_with(at, size), number, pair)).to_vec();
+        all.push((with(&good, count, 129), 15, count));
+        all.push((with(&good, count, 0), 8, pair));
+        all.push((with(&good, count, 9), 8, pair));
+        all.push((with(&good, pair + 4, word(&good, pair + 4) - 1), 8, pair));
+        all
+    }
+
+    #[test]
+    fn a_match_before_the_first_fault_is_found() {
+        for (payload, number, place) in faults(2) {
+            assert_found(&payload, 1, 0, 0);
+            assert_found(&payload, 2, 0, 1);
+            assert_found(&payload, 3, 1, 0);
+            assert_ask_refused(&payload, 4, number, place);
+            assert_eq!(ask(&payload, &B, 3), Err(Refusal::new(number, place)));
+            assert_eq!(listed(&payload, &A, 1), Err(Refusal::new(number, place)));
+        }
+    }
+
+    #[test]
+    fn a_match_inside_a_faulty_element_or_behind_one_is_none() {
+        for (payload, number, place) in faults(1) {
+            assert_found(&payload, 2, 0, 1);
+            assert_ask_refused(&payload, 3, number, place);
+            assert_eq!(ask(&payload, &B, 3), Err(Refusal::new(number, place)));
+        }
+        for (payload, number, place) in faults(0) {
+            for cid in [1, 2, 3, 4] {
+                assert_ask_refused(&payload, cid, number, place);
+            }
+        }
+    }
+
+    #[test]
+    fn of_two_faults_the_first_counts() {
+        let good = written(&[of(A, &[1]), of(A, &[2]), of(A, &[3])]);
+        let both = with(&with(&good, 8, 33), 24, 0);
+        assert_ask_refused(&both, 2, 17, 8);
+        let behind = with(&with(&good, 16, 33), 24, 0);
+        assert_found(&behind, 1, 0, 0);
+        assert_ask_refused(&behind, 3, 17, 16);
+    }
+
+    #[test]
+    fn the_first_match_in_listed_order_is_shown() {
+        let payload = written(&[of(B, &[5]), of(A, &[]), of(A, &[4, 5, 5]), of(A, &[5, 6, 4])]);
+        assert_found(&payload, 4, 2, 0);
+        assert_found(&payload, 5, 2, 1);
+        assert_found(&payload, 6, 3, 1);
+        assert_eq!(ask(&payload, &B, 5), Ok(Some(Position { element: 0, cid: 0 })));
+        assert_eq!(ask(&payload, &B, 4), Ok(None));
+        let cids: Vec<u32> = (0..128).collect();
+        assert_found(&written(&[of(B, &cids), of(A, &cids)]), 127, 1, 127);
+        assert_found(&written(&[[of(B, &[1]); 31].as_slice(), &[of(A, &[1])]].concat()), 1, 31, 0);
+    }
+
+    #[test]
+    fn listed_order_is_that_of_the_pairs() {
+        let good = written(&[of(A, &[1]), of(A, &[2, 1])]);
+        let swapped = [&good[..8], &good[16..24], &good[8..16], &good[24..]].concat();
+        assert_found(&swapped, 1, 0, 1);
+        let same = [&good[..8], &good[16..24], &good[16..]].concat();
+        assert_found(&same, 1, 0, 1);
+    }
+
+    #[test]
+    fn length_and_count_come_before_a_match() {
+        let good = written(&[of(A, &[1]), of(A, &[2])]);
+        assert_found(&good, 1, 0, 0);
+        for length in [0, 1, 7, 8, 15, 16, 23] {
+            assert_ask_refused(&good[..length], 1, 1, length);
+        }
+        assert_ask_refused(&with(&good, 0, 33), 1, 15, 0);
+        assert_ask_refused(&with(&good, 0, u32::MAX), 1, 15, 0);
+        assert_ask_refused(&with(&good, 0, 32), 1, 1, good.len());
+        assert_ask_refused(&with(&good, 0, 3), 1, 6, 8);
+        let mut long = good.clone();
+        long.resize(4096, 0);
+        assert_found(&long, 2, 1, 0);
+        long.push(0);
+        assert_ask_refused(&long, 2, 5, 0);
+        assert_eq!(ask(&with(&good, 0, 0), &A, 1), Ok(None));
+        assert_eq!(ask(&with(&good, 0, 1), &A, 2), Ok(None));
+    }
+
+    #[test]
+    fn an_accepted_list_answers_as_the_full_question() {
+        for elements in [
+            &[][..],
+            &[of(A, &[])],
+            &[of(A, &[1, 2]), of(B, &[]), of(A, &[3, 1])],
+            &[of(B, &[2, 2]), of(B, &[1]), of(A, &[0, u32::MAX])],
+        ] {
+            let payload = written(elements);
+            for service_id in [A, B, [0; 16]] {
+                for cid in [0, 1, 2, 3, 4, 0x101, u32::MAX] {
+                    let full = listed(&payload, &service_id, cid);
+                    let asked = ask(&payload, &service_id, cid).map(|found| found.is_some());
+                    assert_eq!(asked, full);
+                }
+            }
+        }
+    }
+
+    #[test]
+    fn an_element_of_size_0_is_asked_by_choice() {
+        let good = written(&[of(A, &[1]), of(B, &[1]), of(A, &[2])]);
+        for offset in [1, 3, 4, 32, 52, 4096, 0xFFFF_FFFC, u32::MAX] {
+            let payload = with(&with(&good, 16, offset), 20, 0);
+            assert_found(&payload, 1, 0, 0);
+            for cid in [2, 3] {
+                let [absent, strict] = [8, 18].map(|number| Err(Refusal::new(number, 16)));
+                assert_eq!(ask(&payload, &A, cid), absent);
+                assert_eq!(ask_with(ZeroSize::Absent, &payload, &A, cid), absent);
+                assert_eq!(ask_with(ZeroSize::Strict, &payload, &A, cid), strict);
+            }
         }
     }
 

@@ -3,7 +3,7 @@
 
 use crate::assembler::Assembler;
 use crate::bytes::word;
-use crate::device_services::{self, DeviceServices, Element, Shown};
+use crate::device_services::{self, DeviceServices, Element, Position, Shown};
 use crate::door::{self, Received};
 use crate::handshake::{host, modem, pins};
 use crate::handshake::{CommandAnswer, Host, Modem, NextCommand, ReplyAnswer};
@@ -72,6 +72,8 @@ pub mod question {
     pub const PIN_ENTRY: u32 = 48;
     pub const PIN_RECEIVE: u32 = 49;
     pub const SHOW_PINS: u32 = 50;
+    pub const ASK_CID: u32 = 51;
+    pub const ASK_CID_WITH: u32 = 52;
 }
 
 /// What a lent output holds before the call.
@@ -171,6 +173,7 @@ fn ask_stateless(question: u32, asked: &Asked) -> Flat {
         question::SET_PIN_WRITE => set_pin_write(asked),
         question::PIN_INFO_READ => plain(&pin_info_numbers(pin::read_info(asked.input)?)),
         question::PIN_INFO_WRITE => pin_info_write(asked),
+        question::ASK_CID => ask_cid(asked),
         _ => ask_with(question, asked),
     }
 }
@@ -187,6 +190,7 @@ fn ask_with(question: u32, asked: &Asked) -> Flat {
         question::SET_PIN_READ_WITH => {
             set_pin_shown(pin::read_set_with(asked.zero_size(0)?, asked.input)?)
         }
+        question::ASK_CID_WITH => ask_cid_with(asked),
         _ => none(),
     }
 }
@@ -510,6 +514,23 @@ fn listed_with(asked: &Asked) -> Flat {
     let ((service, payload), zero_size) = (asked.service(), asked.zero_size(1)?);
     let listed = device_services::listed_with(zero_size, payload, &service, asked.word(0))?;
     plain(&[listed.into()])
+}
+
+fn ask_cid(asked: &Asked) -> Flat {
+    let (service, payload) = asked.service();
+    found(device_services::ask(payload, &service, asked.word(0))?)
+}
+
+fn ask_cid_with(asked: &Asked) -> Flat {
+    let ((service, payload), zero_size) = (asked.service(), asked.zero_size(1)?);
+    found(device_services::ask_with(zero_size, payload, &service, asked.word(0))?)
+}
+
+fn found(position: Option<Position>) -> Flat {
+    match position {
+        Some(position) => plain(&[1, position.element as u64, position.cid as u64]),
+        None => plain(&[0, 0, 0]),
+    }
 }
 
 /// An element as the arguments give it.
@@ -904,6 +925,7 @@ mod tests {
             assert_eq!(numbers(question::ELEMENT_WITH, &[4, 0, choice], &[]), [9, 0]);
             assert_eq!(numbers(question::SERVICE_CIDS_WITH, &[4, choice], &[]), [9, 0]);
             assert_eq!(numbers(question::LISTED_WITH, &[15, choice], &[]), [9, 0]);
+            assert_eq!(numbers(question::ASK_CID_WITH, &[15, choice], &[]), [9, 0]);
         }
     }
 
@@ -938,9 +960,27 @@ mod tests {
             ([question::ELEMENT, question::ELEMENT_WITH], &[4, 0], &list),
             ([question::SERVICE_CIDS, question::SERVICE_CIDS_WITH], &[4], &after_service),
             ([question::LISTED, question::LISTED_WITH], &[15], &after_service),
+            ([question::ASK_CID, question::ASK_CID_WITH], &[15], &after_service),
         ] {
             assert_eq!(each_way(asked, arguments, input), [[8, 8], [8, 8], [18, 8]]);
         }
+    }
+
+    #[test]
+    fn a_cid_is_found_at_its_place() {
+        let ask = [question::ASK_CID, question::ASK_CID_WITH];
+        let written = [200, 3, 0, 0, 0, 0, 0, 0, 3, 7, 15, 15, 0, 0, 1, 15];
+        let services = [[1; 16], [2; 16], [2; 16]].concat();
+        let list = Second::new().ask(question::SERVICES_WRITE, &written, &services).output;
+        let after_service = [&[2; 16][..], &list].concat();
+        assert_eq!(each_way(ask, &[15], &after_service), [[0, 1, 1, 1]; 3]);
+        assert_eq!(each_way(ask, &[7], &after_service), [[0, 1, 1, 0]; 3]);
+        assert_eq!(each_way(ask, &[8], &after_service), [[0, 0, 0, 0]; 3]);
+        let mut stray = after_service;
+        stray[16 + 28] = 0;
+        assert_eq!(each_way(ask, &[15], &stray), [[0, 1, 1, 1]; 3]);
+        assert_eq!(each_way(ask, &[8], &stray), [[8, 24], [8, 24], [18, 24]]);
+        assert_eq!(each_way(ask, &[15], &[2; 16]), [[1, 0]; 3]);
     }
 
     #[test]

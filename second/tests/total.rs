@@ -56,11 +56,12 @@ fn any_question_is_answered() {
     second.ask(question::MAKE_MODEM, &[0x0200, 0x0100, 10], &[0; 8]);
     second.ask(question::MAKE_PINS, &[PINS_SIZE, 1, 1, 3, 0, 1, 1, 3, 4], &[7; 544]);
     for _ in 0..60_000 {
-        let asked = random.below(52) as u32;
+        let asked = random.below(54) as u32;
         let count = random.below(30);
         let mut arguments: Vec<u64> = (0..count).map(|_| random.number()).collect();
         if let Some(room) = arguments.first_mut() {
-            let is_room = !matches!(asked, 3 | 5 | 7 | 12 | 20..=23 | 26..=27 | 33..=38 | 41 | 43);
+            let is_room =
+                !matches!(asked, 3 | 5 | 7 | 12 | 20..=23 | 26..=27 | 33..=38 | 41 | 43 | 51 | 52);
             *room = if is_room { *room % 8000 } else { *room };
         }
         let input = random.input();
@@ -137,6 +138,97 @@ fn a_size_of_0_reads_as_beside_offset_0() {
         let questions = [question::SET_PIN_READ, question::SET_PIN_READ_WITH];
         assert_choices(questions, &[], &payload, &fields);
     }
+}
+
+/// A list of up to four elements of two services with CIDs below 3, damaged in up to two words,
+/// and now and then cut short or made longer.
+fn list(random: &mut Random) -> Vec<u8> {
+    let count = random.below(5);
+    let (mut arguments, mut services) = (vec![400, count, 0], Vec::new());
+    for _ in 0..count {
+        let cid_count = random.below(4);
+        arguments.extend([0, 0, cid_count]);
+        arguments.extend((0..cid_count).map(|_| random.below(3)));
+        services.extend([random.below(2) as u8; 16]);
+    }
+    let mut payload = Second::new().ask(question::SERVICES_WRITE, &arguments, &services).output;
+    for _ in 0..random.below(3) {
+        let words = payload.len() as u64 / 4;
+        let pairs = random.below(2 + 2 * count).min(words - 1);
+        let place = 4 * [pairs, random.below(words)][random.below(2) as usize] as usize;
+        let inside = random.below(words) * 4;
+        let word =
+            [inside, random.below(4), 28, 33, 129, random.number()][random.below(6) as usize];
+        payload[place..place + 4].copy_from_slice(&(word as u32).to_le_bytes());
+    }
+    let length = [payload.len(), payload.len(), random.below(200) as usize];
+    payload.resize(length[random.below(3) as usize], 0);
+    payload
+}
+
+/// The number of the element that the full reader refuses; 0 where it refuses no element.
+fn refused_element(payload: &[u8], refusal: &[u64]) -> usize {
+    let offset =
+        |field: usize| payload[field..].first_chunk().map(|bytes| u32::from_le_bytes(*bytes));
+    let is_refused = |field: usize| match refusal {
+        [6 | 7 | 8 | 17 | 18, place] => *place == field as u64,
+        [15, place] => offset(field).map(|offset| u64::from(offset) + 24) == Some(*place),
+        _ => false,
+    };
+    (8..payload.len()).step_by(8).position(is_refused).unwrap_or(0)
+}
+
+/// How many good elements stand before the one that the full reader refuses, and the payload
+/// with that one and all behind it made like the first.
+fn before_fault(payload: &[u8], refusal: &[u64]) -> (usize, Vec<u8>) {
+    let (good, mut before) = (refused_element(payload, refusal), payload.to_vec());
+    if good > 0 {
+        for number in good..payload[0].into() {
+            before.copy_within(8..16, 8 + 8 * number);
+        }
+    }
+    (good, before)
+}
+
+/// The answer by the first of so many elements that has the service and the CID.
+fn first_match(payload: &[u8], count: usize, service: &[u8; 16], cid: u64) -> Option<Vec<u64>> {
+    let service = u64::from(service[0]) * 0x0101_0101;
+    (0..count as u64).find_map(|number| {
+        let shown = Second::new().ask(question::ELEMENT, &[128, number], payload).numbers;
+        assert_eq!(shown[..2], [0, 1]);
+        let is_service = shown[2..6] == [service; 4];
+        let place = shown[9..].iter().position(|listed| *listed == cid);
+        place.filter(|_| is_service).map(|place| vec![0, 1, number, place as u64])
+    })
+}
+
+/// Where the full reader accepts, the question finds what the elements show; where it refuses,
+/// what those before the fault show, or it refuses alike.
+#[test]
+fn the_question_is_that_of_the_elements_before_a_fault() {
+    let mut random = Random(0x7531_8642_ECA8_FDB9);
+    let mut seen = [0; 4];
+    for _ in 0..40_000 {
+        let payload = list(&mut random);
+        let service = [random.below(2) as u8; 16];
+        let (cid, choice) = (random.below(3), random.below(2));
+        let full = Second::new().ask(question::SERVICES_READ_WITH, &[choice], &payload).numbers;
+        let is_good = full[0] == 0;
+        let (count, before) = match is_good {
+            true => (full[1] as usize, payload.clone()),
+            false => before_fault(&payload, &full),
+        };
+        let otherwise = if is_good { vec![0; 4] } else { full };
+        let expected = first_match(&before, count, &service, cid).unwrap_or(otherwise);
+        let input = [&service[..], &payload].concat();
+        let ask =
+            |question, arguments: &[u64]| Second::new().ask(question, arguments, &input).numbers;
+        assert_eq!(ask(question::ASK_CID_WITH, &[cid, choice]), expected);
+        assert!(choice == 1 || ask(question::ASK_CID, &[cid]) == expected);
+        assert!(!is_good || ask(question::LISTED, &[cid]) == expected[..2]);
+        seen[2 * usize::from(is_good) + usize::from(expected[..2] == [0, 1])] += 1;
+    }
+    assert!(seen.iter().all(|times| *times > 1000), "{seen:?}");
 }
 
 /// A SET_PIN payload with texts of at most two bytes, now and then damaged.

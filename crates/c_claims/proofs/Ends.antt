@@ -19,6 +19,9 @@ use Rattle.protocol.specs.declared.service.Carried.the-variants as carried
 use Rattle.version_info.specs.VersionInfo.{readOf, writeOf}
 use Rattle.version_info.specs.declared.VersionInfoRead.{VersionInfoRead}
 use Rattle.version_info.specs.declared.VersionInfoRead.the-variants as read
+use Rattle.services_ask.specs.ServicesAsk.{positionOf, withoutPosition}
+use Rattle.services_ask.specs.declared.PositionAnswer.{PositionAnswer}
+use Rattle.services_ask.specs.declared.PositionAnswer.the-variants as position
 use Rattle.services_query.specs.declared.ListedAnswer.{ListedAnswer}
 use Rattle.services_query.specs.declared.ListedAnswer.the-variants as list
 use Rattle.message.specs.declared.MessageHeader.{MessageHeader}
@@ -48,11 +51,11 @@ use Rattle.lent_host.specs.LentHost as lentHost
 use Rattle.lent_modem.specs.LentModem as lentModem
 use Rattle.c_structs.specs.Answers.{writtenAnswer}
 use Rattle.c_structs.specs.Versions.{answerOf}
-use Rattle.c_structs.specs.Services.{listedInfo}
+use Rattle.c_structs.specs.Services.{listedInfo, positionInfo}
 use Rattle.c_structs.specs.Ends.{hostInfo, askInfo, modemInfo}
-use Rattle.c_claims.specs.NumberZero.{VerdictTells, WrittenTells, VersionTells, ListedTells, HostTells, AskTells, ModemTells}
+use Rattle.c_claims.specs.NumberZero.{VerdictTells, WrittenTells, VersionTells, ListedTells, PositionTells, HostTells, AskTells, ModemTells}
 use Rattle.c_claims.proofs.Verdicts.{told-if, told-first, told-rules, by-test, told-number}
-use Rattle.c_claims.proofs.Payloads.{version-read-told, version-write-told, listed-told}
+use Rattle.c_claims.proofs.Payloads.{version-read-told, version-write-told, listed-told, position-told}
 
 -- what is stored in memory, where there is room
 pub stored-told : (size : ℕ) (bytes m : List ℕ) → VerdictTells (stored size bytes m .verdict)
@@ -94,10 +97,15 @@ list-told (hostStage.AwaitsVersion a) h listed = refl
 list-told (hostStage.Settled v) h listed = refl
 
 services-told : (h : Host) (status : ℕ) (s : List ℕ) → HostTells (host.servicesReplyOf h status s .answer)
-unfolding host.servicesReplyOf host.listReply hostInfo listedInfo
+unfolding host.servicesReplyOf host.listReply hostInfo listedInfo positionInfo
 services-told h status s =
-    by-test (λ (x : HostStep). HostTells (x .answer)) (eqb status 0) (by-list (versionListed s) (listed-told s (idAt extensions 0) versionCid)) refl
+    by-test (λ (x : HostStep). HostTells (x .answer)) (eqb status 0) (by-list (host.versionAsked s) (by-position (positionOf s (idAt extensions 0) versionCid) (position-told s (idAt extensions 0) versionCid))) refl
   where
+    by-position : (a : PositionAnswer) → PositionTells a → ListedTells (withoutPosition a)
+    by-position (position.Listed i k) x = refl
+    by-position position.NotListed x = refl
+    by-position (position.Refused r) x = x
+
     by-list : (a : ListedAnswer) → ListedTells a → HostTells (host.listReply h a .answer)
     by-list list.Listed x = list-told (h .stage) h true
     by-list list.NotListed x = list-told (h .stage) h false

@@ -43,6 +43,10 @@ use Rattle.signal_quality.specs.Bars.{barsOf}
 use Rattle.device_services.specs.declared.DeviceServices.{DeviceServices}
 use Rattle.device_services.specs.DeviceServices as services
 use Rattle.services_query.specs.ServicesQuery as query
+use Rattle.services_ask.specs.ServicesAsk as ask
+use Rattle.services_ask.specs.declared.PositionAnswer.{PositionAnswer}
+use Rattle.services_ask.specs.declared.PositionAnswer.the-variants as position
+use Rattle.services_ask.proofs.Answers.{asked}
 use Rattle.services_writer.specs.declared.ServiceList.{ServiceList}
 use Rattle.services_lists.specs.ServicesLists as lists
 use Rattle.services_writer.specs.ServicesWriter as writer
@@ -65,7 +69,7 @@ use Rattle.culvertroost.specs.Packets as packets
 use Rattle.culvertroost.specs.Registrations as registrations
 use Rattle.culvertroost.specs.Signals as signals
 use Rattle.culvertroost.specs.Services as servicesBy
-use Rattle.c_claims.specs.NumberZero.{VerdictTells, WrittenTells, VersionTells, PacketTells, RegistrationTells, SignalTells, ServicesTells, ElementTells, ListedTells, AllTells, ReadingTells, BarsTells}
+use Rattle.c_claims.specs.NumberZero.{VerdictTells, WrittenTells, VersionTells, PacketTells, RegistrationTells, SignalTells, ServicesTells, ElementTells, ListedTells, PositionTells, AllTells, ReadingTells, BarsTells}
 use Rattle.c_claims.proofs.Verdicts.{named, told-if, told-first, told-rules, told-exact, told-open, told-pair, told-each, by-test, told-writing, told-at, told-by, told-reading}
 
 -- ---- VERSION
@@ -309,6 +313,23 @@ listed-told s service cid = told-listed byDefault s service cid
 pub listed-chosen-told : (k : ℕ) (s : List ℕ) (service : ServiceId) (cid : ℕ) → ListedTells (servicesBy.listedChosen k s service cid)
 unfolding servicesAnswer.listedInfo
 listed-chosen-told k s service cid = told-by ListedTells k (λ r. λ t. t) (λ z. told-listed z s service cid)
+
+-- the question refuses with the full reader's numbers alone
+told-position : (z : ZeroSize) (s : List ℕ) (service : ServiceId) (cid : ℕ) → PositionTells (ask.positionWith z s service cid)
+unfolding servicesAnswer.positionInfo
+told-position z s service cid = by-answer (ask.positionWith z s service cid) refl
+  where
+    by-answer : (a : PositionAnswer) → ask.positionWith z s service cid ≡ a → PositionTells a
+    by-answer (position.Listed i k) e = refl
+    by-answer position.NotListed e = refl
+    by-answer (position.Refused r) e = rw (asked z s service cid .refused r .0 e .0) at (told-list z s)
+
+pub position-told : (s : List ℕ) (service : ServiceId) (cid : ℕ) → PositionTells (ask.positionOf s service cid)
+position-told s service cid = told-position byDefault s service cid
+
+pub position-chosen-told : (k : ℕ) (s : List ℕ) (service : ServiceId) (cid : ℕ) → PositionTells (servicesBy.positionChosen k s service cid)
+unfolding servicesAnswer.positionInfo
+position-chosen-told k s service cid = told-by PositionTells k (λ r. λ t. t) (λ z. told-position z s service cid)
 
 told-all : (s fields cids : List ℕ) → AllTells (query.allShown s fields cids .answer)
 unfolding query.allShown servicesAnswer.allInfo

@@ -18,6 +18,8 @@ use Rattle.device_services.specs.DeviceServices as services
 use Rattle.device_services.specs.declared.DeviceServicesRead.{DeviceServicesRead}
 use Rattle.services_query.specs.ServicesQuery as query
 use Rattle.services_query.specs.declared.ElementAnswer.{ElementAnswer}
+use Rattle.services_ask.specs.ServicesAsk as ask
+use Rattle.services_ask.specs.declared.PositionAnswer.{PositionAnswer}
 use Rattle.services_query.specs.declared.ListedAnswer.{ListedAnswer}
 use Rattle.services_query.specs.declared.all.AllAnswer.{AllAnswer}
 use Rattle.services_lists.specs.ServicesLists as lists
@@ -72,7 +74,7 @@ use Rattle.culvertroost.specs.Services as servicesBy
 use Rattle.culvertroost.specs.Modems.{replyInfo}
 use Rattle.culvertroost.specs.Pins as setPinBy
 use Rattle.culvertroost.specs.Pins.{pinReplyInfo}
-use Rattle.c_claims.specs.Refused.{faulty, writtenRefused, versionRefused, packetRefused, registrationRefused, signalRefused, servicesRefused, elementRefused, listedRefused, allRefused, setPinRefused, pinInfoRefused, readingRefused, barsRefused, wholeRefused, cutRefused, shownRefused, receivedRefused, hostRefused, askRefused, modemRefused, entryRefused, pinModemRefused}
+use Rattle.c_claims.specs.Refused.{faulty, writtenRefused, versionRefused, packetRefused, registrationRefused, signalRefused, servicesRefused, elementRefused, listedRefused, positionRefused, allRefused, setPinRefused, pinInfoRefused, readingRefused, barsRefused, wholeRefused, cutRefused, shownRefused, receivedRefused, hostRefused, askRefused, modemRefused, entryRefused, pinModemRefused}
 
 -- the number is 0 exactly where nothing was refused
 abbrev pub Tells : ℕ → Bool → Type 0
@@ -106,6 +108,9 @@ ElementTells a = Tells (servicesAnswer.elementInfo a .refusal .number) (elementR
 
 abbrev pub ListedTells : ListedAnswer → Type 0
 ListedTells a = Tells (servicesAnswer.listedInfo a .refusal .number) (listedRefused a)
+
+abbrev pub PositionTells : PositionAnswer → Type 0
+PositionTells a = Tells (servicesAnswer.positionInfo a .refusal .number) (positionRefused a)
 
 abbrev pub AllTells : AllAnswer → Type 0
 AllTells a = Tells (servicesAnswer.allInfo a .refusal .number) (allRefused a)
@@ -170,6 +175,8 @@ pub record EveryNumberTells : Type 0 where
   pub device-services-cids-with : (k : ℕ) (s : List ℕ) (service : ServiceId) (cids : List ℕ) → ElementTells (servicesBy.cidsChosen k s service cids .answer)
   pub device-services-listed : (s : List ℕ) (service : ServiceId) (cid : ℕ) → ListedTells (query.listedOf s service cid)
   pub device-services-listed-with : (k : ℕ) (s : List ℕ) (service : ServiceId) (cid : ℕ) → ListedTells (servicesBy.listedChosen k s service cid)
+  pub device-services-ask : (s : List ℕ) (service : ServiceId) (cid : ℕ) → PositionTells (ask.positionOf s service cid)
+  pub device-services-ask-with : (k : ℕ) (s : List ℕ) (service : ServiceId) (cid : ℕ) → PositionTells (servicesBy.positionChosen k s service cid)
   pub device-services-all : (s fields cids : List ℕ) → AllTells (query.allOf s fields cids .answer)
   pub device-services-all-with : (k : ℕ) (s fields cids : List ℕ) → AllTells (servicesBy.allChosen k s fields cids .answer)
   pub device-services-write : (p : ServiceList) (out : List ℕ) → WrittenTells (writer.writeOf p out .answer)

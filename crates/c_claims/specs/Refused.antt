@@ -19,6 +19,8 @@ use Rattle.services_query.specs.declared.ElementAnswer.{ElementAnswer}
 use Rattle.services_query.specs.declared.ElementAnswer.the-variants as element
 use Rattle.services_query.specs.declared.all.AllAnswer.{AllAnswer}
 use Rattle.services_query.specs.declared.all.AllAnswer.the-variants as all
+use Rattle.services_ask.specs.declared.PositionAnswer.{PositionAnswer}
+use Rattle.services_ask.specs.declared.PositionAnswer.the-variants as position
 use Rattle.services_query.specs.declared.ListedAnswer.{ListedAnswer}
 use Rattle.services_query.specs.declared.ListedAnswer.the-variants as listed
 use Rattle.pin.specs.declared.set_pin.SetPinRead.{SetPinRead}
@@ -88,6 +90,11 @@ abbrev pub listedRefused : ListedAnswer → Bool
 listedRefused listed.Listed = false
 listedRefused listed.NotListed = false
 listedRefused (listed.Refused r) = true
+
+abbrev pub positionRefused : PositionAnswer → Bool
+positionRefused (position.Listed i k) = false
+positionRefused position.NotListed = false
+positionRefused (position.Refused r) = true
 
 abbrev pub allRefused : AllAnswer → Bool
 allRefused (all.Listed n k) = false

@@ -3,6 +3,9 @@ use Rattle.device_services.specs.declared.DeviceServices.{DeviceServices}
 use Rattle.device_services.specs.declared.DeviceService.{DeviceService}
 use Rattle.device_services.specs.declared.DeviceServicesRead.{DeviceServicesRead}
 use Rattle.device_services.specs.declared.DeviceServicesRead.the-variants.{Info, Refused}
+use Rattle.protocol.specs.declared.Refusal.{Refusal}
+use Rattle.services_ask.specs.declared.PositionAnswer.{PositionAnswer}
+use Rattle.services_ask.specs.declared.PositionAnswer.the-variants as position
 use Rattle.services_query.specs.declared.ElementAnswer.{ElementAnswer}
 use Rattle.services_query.specs.declared.ElementAnswer.the-variants.{Listed, NotListed, Refused as NotShown}
 use Rattle.services_query.specs.declared.ListedAnswer.{ListedAnswer}
@@ -13,6 +16,7 @@ use Rattle.c_structs.specs.declared.services.AllInfo.{AllInfo}
 use Rattle.c_structs.specs.declared.services.DeviceServicesAnswer.{DeviceServicesAnswer}
 use Rattle.c_structs.specs.declared.services.ElementInfo.{ElementInfo}
 use Rattle.c_structs.specs.declared.services.ListedInfo.{ListedInfo}
+use Rattle.c_structs.specs.declared.services.PositionInfo.{PositionInfo}
 use Rattle.c_structs.specs.Answers.{noRefusal}
 
 -- ---- the list's two numbers
@@ -45,6 +49,16 @@ unfoldable pub listedInfo : ListedAnswer → ListedInfo
 listedInfo IsListed = record { refusal = noRefusal; listed = 1 }
 listedInfo IsNotListed = record { refusal = noRefusal; listed = 0 }
 listedInfo (NotTold r) = record { refusal = r; listed = 0 }
+
+-- and where
+
+abbrev pub notListed : Refusal → PositionInfo
+notListed r = record { refusal = r; listed = 0; «element_number» = 0; «cid_number» = 0 }
+
+unfoldable pub positionInfo : PositionAnswer → PositionInfo
+positionInfo (position.Listed i k) = record { refusal = noRefusal; listed = 1; «element_number» = i; «cid_number» = k }
+positionInfo position.NotListed = notListed noRefusal
+positionInfo (position.Refused r) = notListed r
 
 -- ---- all elements in one pass
 

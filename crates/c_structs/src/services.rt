@@ -5,11 +5,12 @@ use device_services::DeviceServices;
 use device_services::DeviceServicesRead;
 use protocol::Refusal;
 use protocol::service::ServiceId;
+use services_ask::PositionAnswer;
 use services_query::ElementAnswer;
 use services_query::ListedAnswer;
 use services_query::all::AllAnswer;
 ghost use mathlib.Core.Path.{_≡_};
-ghost use Rattle.c_structs.specs.Services.{noInfo, noElement, answerOf, elementInfo, listedInfo, allInfo};
+ghost use Rattle.c_structs.specs.Services.{noInfo, noElement, notListed, answerOf, elementInfo, listedInfo, positionInfo, allInfo};
 
 #[repr(C)]
 pub struct DeviceServicesAnswer {
@@ -30,6 +31,15 @@ pub struct ElementInfo {
 pub struct ListedInfo {
     pub refusal: Refusal,
     pub listed: u32,
+}
+
+// 1 and the position where it is listed, else 0.
+#[repr(C)]
+pub struct PositionInfo {
+    pub refusal: Refusal,
+    pub listed: u32,
+    pub element_number: u32,
+    pub cid_number: u32,
 }
 
 // How many elements and CIDs stand at the fronts of the caller's lists.
@@ -97,6 +107,38 @@ pub fn listed_info(answer: ListedAnswer) -> ListedInfo
             ListedInfo { refusal, listed: 0 }
         }
         ListedAnswer::Refused(refusal) => ListedInfo { refusal, listed: 0 },
+    }
+}
+
+pub fn position_info(answer: PositionAnswer) -> PositionInfo
+    ensures { λ r. ⌜ r ≡ positionInfo answer ⌝ }
+{
+    match answer {
+        PositionAnswer::Listed {
+            element_number,
+            cid_number,
+        } => {
+            let refusal = no_refusal();
+            PositionInfo {
+                refusal,
+                listed: 1,
+                element_number,
+                cid_number,
+            }
+        }
+        PositionAnswer::NotListed => not_listed(no_refusal()),
+        PositionAnswer::Refused(refusal) => not_listed(refusal),
+    }
+}
+
+fn not_listed(refusal: Refusal) -> PositionInfo
+    ensures { λ r. ⌜ r ≡ notListed refusal ⌝ }
+{
+    PositionInfo {
+        refusal,
+        listed: 0,
+        element_number: 0,
+        cid_number: 0,
     }
 }
 

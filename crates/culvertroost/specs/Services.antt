@@ -10,6 +10,9 @@ use Rattle.services_query.specs.declared.ElementAnswer.the-variants as element
 use Rattle.services_query.specs.declared.ListedAnswer.{ListedAnswer}
 use Rattle.services_query.specs.declared.ListedAnswer.the-variants as listed
 use Rattle.services_query.specs.declared.all.AllAnswer.the-variants as all
+use Rattle.services_ask.specs.ServicesAsk.{positionWith}
+use Rattle.services_ask.specs.declared.PositionAnswer.{PositionAnswer}
+use Rattle.services_ask.specs.declared.PositionAnswer.the-variants as position
 use Rattle.c_structs.specs.Choices.{byChoice}
 
 abbrev pub readChosen : ℕ → List ℕ → DeviceServicesRead
@@ -23,6 +26,9 @@ cidsChosen k s service out = byChoice k (λ r. plain (element.Refused r) out) (�
 
 abbrev pub listedChosen : ℕ → List ℕ → ServiceId → ℕ → ListedAnswer
 listedChosen k s service cid = byChoice k listed.Refused (λ z. listedWith z s service cid)
+
+abbrev pub positionChosen : ℕ → List ℕ → ServiceId → ℕ → PositionAnswer
+positionChosen k s service cid = byChoice k position.Refused (λ z. positionWith z s service cid)
 
 abbrev pub allChosen : ℕ → List ℕ → List ℕ → List ℕ → AllShown
 allChosen k s fields cids = byChoice k (λ r. noneShown (all.Refused r) fields cids) (λ z. allWith z s fields cids)

@@ -6,16 +6,20 @@ use c_structs::services::AllInfo;
 use c_structs::services::DeviceServicesAnswer;
 use c_structs::services::ElementInfo;
 use c_structs::services::ListedInfo;
+use c_structs::services::PositionInfo;
 use c_structs::services::all_info;
 use c_structs::services::answer_of;
 use c_structs::services::element_info;
 use c_structs::services::listed_info;
+use c_structs::services::position_info;
 use c_structs::written_answer;
 use device_services::DeviceServicesRead;
 use device_services::read_with;
 use pairs::ZeroSize;
 use protocol::service::ServiceId;
 use protocol::service::id_at;
+use services_ask::PositionAnswer;
+use services_ask::ask_with;
 use services_lists::write_all;
 use services_query::ElementAnswer;
 use services_query::ListedAnswer;
@@ -31,11 +35,12 @@ ghost use mathlib.Core.Path.{_≡_};
 ghost use Rattle.protocol.specs.Service.{idAt};
 ghost use Rattle.device_services.specs.DeviceServices.{readWith, readOf};
 ghost use Rattle.services_query.specs.ServicesQuery.{elementWith, elementOf, cidsOf, listedWith, listedOf, allWith, allOf};
+ghost use Rattle.services_ask.specs.ServicesAsk.{positionWith, positionOf};
 ghost use Rattle.services_lists.specs.ServicesLists.{writeAllOf};
 ghost use Rattle.services_writer.specs.ServicesWriter.{writeOf};
 ghost use Rattle.c_structs.specs.Answers.{writtenAnswer};
-ghost use Rattle.c_structs.specs.Services.{answerOf, elementInfo, listedInfo, allInfo};
-ghost use Rattle.culvertroost.specs.Services.{readChosen, elementChosen, cidsChosen, listedChosen, allChosen};
+ghost use Rattle.c_structs.specs.Services.{answerOf, elementInfo, listedInfo, positionInfo, allInfo};
+ghost use Rattle.culvertroost.specs.Services.{readChosen, elementChosen, cidsChosen, listedChosen, positionChosen, allChosen};
 
 #[no_mangle]
 pub extern "C" fn cvr_device_services_read(payload: &[u8]) -> DeviceServicesAnswer
@@ -173,6 +178,33 @@ pub extern "C" fn cvr_device_services_listed_with(
     }
 }
 
+// The same, judged no further than the answer needs, and where.
+#[no_mangle]
+pub extern "C" fn cvr_device_services_ask(
+    payload: &[u8],
+    service: ServiceId,
+    cid: u32,
+) -> PositionInfo
+    ensures { λ r. ⌜ r ≡ positionInfo (positionOf (now (payload .entry)) service cid) ⌝ }
+{
+    ask_by(ZeroSize::Absent, payload, service, cid)
+}
+
+#[no_mangle]
+pub extern "C" fn cvr_device_services_ask_with(
+    zero_size: u32,
+    payload: &[u8],
+    service: ServiceId,
+    cid: u32,
+) -> PositionInfo
+    ensures { λ r. ⌜ r ≡ positionInfo (positionChosen «zero_size» (now (payload .entry)) service cid) ⌝ }
+{
+    match zero_size_at(zero_size) {
+        Chosen::By(choice) => ask_by(choice, payload, service, cid),
+        Chosen::Refused(refusal) => position_info(PositionAnswer::Refused(refusal)),
+    }
+}
+
 #[no_mangle]
 pub extern "C" fn cvr_device_services_write(list: ServiceList, out: &mut [u8]) -> WrittenAnswer
     ensures { λ r. ⌜ r ≡ writtenAnswer (writeOf list (now (out .entry)) .answer) ⌝ }
@@ -229,4 +261,10 @@ fn listed_by(choice: ZeroSize, payload: &[u8], service: ServiceId, cid: u32) -> 
     ensures { λ r. ⌜ r ≡ listedInfo (listedWith choice (now (payload .entry)) service cid) ⌝ }
 {
     listed_info(is_listed_with(choice, payload, service, cid))
+}
+
+fn ask_by(choice: ZeroSize, payload: &[u8], service: ServiceId, cid: u32) -> PositionInfo
+    ensures { λ r. ⌜ r ≡ positionInfo (positionWith choice (now (payload .entry)) service cid) ⌝ }
+{
+    position_info(ask_with(choice, payload, service, cid))
 }

@@ -1,6 +1,6 @@
 -- The DEVICE_SERVICES payload (document 01, "Device services"; document 02, order 10; MBIM 1.0, MBIM_DEVICE_SERVICES_INFO and MBIM_DEVICE_SERVICE_ELEMENT).
 -- In this order: the fields and their places; the rules, in the order in which they are judged; what a reader answers.
-use Prim.Native.Nat.{ℕ, _+_, _*_}
+use Prim.Native.Nat.{ℕ, _+_, _*_, _-_, min}
 use mathlib.Core.Bool.{false, cond}
 use mathlib.Core.List.{List, [], _∷_}
 use lib.Dec.{ltb}
@@ -87,6 +87,10 @@ unfoldable pub elementVerdict : ZeroSize → List ℕ → ℕ → ℕ → Verdic
 elementVerdict z s fixed i =
     firstOf (pairVerdict z ListKind fixed 540 (pairPlace i) (length s) (pairOf s i)) (judge (contentRules s (pairPlace i) (pairOf s i)))
 
+-- those with the numbers from `first` to below `end`
+abbrev pub elementsVerdict : ZeroSize → List ℕ → ℕ → ℕ → ℕ → Verdict
+elementsVerdict z s fixed first end = firstFault (λ i. elementVerdict z s fixed (first + i)) (end - first)
+
 abbrev pub judgedAs : Verdict → ElementJudged → ElementJudged
 judgedAs Fits x = x
 judgedAs (Fault r) x = element.Refused r
@@ -99,6 +103,11 @@ elementJudgedWith z s i =
 
 abbrev pub elementJudged : List ℕ → ℕ → ElementJudged
 elementJudged s i = elementJudgedWith byDefault s i
+
+-- the length and the count, then those elements that the list has
+abbrev pub partVerdict : ZeroSize → List ℕ → ℕ → ℕ → Verdict
+partVerdict z s first end =
+    firstOf (lengthVerdict (length s) (countOf s)) (elementsVerdict z s (fixedPart (countOf s)) first (min end (countOf s)))
 
 -- the length, then pair by pair, each with its element
 unfoldable pub verdictWith : ZeroSize → List ℕ → Verdict

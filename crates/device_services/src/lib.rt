@@ -12,9 +12,9 @@ use protocol::service::ServiceId;
 use protocol::service::id_at;
 use wire::u32_at;
 ghost use mathlib.Core.Path.{_≡_};
-ghost use Prim.Native.Nat.{_≤_};
+ghost use Prim.Native.Nat.{_≤_, min};
 ghost use lib.ListN.{length};
-ghost use Rattle.device_services.specs.DeviceServices.{countOf, headAt, pairPlace, offsetOf, cidCountAt, elementAt, cidAt, lengthVerdict, elementJudgedWith, elementJudged, verdictWith, verdictOf, readWith, readOf};
+ghost use Rattle.device_services.specs.DeviceServices.{countOf, headAt, pairPlace, offsetOf, cidCountAt, elementAt, cidAt, lengthVerdict, partVerdict, elementJudgedWith, elementJudged, verdictWith, verdictOf, readWith, readOf};
 
 // What stands before the pairs.
 #[repr(C)]
@@ -109,11 +109,20 @@ pub fn judge_list(payload: &[u8]) -> Verdict
 pub fn judge_list_with(zero_size: ZeroSize, payload: &[u8]) -> Verdict
     ensures { λ r. ⌜ r ≡ verdictWith «zero_size» (now (payload .entry)) ⌝ }
 {
+    judge_part(zero_size, payload, 0, MOST_SERVICES)
+}
+
+// The length and the count, then of the list's elements those with the numbers from `first` to below
+// `end`, each with its pair, up to the first fault, whatever the others are.
+pub fn judge_part(zero_size: ZeroSize, payload: &[u8], first: u32, end: u32) -> Verdict
+    ensures { λ r. ⌜ r ≡ partVerdict «zero_size» (now (payload .entry)) first end ⌝ }
+{
     match judge_length(payload) {
         Verdict::Fits => {
             let count = judged_count(payload);
             let fixed = listed_place(count);
-            judge_lists(zero_size, payload, fixed, PAIRS, count, ELEMENT)
+            let last = least(end, count);
+            judge_lists(zero_size, payload, fixed, PAIRS, first, last, ELEMENT)
         }
         Verdict::Fault(refusal) => Verdict::Fault(refusal),
     }
@@ -172,6 +181,13 @@ pub fn judged_count(payload: &[u8]) -> u32
     u32_at(payload, DEVICE_SERVICES_COUNT)
 }
 
+// The count, but no more than a list can have: for a list that is not judged yet.
+pub fn bounded_count(payload: &[u8]) -> u32
+    ensures { λ r. ⌜ r ≡ min (countOf (now (payload .entry))) 32 ⌝ }
+{
+    least(judged_count(payload), MOST_SERVICES)
+}
+
 // Where an element of the list starts.
 pub fn judged_offset(payload: &[u8], number: u32) -> u32
     ensures { λ r. ⌜ r ≡ offsetOf (now (payload .entry)) number ⌝ }
@@ -222,6 +238,15 @@ fn head_at(payload: &[u8]) -> DeviceServices
         device_services_count: u32_at(payload, DEVICE_SERVICES_COUNT),
         max_dss_sessions: u32_at(payload, MAX_DSS_SESSIONS),
     }
+}
+
+fn least(a: u32, b: u32) -> u32
+    ensures { λ r. ⌜ r ≡ min a b ⌝ }
+{
+    if a < b {
+        return a;
+    }
+    b
 }
 
 // `pair_place` of a number that a list can have; of the count, where its fixed part ends.

@@ -42,6 +42,17 @@ fault-at f zero i r e h q = absurd (omega arith)
 fault-at f (suc n) i r e h q = last i n h (λ l. rw (fault-at f n i r e l q)) (λ l. rw (← l, e, q))
 
 -- all fit exactly where each does
+-- a fault found stands at one of them, behind those that fit
+pub fault-of : (f : ℕ → Verdict) (n : ℕ) (r : Refusal) → firstFault f n ≡ Fault r → (i : ℕ) × ((i < n) × ((firstFault f i ≡ Fits) × (f i ≡ Fault r)))
+unfolding firstFault firstOf
+fault-of f zero r e = let z : _≡_ {A = ℕ} 0 1 = cc in absurd (omega arith)
+fault-of f (suc n) r e = by-first (fault-of f n r) (firstFault f n) refl e
+  where
+    by-first : (firstFault f n ≡ Fault r → (i : ℕ) × ((i < n) × ((firstFault f i ≡ Fits) × (f i ≡ Fault r)))) → (v : Verdict) → firstFault f n ≡ v
+        → firstOf v (f n) ≡ Fault r → (i : ℕ) × ((i < suc n) × ((firstFault f i ≡ Fits) × (f i ≡ Fault r)))
+    by-first before Fits q e = (n, (omega arith, (q, e)))
+    by-first before (Fault x) q e = let h = before (q ∙ e) in let l : h .0 < n = h .1 .0 in (h .0, (omega arith, h .1 .1))
+
 pub fits-each : (f : ℕ → Verdict) (n : ℕ) → firstFault f n ≡ Fits → (i : ℕ) → i < n → f i ≡ Fits
 unfolding firstFault
 fits-each f zero e i h = absurd (omega arith)
@@ -118,6 +129,17 @@ index-below t (suc n) e = by-any (λ q. index-below t n q) (anyOf t n) refl
     by-any : (anyOf t n ≡ true → firstIndex t n < n) → (b : Bool) → anyOf t n ≡ b → firstIndex t (suc n) < suc n
     by-any before true q = let l = before q in rw q (omega (arith, l))
     by-any before false q = let h : t n ≡ true = rw q at e in rw (q, h) (omega arith)
+
+-- it does, and none before it
+pub index-first : (t : ℕ → Bool) (n : ℕ) → anyOf t n ≡ true → (t (firstIndex t n) ≡ true) × (anyOf t (firstIndex t n) ≡ false)
+unfolding firstIndex anyOf
+index-first t zero e = let z : _≡_ {A = ℕ} 0 1 = cc in absurd (omega arith)
+index-first t (suc n) e = by-any (λ q. index-first t n q) (anyOf t n) refl
+  where
+    by-any : (anyOf t n ≡ true → (t (firstIndex t n) ≡ true) × (anyOf t (firstIndex t n) ≡ false)) → (b : Bool) → anyOf t n ≡ b
+        → (t (firstIndex t (suc n)) ≡ true) × (anyOf t (firstIndex t (suc n)) ≡ false)
+    by-any before true q = rw q (before q)
+    by-any before false q = let h : t n ≡ true = rw q at e in rw (q, h) (h, q)
 
 -- where none does, the count
 pub index-none : (t : ℕ → Bool) (n : ℕ) → anyOf t n ≡ false → firstIndex t n ≡ n

@@ -27,7 +27,7 @@ use Rattle.services_query.specs.declared.ListedAnswer.{ListedAnswer}
 use Rattle.services_query.specs.declared.ListedAnswer.the-variants as list
 use Rattle.handshake.specs.Versions.{numberVerdict, versionOf, infoOf, larger, lower, above, isLater}
 use Rattle.handshake.specs.Commands.{roleOf, versionListed}
-use Rattle.host.specs.Host.{end, openedBy, openedOf, listRules, acceptedList, judgedList, listAt, listReply, servicesReplyOf, answeredAt, failedAt, answeredBy, versionReplyOf, replyRole, receiveBy, receiveOf, madeBy, madeOf}
+use Rattle.host.specs.Host.{end, openedBy, openedOf, listRules, acceptedList, judgedList, listAt, listReply, versionAsked, servicesReplyOf, answeredAt, failedAt, answeredBy, versionReplyOf, replyRole, receiveBy, receiveOf, madeBy, madeOf}
 use Rattle.modem.specs.Modem.{end as modemEnd, plain, failed, listedStage, servicesOf, answerOf, gaveBy, gave, giveOf, answerBy, isListed, canAnswer, versionOfCommand, firstOther, otherAt, commandBy, commandOf, commandRules, receiveBy as commandedBy, receiveOf as modemReceives, madeRules, listedBy, madeBy as modemMadeBy, madeOf as modemMadeOf}
 use Rattle.handshake_claims.specs.Calls.{HostCall, host-opens, host-closes, host-receives, host-asks, hostAfter, hostAfterAll, HostSound, ModemCall, modem-opens, modem-closes, modem-receives, modemAfter, modemAfterAll, ModemSoundAt, ModemSound}
 use Rattle.host.specs.declared.HostStage.{HostStage}
@@ -104,7 +104,7 @@ payload-kept (read.Refused r) h k = (refl, k)
 
 message-kept : (x : Role) (h : Host) (status : ℕ) (s : List ℕ) → HostSound (h .native) (h .stage) → HostKept (h .native) (receiveBy x h status s .host)
 unfolding receiveBy servicesReplyOf versionReplyOf
-message-kept role.Services h status s k = either (h .native) (eqb status 0) _ _ (reply-kept (versionListed s) h k) (refl, k)
+message-kept role.Services h status s k = either (h .native) (eqb status 0) _ _ (reply-kept (versionAsked s) h k) (refl, k)
 message-kept role.Version h status s k = either (h .native) (eqb status 0) _ _ (payload-kept (readOf s) h k) (failed-kept (h .stage) h k k)
 message-kept role.Other h status s k = (refl, k)
 

@@ -39,7 +39,7 @@ use Rattle.host.specs.declared.HostAnswer.the-variants as answer
 use Rattle.modem.specs.declared.ModemStage.{ModemStage}
 use Rattle.modem.specs.declared.ModemStage.the-variants as modem
 use Rattle.handshake.specs.declared.Role.the-variants as role
-use Rattle.handshake_claims.proofs.Refusing.{list-judged}
+use Rattle.handshake_claims.proofs.Refusing.{accepted-list}
 use Rattle.handshake_claims.specs.Claims.{MadeByList, EndsSettle}
 
 -- ---- the two commands of the handshake
@@ -131,7 +131,7 @@ module _ (l : Line) (w : Rooms) (t : ℕ) (numbered : 0 < t) (given : Message) (
       ≡ both (listAt (host.Open a) (end n (host.Open a)) listed) (modemEnd k a listed modem.Listed) (sends (asksServices t))
   unfolding turn askOf commandOver taken answered afterReply modemReceives commandedBy commandOf commandBy servicesOf roleOf roleOfKind
   list-turn n k a listed p e =
-      rw (p .0, commanded (asksServices t .header) refl numbered, kind-services, p .1, services-heard (end n (host.Open a)) t 0 s, list-judged n a listed s e)
+      rw (p .0, commanded (asksServices t .header) refl numbered, kind-services, p .1, services-heard (end n (host.Open a)) t 0 s, accepted-list (end n (host.Open a)) listed s e)
 
   -- VERSION and its reply
   version-turn : (n k a : Version) → Passes l (asksVersion t (bytesOf (infoOf n))) 0 (bytesOf (infoOf (larger a (lower n k)))) → 4 ≤ length (w .host) → 4 ≤ length (w .modem)

@@ -17,8 +17,8 @@ use Rattle.version_info.specs.declared.VersionInfoRead.{VersionInfoRead}
 use Rattle.version_info.specs.declared.VersionInfoRead.the-variants as read
 use Rattle.services_query.specs.declared.ListedAnswer.{ListedAnswer}
 use Rattle.services_query.specs.declared.ListedAnswer.the-variants as list
-use Rattle.handshake.specs.Commands.{roleOf, versionListed}
-use Rattle.host.specs.Host.{listAt, listReply, servicesReplyOf, answeredAt, failedAt, answeredBy, versionReplyOf, replyRole, receiveBy, receiveOf}
+use Rattle.handshake.specs.Commands.{roleOf}
+use Rattle.host.specs.Host.{listAt, listReply, versionAsked, servicesReplyOf, answeredAt, failedAt, answeredBy, versionReplyOf, replyRole, receiveBy, receiveOf}
 use Rattle.modem.specs.Modem.{at, listedStage, servicesOf, canAnswer, versionOfCommand, otherAt, commandBy, commandOf, commandRules, receiveBy as commandedBy, receiveOf as modemReceives}
 use Rattle.handshake_claims.specs.Calls.{HostCall, host-opens, host-closes, host-receives, host-asks, hostAfter, hostAfterAll, HostQuiet, ModemCall, modem-opens, modem-closes, modem-receives, modemAfter, modemAfterAll, ModemQuiet}
 use Rattle.host.specs.declared.HostStage.the-variants as host
@@ -54,7 +54,7 @@ module _ (h : Host) (v : Version) (e : h .stage ≡ host.Settled v) where
 
   keeps-list : (status : ℕ) (s : List ℕ) → servicesReplyOf h status s .host ≡ h
   unfolding servicesReplyOf
-  keeps-list status s = either h (eqb status 0) _ _ (by-list (versionListed s)) refl
+  keeps-list status s = either h (eqb status 0) _ _ (by-list (versionAsked s)) refl
 
   keeps-version : (status : ℕ) (s : List ℕ) → versionReplyOf h status s .host ≡ h
   unfolding versionReplyOf

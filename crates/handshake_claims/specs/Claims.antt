@@ -1,13 +1,18 @@
 -- What is claimed of the ends beside the promises.
--- In this order: how a modem is made; when a host refuses; what settled ends do; what a run comes to.
+-- In this order: how a modem is made; a list received; when a host refuses; what settled ends do; what a run comes to.
 use Prim.Native.Nat.{ℕ}
 use mathlib.Core.Path.{_≡_}
-use mathlib.Core.Bool.{Bool, false}
+use mathlib.Core.Bool.{Bool, true, false}
 use mathlib.Core.List.{List}
 use Rattle.protocol.specs.declared.Version.{Version}
 use Rattle.handshake.specs.Versions.{above, versionOf, numberOf}
-use Rattle.handshake.specs.Commands.{versionListed}
-use Rattle.host.specs.Host.{end, madeOf, openedOf, servicesReplyOf, refusedWith}
+use Rattle.protocol.specs.Service.{idAt, extensions}
+use Rattle.protocol.specs.declared.Refusal.{Refusal}
+use Rattle.protocol.specs.declared.Verdict.the-variants.{Fault}
+use Rattle.device_services.specs.DeviceServices.{verdictOf}
+use Rattle.services_ask.specs.Claims.{Reached}
+use Rattle.handshake.specs.Commands.{versionCid, versionListed}
+use Rattle.host.specs.Host.{end, refused, madeOf, openedOf, listAt, versionAsked, servicesReplyOf, refusedWith}
 use Rattle.modem.specs.Modem.{madeOf as modemMadeOf, end as modemEnd, startOf}
 use Rattle.handshake_claims.specs.Calls.{HostCall, HostQuiet, hostAfterAll, ModemCall, ModemQuiet, modemAfterAll}
 use Rattle.handshake_claims.specs.Run.{Message, Line, Rooms, Expected, refuses, settles, expected, Outcome, Ready, run, listedAs}
@@ -25,14 +30,30 @@ abbrev pub MadeByList : Type 0
 MadeByList = (k a : Version) (listed : Bool) (s : List ℕ) → above a k ≡ false → versionListed s ≡ listedAs listed
     → modemMadeOf (numberOf k) (numberOf a) s ≡ modemMade.Made (modemEnd k a listed modem.Start)
 
+-- 02, order 7: what a host makes of a list received, in any stage. By an accepted one it goes as before
+abbrev pub AcceptedList : Type 0
+AcceptedList = (h : Host) (listed : Bool) (s : List ℕ) → versionListed s ≡ listedAs listed → servicesReplyOf h 0 s ≡ listAt (h .stage) h listed
+
+-- CID k of element i is VERSION, and stands before the first faulty element
+abbrev pub VersionReached : List ℕ → ℕ → ℕ → Type 0
+VersionReached s i k = Reached s (idAt extensions 0) versionCid i k
+
+-- then it goes by the list as by one that lists VERSION, whatever stands behind
+abbrev pub FaultBehind : Type 0
+FaultBehind = (h : Host) (s : List ℕ) (i k : ℕ) → VersionReached s i k → servicesReplyOf h 0 s ≡ listAt (h .stage) h true
+
+-- else it refuses a faulty list as the full reader does
+abbrev pub FaultBefore : Type 0
+FaultBefore = (h : Host) (s : List ℕ) (r : Refusal) → verdictOf s ≡ Fault r → ((i k : ℕ) → VersionReached s i k → ⊥) → servicesReplyOf h 0 s ≡ refused h r
+
 -- the number that the rule refuses with, 0 where it settles
 abbrev pub numberRefused : Expected → ℕ
 numberRefused (refuses n) = n
 numberRefused (settles v) = 0
 
--- at an accepted list an opened host refuses exactly where the rule does, with the rule's number
+-- at a list that the question answers an opened host refuses exactly where the rule does, with the rule's number
 abbrev pub RefusesExactly : Type 0
-RefusesExactly = (n k a : Version) (listed : Bool) (s : List ℕ) → versionListed s ≡ listedAs listed
+RefusesExactly = (n k a : Version) (listed : Bool) (s : List ℕ) → versionAsked s ≡ listedAs listed
     → refusedWith (servicesReplyOf (end n (host.Open a)) 0 s .answer) ≡ numberRefused (expected n k a listed)
 
 -- a settled end stays as it is in any calls but OPEN and CLOSE

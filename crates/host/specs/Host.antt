@@ -8,7 +8,7 @@ use lib.Dec.{eqb}
 use Rattle.protocol.specs.Refusal.{aboveHost, versionNotListed}
 use Rattle.protocol.specs.Verdict.{Rule, rule, judge, Writing}
 use Rattle.protocol.specs.MessageType.{COMMAND-DONE}
-use Rattle.protocol.specs.Service.{kindOf}
+use Rattle.protocol.specs.Service.{idAt, extensions, kindOf}
 use Rattle.protocol.specs.declared.Refusal.{Refusal}
 use Rattle.protocol.specs.declared.Verdict.{Verdict}
 use Rattle.protocol.specs.declared.Verdict.the-variants.{Fits, Fault}
@@ -23,7 +23,8 @@ use Rattle.services_query.specs.declared.ListedAnswer.{ListedAnswer}
 use Rattle.services_query.specs.declared.ListedAnswer.the-variants as list
 use Rattle.message.specs.declared.MessageHeader.{MessageHeader}
 use Rattle.handshake.specs.Versions.{numberVerdict, versionOf, infoOf, larger, above, isLater}
-use Rattle.handshake.specs.Commands.{roleOf, versionListed}
+use Rattle.services_ask.specs.ServicesAsk.{withoutPosition, positionOf}
+use Rattle.handshake.specs.Commands.{versionCid, roleOf}
 use Rattle.handshake.specs.declared.Role.{Role}
 use Rattle.handshake.specs.declared.Role.the-variants as role
 use Rattle.host.specs.declared.HostStage.{HostStage}
@@ -136,9 +137,13 @@ listReply h list.Listed = listAt (h .stage) h true
 listReply h list.NotListed = listAt (h .stage) h false
 listReply h (list.Refused r) = refused h r
 
+-- 02, order 7: whether the question says that a list received holds VERSION; "the handshake uses the question from now on"
+abbrev pub versionAsked : List ℕ → ListedAnswer
+versionAsked s = withoutPosition (positionOf s (idAt extensions 0) versionCid)
+
 -- a failed reply shows no list
 unfoldable pub servicesReplyOf : Host → ℕ → List ℕ → HostStep
-servicesReplyOf h status s = cond (eqb status 0) (listReply h (versionListed s)) (unchanged h)
+servicesReplyOf h status s = cond (eqb status 0) (listReply h (versionAsked s)) (unchanged h)
 
 -- ---- a reply to VERSION
 

@@ -20,8 +20,8 @@ use protocol::message_type::COMMAND_DONE;
 use protocol::service::VERSION;
 use protocol::service::extensions_id;
 use protocol::service::kind_of;
-use services_query::ListedAnswer;
-use services_query::is_listed;
+use services_ask::PositionAnswer;
+use services_ask::ask;
 use version_info::VersionInfoRead;
 ghost use mathlib.Core.Path.{_≡_};
 ghost use mathlib.Core.Bool.{_&&_, not};
@@ -164,10 +164,13 @@ fn services_reply(host: Host, status: u32, payload: &[u8]) -> HostStep
     if status != 0 {
         return keep(host);
     }
-    match is_listed(payload, extensions_id(), VERSION) {
-        ListedAnswer::Listed => take_list(host, true),
-        ListedAnswer::NotListed => take_list(host, false),
-        ListedAnswer::Refused(refusal) => refuse(host, refusal),
+    match ask(payload, extensions_id(), VERSION) {
+        PositionAnswer::Listed {
+            element_number: _,
+            cid_number: _,
+        } => take_list(host, true),
+        PositionAnswer::NotListed => take_list(host, false),
+        PositionAnswer::Refused(refusal) => refuse(host, refusal),
     }
 }
 

@@ -10,8 +10,9 @@ use Rattle.protocol.specs.Verdict.{faultIf, firstOf, judgeFrom, judge}
 use Rattle.protocol.specs.declared.Version.{Version}
 use Rattle.protocol.specs.declared.Version.the-variants.{V1, V2}
 use Rattle.handshake.specs.Versions.{numberOf, numberVerdict}
-use Rattle.host.specs.Host.{end, madeOf, openedOf, listRules, judgedList, listAt, listReply, servicesReplyOf, failedAt, versionReplyOf, replyRole, receiveBy, receiveOf}
+use Rattle.host.specs.Host.{end, madeOf, openedOf, listRules, judgedList, listAt, failedAt, versionReplyOf, replyRole, receiveBy, receiveOf}
 use Rattle.handshake_claims.specs.Calls.{host-opens, host-receives, HostSound}
+use Rattle.handshake_claims.proofs.Refusing.{accepted-list}
 use Rattle.host.specs.declared.Host.{Host}
 use Rattle.host.specs.declared.HostMade.the-variants as made
 use Rattle.host.specs.declared.HostStage.{HostStage}
@@ -36,9 +37,8 @@ opened n V2 = refl
 
 -- a reply to DEVICE_SERVICES with or without VERSION
 listed : (n a : Version) (b : Bool) → receiveOf (end n (Open a)) (services COMMAND-DONE) (listing b) .host ≡ judgedList (judge (listRules n a b)) (end n (Open a)) a b .host
-unfolding receiveOf receiveBy replyRole servicesReplyOf listReply listAt
-listed n a true = rw (services-role, listing-says true)
-listed n a false = rw (services-role, listing-says false)
+unfolding receiveOf receiveBy replyRole listAt
+listed n a b = rw (services-role, accepted-list (end n (Open a)) b (listing b) (listing-says b))
 
 awaits : (a : Version) → judgedList (judge (listRules V2 a true)) (end V2 (Open a)) a true .host ≡ end V2 (AwaitsVersion a)
 unfolding listRules judgeFrom faultIf firstOf

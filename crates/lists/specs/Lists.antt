@@ -1,7 +1,7 @@
 -- A list behind a pair: a count, and as many elements of one size. Document 01: "each pair judged 8 (limit, odd), 6, 7 and then its list,
 -- where a signal pair of size 0 is absent (size under 4 or 28, 8; count 15 when over its limit or, for signal, 0; size against count, 8)".
 -- What a list is like is a parameter. In this order: its count; the rules, in the order in which they are judged.
-use Prim.Native.Nat.{ℕ, _+_, _*_}
+use Prim.Native.Nat.{ℕ, _+_, _*_, _-_}
 use mathlib.Core.Bool.{Bool, false, not, cond, _&&_, _||_}
 use mathlib.Core.List.{List, [], _∷_}
 use lib.Dec.{ltb, eqb}
@@ -56,6 +56,6 @@ listVerdict z f fixed place s =
     firstOf (verdictOf z ListKind fixed (f .limit) place (length s) (rangeAt s place))
     (judge (listRules f place (rangeAt s place) (countIn f s (rangeAt s place))))
 
--- the first `count` of the pairs that stand one behind another from `place` on, each with its list
-abbrev pub listsVerdict : ZeroSize → ListForm → ℕ → ℕ → List ℕ → ℕ → Verdict
-listsVerdict z f fixed place s count = firstFault (λ i. listVerdict z f fixed (place + 8 * i) s) count
+-- of the pairs that stand one behind another from `place` on, those with the numbers from `first` to below `end`, each with its list
+abbrev pub listsVerdict : ZeroSize → ListForm → ℕ → ℕ → List ℕ → ℕ → ℕ → Verdict
+listsVerdict z f fixed place s first end = firstFault (λ i. listVerdict z f fixed (place + 8 * (first + i)) s) (end - first)

@@ -65,20 +65,22 @@ pub fn judge_list(
     judge_count(payload, at, form, pair)
 }
 
-// The verdict on `count` pairs that stand one behind another from `place` on, and on their lists, up
-// to the first fault. None of them may be absent, whatever their form says.
+// Of the pairs that stand one behind another from `place` on: the verdict on those with the numbers from
+// `first` to below `end`, and on their lists, up to the first fault. None of them may be absent,
+// whatever their form says.
 pub fn judge_lists(
     zero_size: ZeroSize,
     payload: &[u8],
     fixed: u32,
     place: u32,
-    count: u32,
+    first: u32,
+    end: u32,
     form: ListForm,
 ) -> Verdict
-    ensures { λ r. ⌜ r ≡ listsVerdict «zero_size» (there form) fixed place (now (payload .entry)) count ⌝ }
+    ensures { λ r. ⌜ r ≡ listsVerdict «zero_size» (there form) fixed place (now (payload .entry)) first end ⌝ }
 {
-    let mut i: u32 = 0;
-    while i < count {
+    let mut i = first;
+    while i < end {
         let at = place as usize + PAIR_SIZE * i as usize;
         let verdict = judge_there(zero_size, payload, fixed, at, form);
         if let Verdict::Fault(refusal) = verdict {

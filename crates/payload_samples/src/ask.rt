@@ -4,6 +4,7 @@ use crate::readings::reading;
 use crate::reads::read;
 use crate::services::element;
 use crate::services::listed;
+use crate::services::position;
 use crate::writes::write;
 use sample_lines::answers::Asked;
 use sample_lines::answers::least;
@@ -28,6 +29,7 @@ pub fn ask(
         2 | 4 | 6 | 8 | 13 | 44 | 46 => lend(question, numbers, input, room, &mut out[..]),
         10 | 11 | 39 | 40 => lend_list(question, numbers, input, room, &mut list[..]),
         12 | 41 => listed(question, numbers, input),
+        51 | 52 => position(question, numbers, input),
         33 | 34 | 35 => reading(question, word_at(numbers, 1)),
         42 | 43 | 45 => pin_read(question, numbers, input),
         _ => no_question(),

@@ -1,7 +1,10 @@
-// The list of services: questions 10 to 13, and 39 to 41 by the reader's choice.
+// The list of services: questions 10 to 13 and 51, and 39 to 41 and 52 by the reader's choice.
 use c_structs::WrittenAnswer;
 use c_structs::services::ElementInfo;
 use c_structs::services::ListedInfo;
+use c_structs::services::PositionInfo;
+use culvertroost::services::cvr_device_services_ask;
+use culvertroost::services::cvr_device_services_ask_with;
 use culvertroost::services::cvr_device_services_cids;
 use culvertroost::services::cvr_device_services_cids_with;
 use culvertroost::services::cvr_device_services_element;
@@ -81,6 +84,29 @@ fn is_listed(question: u8, arguments: &[u8], input: &[u8]) -> ListedInfo {
         return cvr_device_services_listed(payload, service, cid);
     }
     cvr_device_services_listed_with(word_at(arguments, 2), payload, service, cid)
+}
+
+pub fn position(question: u8, arguments: &[u8], input: &[u8]) -> Asked {
+    let answer = position_of(question, arguments, input);
+    let refusal = answer.refusal;
+    plain(few(
+        refusal.number,
+        refusal.place,
+        answer.listed,
+        answer.element_number,
+        answer.cid_number,
+    ))
+}
+
+fn position_of(question: u8, arguments: &[u8], input: &[u8]) -> PositionInfo {
+    let service = id_at(input, 0);
+    let from = least(16, input.len());
+    let payload = &input[from..];
+    let cid = word_at(arguments, 1);
+    if question == 51 {
+        return cvr_device_services_ask(payload, service, cid);
+    }
+    cvr_device_services_ask_with(word_at(arguments, 2), payload, service, cid)
 }
 
 pub fn services_write(arguments: &[u8], input: &[u8], out: &mut [u8]) -> WrittenAnswer {

@@ -30,11 +30,11 @@ use Rattle.services_query.specs.Claims.{Serves, Held, First, ElementNotL
 
 -- ---- a service and a CID
 
-serves-said : (s : List ℕ) (service : ServiceId) (i : ℕ) → i < countOf s → isOf s service i ≡ true → Serves s service i
+pub serves-said : (s : List ℕ) (service : ServiceId) (i : ℕ) → i < countOf s → isOf s service i ≡ true → Serves s service i
 unfolding isOf
 serves-said s service i l e = record { below = l; is = same-said (elementAt s (offsetOf s i) .«device_service_id») service e }
 
-said-serves : (s : List ℕ) (service : ServiceId) (i : ℕ) → Serves s service i → isOf s service i ≡ true
+pub said-serves : (s : List ℕ) (service : ServiceId) (i : ℕ) → Serves s service i → isOf s service i ≡ true
 unfolding isOf
 said-serves s service i h = said-same (elementAt s (offsetOf s i) .«device_service_id») service (h .is)
 

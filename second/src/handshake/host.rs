@@ -115,15 +115,16 @@ impl Host {
         }
     }
 
-    /// A reply to DEVICE_SERVICES. Its payload is read in every state, if the status is 0.
+    /// A reply to DEVICE_SERVICES. If the status is 0, its payload is asked for VERSION in every
+    /// state, and refused where that is: what stands behind VERSION isn't looked at.
     fn services_reply(&mut self, status: u32, payload: &[u8]) -> ReplyAnswer {
         if status != 0 {
             return ReplyAnswer::Unchanged;
         }
-        match device_services::listed(payload, &EXTENSIONS, CID_VERSION) {
+        match device_services::ask(payload, &EXTENSIONS, CID_VERSION) {
             Err(refusal) => ReplyAnswer::Refused(refusal),
-            Ok(listed) => match self.state {
-                State::Opened { advertised } => self.take_list(advertised, listed),
+            Ok(found) => match self.state {
+                State::Opened { advertised } => self.take_list(advertised, found.is_some()),
                 _ => ReplyAnswer::Unchanged,
             },
         }
@@ -145,7 +146,7 @@ impl Host {
         }
     }
 
-    /// An accepted list at a host just opened: 13, 14, then VERSION or 1.00.
+    /// A list that has its answer, at a host just opened: 13, 14, then VERSION or 1.00.
     fn take_list(&mut self, advertised: Version, listed: bool) -> ReplyAnswer {
         if advertised > self.native {
             ReplyAnswer::Refused(Refusal::new(ABOVE_HOST, 0))
@@ -262,6 +263,73 @@ mod tests {
                 assert_eq!(host.services_reply(0, &list), refused);
                 assert_eq!(host, before);
             }
+        }
+    }
+
+    /// Three elements with VERSION in the second one, and a fault in the one of this number.
+    fn faulty(number: usize) -> Vec<u8> {
+        let element = |device_service_id, cids| Element {
+            device_service_id,
+            dss_payload: 0,
+            max_dss_instances: 0,
+            cids,
+        };
+        let elements =
+            [element(EXTENSIONS, &[14]), element(EXTENSIONS, &[15]), element([0; 16], &[])];
+        let mut out = [0; 124];
+        assert_eq!(device_services::write(0, &elements, &mut out), Ok(out.len()));
+        out[8 + 8 * number] += 1;
+        out.to_vec()
+    }
+
+    #[test]
+    fn a_fault_behind_version_is_not_seen() {
+        let list = faulty(2);
+        for advertised in [0x0100, 0x0200] {
+            let mut host = opened(0x0200, advertised);
+            assert_eq!(host.services_reply(0, &list), ReplyAnswer::AsksVersion);
+            assert_eq!(host, awaiting(advertised));
+        }
+        let mut host = opened(0x0100, 0x0100);
+        assert_eq!(host.services_reply(0, &list), ReplyAnswer::Settled(Version::V1));
+        let mut host = opened(0x0100, 0x0200);
+        assert_eq!(host.services_reply(0, &list), ReplyAnswer::Refused(Refusal::new(13, 0)));
+        assert_eq!(host, opened(0x0100, 0x0200));
+    }
+
+    #[test]
+    fn a_fault_before_version_or_at_it_comes_before_13_and_14() {
+        for number in [0, 1] {
+            let refused = ReplyAnswer::Refused(Refusal::new(17, 8 + 8 * number));
+            for (native, advertised) in
+                [(0x0100, 0x0100), (0x0100, 0x0200), (0x0200, 0x0100), (0x0200, 0x0200)]
+            {
+                let mut host = opened(native, advertised);
+                assert_eq!(host.services_reply(0, &faulty(number)), refused);
+                assert_eq!(host, opened(native, advertised));
+            }
+        }
+        let mut unlisted = list(&[14]);
+        unlisted[12] -= 1;
+        let refused = ReplyAnswer::Refused(Refusal::new(8, 8));
+        assert_eq!(opened(0x0200, 0x0200).services_reply(0, &unlisted), refused);
+    }
+
+    #[test]
+    fn a_list_that_changes_nothing_is_refused_where_the_question_refuses() {
+        let closed = Host::make(0x0200).unwrap();
+        let [mut one, mut two] = [awaiting(0x0100); 2];
+        one.version_reply(0, &ANSWER_V1);
+        two.version_reply(0, &ANSWER_V2);
+        for before in [closed, awaiting(0x0100), awaiting(0x0200), one, two] {
+            let mut host = before;
+            assert_eq!(host.services_reply(0, &faulty(2)), ReplyAnswer::Unchanged);
+            for number in [0, 1] {
+                let refused = ReplyAnswer::Refused(Refusal::new(17, 8 + 8 * number));
+                assert_eq!(host.services_reply(0, &faulty(number)), refused);
+                assert_eq!(host.services_reply(9, &faulty(number)), ReplyAnswer::Unchanged);
+            }
+            assert_eq!(host, before);
         }
     }
 

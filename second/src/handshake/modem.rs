@@ -54,7 +54,7 @@ pub(super) const FAILED: CommandAnswer = CommandAnswer::Failed { status: STATUS_
 
 impl Modem {
     /// A modem at its start that serves this list of services. A number outside the
-    /// table, or advertised above native, is 12; then the list is judged.
+    /// table, or advertised above native, is 12; then the whole list is judged.
     pub fn make(native: u16, advertised: u16, services: &[u8]) -> Result<Modem, Refusal> {
         let native = Version::from_bcd(native)?;
         let advertised = Version::from_bcd(advertised)?;
@@ -241,6 +241,22 @@ mod tests {
         let modem = |cids: &[u32]| Modem::make(0x0200, 0x0200, &list(cids)).unwrap();
         assert!(modem(&[14, 15]).lists_version());
         assert!(!modem(&[14, 16]).lists_version());
+    }
+
+    #[test]
+    fn its_own_list_is_judged_in_full() {
+        let element = Element {
+            device_service_id: EXTENSIONS,
+            dss_payload: 0,
+            max_dss_instances: 0,
+            cids: &[15],
+        };
+        let mut list = [0; 88];
+        assert_eq!(device_services::write(0, &[element; 2], &mut list), Ok(list.len()));
+        assert!(Modem::make(0x0200, 0x0200, &list).unwrap().lists_version());
+        list[16] += 1;
+        assert!(device_services::ask(&list, &EXTENSIONS, CID_VERSION).unwrap().is_some());
+        assert_eq!(Modem::make(0x0200, 0x0200, &list), Err(Refusal::new(17, 16)));
     }
 
     #[test]

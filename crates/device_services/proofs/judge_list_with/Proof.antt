@@ -1,23 +1,9 @@
--- The length is judged, then pair by pair; a length that fits has a count of at most 32.
+-- All its elements.
 use borrow.Author.Needs.{needs}
-use mathlib.Core.Path.{sym, _∙_}
-use native.Mathlib.Omega.{arith}
-use Rattle.protocol.specs.Verdict.{firstOf}
-use Rattle.device_services.specs.DeviceServices.{contentRules, elementVerdict, verdictWith}
-use Rattle.device_services.proofs.Laws.{few}
+use mathlib.Core.Path.{_∙_}
+use Rattle.device_services.proofs.Laws.{whole-part}
 use Rattle.device_services.proofs.judge_list_with.Statement.{statement}
 use Rattle.device_services.proofs.judge_list_with.Tie as tie
 
-listed-place-requires : tie.Need-listed-place-requires
-listed-place-requires c κs = omega (arith, few _ _ (sym (c .before .before .before .judge-length .ensures) ∙ c .before .enum-told .given .1), c .judged-count .ensures)
-
-returns : tie.Need-returns
-unfolding verdictWith firstOf elementVerdict contentRules
-returns c = rw (← c .before .before .before .before .before .judge-length .ensures, c .before .before .before .enum-told .given .1, ← c .before .before .judged-count .ensures, ← c .before .listed-place .ensures) (c .judge-lists .ensures)
-
-returns-2 : tie.Need-returns-2
-unfolding verdictWith firstOf
-returns-2 c = rw (← c .before .before .before .judge-length .ensures, c .before .refusal .given .1)
-
 pub judge-list-with-spec : {M : Type 1} → statement M
-judge-list-with-spec = tie.close (tie.spec (λ c. search needs) (λ c. search needs) (λ c. search needs) listed-place-requires (λ c. search needs) (λ c. search needs) returns returns-2)
+judge-list-with-spec = tie.close (tie.spec (λ c. search needs) (λ c. c .judge-part .ensures ∙ whole-part _ _))

@@ -10,7 +10,7 @@ use second::flat::Answer;
 use second::message::{COMMAND, COMMAND_DONE, INDICATE_STATUS};
 use second::payload::{BASIC_CONNECT, EXTENSIONS};
 
-const VERSIONS: [u64; 2] = [0x0100, 0x0200];
+pub const VERSIONS: [u64; 2] = [0x0100, 0x0200];
 const NUMBERS: [u64; 5] = [0, 0x00FF, 0x0101, 0x0300, 0xFFFF];
 
 pub fn all(samples: &mut Samples) {
@@ -46,15 +46,20 @@ pub fn all(samples: &mut Samples) {
 }
 
 /// Gives the host a message: type, transaction, CID and word.
-fn receive(samples: &mut Samples, service: [u8; 16], head: [u64; 4], information: &[u8]) -> Answer {
+pub fn receive(
+    samples: &mut Samples,
+    service: [u8; 16],
+    head: [u64; 4],
+    information: &[u8],
+) -> Answer {
     samples.ask(HOST_RECEIVE, &head, &[&service[..], information].concat())
 }
 
-fn services_reply(samples: &mut Samples, status: u64, list: &[u8]) -> Answer {
+pub fn services_reply(samples: &mut Samples, status: u64, list: &[u8]) -> Answer {
     receive(samples, BASIC_CONNECT, [COMMAND_DONE.into(), 1, 16, status], list)
 }
 
-fn version_reply(samples: &mut Samples, status: u64, payload: &[u8]) -> Answer {
+pub fn version_reply(samples: &mut Samples, status: u64, payload: &[u8]) -> Answer {
     receive(samples, EXTENSIONS, [COMMAND_DONE.into(), 2, 15, status], payload)
 }
 
@@ -125,7 +130,7 @@ fn replies() -> Vec<(u64, Vec<u8>)> {
     ]
 }
 
-fn show(samples: &mut Samples) {
+pub fn show(samples: &mut Samples) {
     samples.ask(SHOW_HOST, &[], &[]);
 }
 

@@ -4,11 +4,13 @@
 //!
 //!     generate payloads|messages|traces|day
 
+mod asks;
 mod bad_lines;
 mod damage;
 mod day;
 mod doors;
 mod feeds;
+mod host_lists;
 mod hosts;
 mod messages;
 mod modems;
@@ -59,11 +61,13 @@ fn all() -> Samples {
     feeds::all(&mut samples);
     doors::all(&mut samples);
     hosts::all(&mut samples);
+    host_lists::all(&mut samples);
     modems::all(&mut samples);
     runs::all(&mut samples);
     qualities::all(&mut samples);
     pins::all(&mut samples);
     pin_entries::all(&mut samples);
     pin_modems::all(&mut samples);
+    asks::all(&mut samples);
     samples
 }

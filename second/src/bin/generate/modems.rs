@@ -1,6 +1,8 @@
 //! Samples of the modem's end of the handshake.
 
+use crate::asks::faults;
 use crate::damage::{resized, with_word, words};
+use crate::host_lists::three;
 use crate::hosts::{list, offset_faults, stray_lists, twice};
 use crate::random::Random;
 use crate::samples::Samples;
@@ -41,6 +43,7 @@ pub fn all(samples: &mut Samples) {
     walk(samples);
     strays(samples);
     pins(samples);
+    faults_behind(samples);
 }
 
 pub fn show(samples: &mut Samples) {
@@ -301,5 +304,16 @@ fn pins(samples: &mut Samples) {
         command(samples, service, [12, cid, 1], &entry);
     }
     command(samples, BASIC_CONNECT, [12, 4, 2], &entry);
+    show(samples);
+}
+
+/// A modem's own list is judged in full: a fault behind VERSION is one too.
+fn faults_behind(samples: &mut Samples) {
+    make(samples, (0x0200, 0x0100, false));
+    for services in faults(&three(), 2) {
+        samples.ask(MAKE_MODEM, &[0x0200, 0x0200, MODEM_SIZE], &services);
+    }
+    show(samples);
+    samples.ask(MAKE_MODEM, &[0x0200, 0x0200, MODEM_SIZE], &three());
     show(samples);
 }

@@ -1,0 +1,2 @@
+pub mod ServicesAsk
+pub mod Claims
