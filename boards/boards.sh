@@ -1,7 +1,9 @@
 # What the scripts of this folder share: the boards, and what each needs. Sourced in the repository's
 # root by a script that sets `name`, the word that stands before its lines.
 boards='aarch64-linux-gnu arm-linux-gnueabihf riscv64-linux-gnu'
-module=target/boards/module.ll
+# The module to build from, and the folder of what is built: those of the proved library, if not set.
+module=${CVR_MODULE:-target/boards/module.ll}
+built=${CVR_BUILT:-target/boards}
 
 # stop TEXT: ends the script
 stop() {

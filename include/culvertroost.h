@@ -82,10 +82,10 @@ extern "C" {
 #endif
 
 /* This library's own version. A call, a struct or a number that changes raises the first two. */
-#define CVR_LIBRARY_VERSION "0.8.0"
+#define CVR_LIBRARY_VERSION "0.8.1"
 #define CVR_LIBRARY_VERSION_MAJOR 0
 #define CVR_LIBRARY_VERSION_MINOR 8
-#define CVR_LIBRARY_VERSION_PATCH 0
+#define CVR_LIBRARY_VERSION_PATCH 1
 
 /* ---- refusals ---------------------------------------------------------------------------------- */
 

@@ -73,7 +73,7 @@ read-same n v s at h b =
     ∙ ap (num n (take at s ++ (digits n v ++ rest))) (sym (add-zero at ∙ refl) ∙ ap (λ (k : ℕ). k + 0) (sym (length-take-le at s (omega arith))))
     ∙ num-skip n (take at s) (digits n v ++ rest) 0 ∙ num-digits n v rest b
 
-getD-sets-other : (vs s : List ℕ) (at j : ℕ) → (j < at) ⊎ (at + length vs ≤ j) → getD (sets s at vs) j 0 ≡ getD s j 0
+pub getD-sets-other : (vs s : List ℕ) (at j : ℕ) → (j < at) ⊎ (at + length vs ≤ j) → getD (sets s at vs) j 0 ≡ getD s j 0
 getD-sets-other [] s at j h = refl
 getD-sets-other (v ∷ vs) s at j (inl h) =
     getD-sets-other vs (set s at v) (suc at) j (inl (omega arith)) ∙ getD-set-other s at j v 0 (omega arith)
@@ -145,13 +145,16 @@ pub sets-all : (b s : List ℕ) → length b ≡ length s → sets s 0 b ≡ b
 unfolding over
 sets-all b s e = sets-over b s (omega arith) ∙ rw (drop-of-length-le s {i = length b} (omega arith)) (append-nil b)
 
--- a part of the output that is filled, put back where it was lent from: at a place, and at the front
+-- a part of the output that is filled, put back where it was lent from: by what it is then, by stores from
+-- its front, and at the front
+pub part-copied : (b s : List ℕ) (at n : ℕ) {t : List ℕ} → length b ≡ n → at + n ≤ length s → t ≡ b → take at s ++ (t ++ drop n (drop at s)) ≡ sets s at b
+part-copied b s at n e h p = rw (p, drop-drop n at s, ← e) (sym (sets-eq b s at (omega arith) ∙ append-assoc (take at s) b (drop (at + length b) s)))
+
 pub part-filled : (b s : List ℕ) (at n : ℕ) {t : List ℕ} → length b ≡ n → at + n ≤ length s → t ≡ sets (take n (drop at s)) 0 b
     → take at s ++ (t ++ drop n (drop at s)) ≡ sets s at b
-part-filled b s at n {t} e h p =
+part-filled b s at n e h p =
     let part : length (take n (drop at s)) ≡ n = length-take-le n (drop at s) (omega (arith, length-drop at s)) in
-    let full : t ≡ b = p ∙ sets-all b (take n (drop at s)) (e ∙ sym part) in
-    rw (full, drop-drop n at s, ← e) (sym (sets-eq b s at (omega arith) ∙ append-assoc (take at s) b (drop (at + length b) s)))
+    part-copied b s at n e h (p ∙ sets-all b (take n (drop at s)) (e ∙ sym part))
 
 pub front-filled : (b s : List ℕ) (n : ℕ) {t : List ℕ} → length b ≡ n → n ≤ length s → t ≡ sets (take n s) 0 b → t ++ drop n s ≡ sets s 0 b
 front-filled b s n e h p = part-filled b s 0 n e (omega arith) p
@@ -216,6 +219,11 @@ fitted-take (suc n) t h = rw (fitted-take n t (omega arith), take-suc t n 0 h)
 -- the whole of a text
 pub fitted-all : (t : List ℕ) → fitted (length t) t ≡ t
 fitted-all t = fitted-take (length t) t (omega arith) ∙ take-length t
+
+-- a text that is cut where the output ends
+pub sets-cut : (t s : List ℕ) (at room : ℕ) → room ≤ length t → length s ≤ at + room → sets s at (take room t) ≡ sets s at t
+sets-cut t s at room l h =
+    ap (sets s at) (sym (fitted-take room t l)) ∙ sym (run-past (length t) at room s t l h) ∙ ap (sets s at) (fitted-all t)
 
 -- a run through a block in between
 pub fitted-through : (n : ℕ) (block t : List ℕ) → n ≤ length block → fitted n (sets block 0 (fitted n t)) ≡ fitted n t

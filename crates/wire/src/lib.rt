@@ -1,12 +1,27 @@
 // Little-endian numbers and runs of bytes at a place of a byte slice. Every function is total: a
 // byte past the end reads as zero, and a store past the end is dropped. Nothing is judged here.
 ghost use mathlib.Core.Path.{_≡_};
-ghost use mathlib.Core.List.{[]};
-ghost use Prim.Native.Nat.{_+_, _≤_, _<_};
-ghost use lib.ListN.{length, getD, set};
+ghost use mathlib.Core.List.{[], _∷_};
+ghost use Prim.Native.Nat.{_+_, _-_, _≤_, _<_};
+ghost use lib.ListN.{length, getD, set, take, drop};
 ghost use lib.Seq.{sets};
 ghost use Rattle.wire.specs.Numbers.{u16At, u32At, u64At, digits};
 ghost use Rattle.wire.specs.Output.{fitted};
+
+// So many bytes are copied in runs of eight; more of them at once.
+const MOST_IN_RUNS: usize = 64;
+
+// Eight bytes that are copied together.
+struct Run {
+    a: u8,
+    b: u8,
+    c: u8,
+    d: u8,
+    e: u8,
+    f: u8,
+    g: u8,
+    h: u8,
+}
 
 pub fn byte_at(s: &[u8], at: usize) -> u8
     ensures { λ r. ⌜ r ≡ getD (now (s .entry)) at 0 ⌝ }
@@ -110,29 +125,139 @@ pub fn put_bytes(out: &mut [u8], at: usize, t: &[u8])
     }
     let room = out.len() - at;
     if room < t.len() {
-        put_front(out, at, t, room);
-    } else {
-        put_front(out, at, t, t.len());
+        copy(&mut out[at..], &t[..room]);
+        return;
+    }
+    let n = t.len();
+    let end = at + n;
+    if MOST_IN_RUNS < n {
+        copy_at_once(&mut out[at..end], &t[..n]);
+        return;
+    }
+    copy_short(&mut out[at..end], &t[..n]);
+}
+
+// All of t, over an output of its length. put_bytes chooses for itself, so that a long piece goes straight
+// to memmove. What goes on is a part of t, though it is all of it: a part is handed over in registers.
+fn copy(out: &mut [u8], t: &[u8])
+    requires { ⌜ length (now out) ≡ length (now t) ⌝ }
+    ensures { λ _. ⌜ now (out .exit) ≡ now (t .entry) ⌝ }
+{
+    let n = t.len();
+    if MOST_IN_RUNS < n {
+        copy_at_once(out, &t[..n]);
+        return;
+    }
+    copy_short(out, &t[..n]);
+}
+
+fn copy_short(out: &mut [u8], t: &[u8])
+    requires { ⌜ (length (now out) ≡ length (now t)) × (length (now t) ≤ 64) ⌝ }
+    ensures { λ _. ⌜ now (out .exit) ≡ now (t .entry) ⌝ }
+{
+    let n = t.len();
+    if n < 16 {
+        copy_few(out, &t[..n]);
+        return;
+    }
+    copy_in_runs(out, &t[..n]);
+}
+
+// A run at each end, or byte by byte what is too short for one. In one function with copy_in_runs the
+// compiler would share the last stores of both, byte by byte.
+fn copy_few(out: &mut [u8], t: &[u8])
+    requires { ⌜ (length (now out) ≡ length (now t)) × (length (now t) < 16) ⌝ }
+    ensures { λ _. ⌜ now (out .exit) ≡ now (t .entry) ⌝ }
+{
+    let n = t.len();
+    if n < 8 {
+        put_each(out, 0, t, n);
+        return;
+    }
+    put_eight(out, 0, eight_at(t, 0));
+    put_eight(out, n - 8, eight_at(t, n - 8));
+}
+
+// Two runs at each end, and two more where they don't meet. A loop would cost what the runs save.
+fn copy_in_runs(out: &mut [u8], t: &[u8])
+    requires { ⌜ (length (now out) ≡ length (now t)) × (16 ≤ length (now t)) × (length (now t) ≤ 64) ⌝ }
+    ensures { λ _. ⌜ now (out .exit) ≡ now (t .entry) ⌝ }
+{
+    put_ends(out, t, 0);
+    if t.len() <= 32 {
+        return;
+    }
+    put_ends(out, t, 16);
+}
+
+// The two runs that begin so many bytes behind the front, and the two that end as many before the end.
+fn put_ends(out: &mut [u8], t: &[u8], inside: usize)
+    requires { ⌜ (length (now out) ≡ length (now t)) × (inside + 16 ≤ length (now t)) ⌝ }
+    ensures { λ _. ⌜ now (out .exit) ≡ sets (sets (now (out .entry)) inside (take 16 (drop inside (now (t .entry))))) (length (now (t .entry)) - 16 - inside) (take 16 (drop (length (now (t .entry)) - 16 - inside) (now (t .entry)))) ⌝ }
+{
+    put_sixteen(out, inside, t);
+    put_sixteen(out, t.len() - 16 - inside, t);
+}
+
+// Two runs, one behind the other, at one place of both. Both are loaded before one is stored: one load
+// and one store where the processor has 16 bytes, though the compiler can't know that out and t lie apart.
+fn put_sixteen(out: &mut [u8], at: usize, t: &[u8])
+    requires { ⌜ (at + 16 ≤ length (now out)) × (at + 16 ≤ length (now t)) ⌝ }
+    ensures { λ _. ⌜ now (out .exit) ≡ sets (now (out .entry)) at (take 16 (drop at (now (t .entry)))) ⌝ }
+{
+    let first = eight_at(t, at);
+    let second = eight_at(t, at + 8);
+    put_eight(out, at, first);
+    put_eight(out, at + 8, second);
+}
+
+fn eight_at(t: &[u8], at: usize) -> Run
+    requires { ⌜ at + 8 ≤ length (now t) ⌝ }
+    ensures { λ r. ⌜ (r .a ∷ r .b ∷ r .c ∷ r .d ∷ r .e ∷ r .f ∷ r .g ∷ r .h ∷ []) ≡ take 8 (drop at (now (t .entry))) ⌝ }
+{
+    Run {
+        a: t[at],
+        b: t[at + 1],
+        c: t[at + 2],
+        d: t[at + 3],
+        e: t[at + 4],
+        f: t[at + 5],
+        g: t[at + 6],
+        h: t[at + 7],
     }
 }
 
-// The first n bytes of t, where they are there and have room. They go through a block of their own,
-// of which the compiler knows that it overlaps with neither: it makes one copy of the two, by memmove,
-// and leaves out the block.
-fn put_front(out: &mut [u8], at: usize, t: &[u8], n: usize)
-    requires { ⌜ (at + n ≤ length (now out)) × (n ≤ length (now t)) ⌝ }
-    ensures { λ _. ⌜ now (out .exit) ≡ sets (now (out .entry)) at (fitted n (now (t .entry))) ⌝ }
+fn put_eight(out: &mut [u8], at: usize, run: Run)
+    requires { ⌜ at + 8 ≤ length (now out) ⌝ }
+    ensures { λ _. ⌜ now (out .exit) ≡ sets (now (out .entry)) at (run .a ∷ run .b ∷ run .c ∷ run .d ∷ run .e ∷ run .f ∷ run .g ∷ run .h ∷ []) ⌝ }
 {
+    out[at] = run.a;
+    out[at + 1] = run.b;
+    out[at + 2] = run.c;
+    out[at + 3] = run.d;
+    out[at + 4] = run.e;
+    out[at + 5] = run.f;
+    out[at + 6] = run.g;
+    out[at + 7] = run.h;
+}
+
+// Through a block of its own, of which the compiler knows that it overlaps with neither: it makes one
+// copy of the two, by memmove, and leaves out the block.
+fn copy_at_once(out: &mut [u8], t: &[u8])
+    requires { ⌜ length (now out) ≡ length (now t) ⌝ }
+    ensures { λ _. ⌜ now (out .exit) ≡ now (t .entry) ⌝ }
+{
+    let n = t.len();
     if 4096 < n {
-        put_each(out, at, t, n);
+        put_each(out, 0, t, n);
         return;
     }
     let mut block: [u8; 4096] = [0; 4096];
     put_each(&mut block, 0, t, n);
-    put_each(out, at, &block, n);
+    put_each(out, 0, &block, n);
 }
 
-// The same, byte by byte: no test for each.
+// The first n bytes of t, where they are there and have room, byte by byte: no test for each.
 fn put_each(out: &mut [u8], at: usize, t: &[u8], n: usize)
     requires { ⌜ (at + n ≤ length (now out)) × (n ≤ length (now t)) ⌝ }
     ensures { λ _. ⌜ now (out .exit) ≡ sets (now (out .entry)) at (fitted n (now (t .entry))) ⌝ }
@@ -150,11 +275,13 @@ fn put_fitting(out: &mut [u8], at: usize, t: &[u8], n: usize)
     ensures { λ _. ⌜ now (out .exit) ≡ sets (now (out .entry)) at (fitted n (now (t .entry))) ⌝ }
 {
     if n <= t.len() {
-        put_front(out, at, t, n);
+        let end = at + n;
+        copy(&mut out[at..end], &t[..n]);
         return;
     }
-    put_front(out, at, t, t.len());
-    put_zeros(out, at + t.len(), n - t.len());
+    let end = at + t.len();
+    copy(&mut out[at..end], t);
+    put_zeros(out, end, n - t.len());
 }
 
 fn put_zeros(out: &mut [u8], at: usize, n: usize)
