@@ -977,7 +977,12 @@ cvr_refusal cvr_assembly_empty(uint8_t *memory, size_t size);
  *     UNKNOWN at 0; WRONG_FRAGMENT at 12, 16. A first fragment: TOO_SHORT; OUTSIDE_TABLE at 40 (a
  *     command's type); TOO_LONG, then WRONG_LENGTH, at 44, in an indication at 40. A later one:
  *     WRONG_FRAGMENT at 16 (not the one expected); WRONG_LENGTH at 4 (more or fewer bytes than
- *     declared). The last: OUTPUT_TOO_SMALL. */
+ *     declared). The last: OUTPUT_TOO_SMALL.
+ *
+ * Damage stays local. Whatever was received since the memory was emptied, the fragments of a message,
+ * received in order from its first, give what they would give right after; only `dropped` may differ. And
+ * no message is complete unless its fragments were received one after the other, with nothing between
+ * them but whole messages. */
 cvr_receive_answer cvr_receive(uint8_t *memory, size_t size, const uint8_t *piece, size_t length,
                                uint8_t *out, size_t room);
 

@@ -27,7 +27,7 @@ unfolding empty
 clean-empty = record { whole = length-replicate {A = ℕ} 4096 0; past = drop-zeros 0 4096 4096 refl; idle = λ e. refl }
 
 -- over an empty assembly the buffer is zero already, over an unfinished message it is cleared
-begun-zeros : (a : Assembly) → Clean a → begunBytes (isPending (a .progress)) (a .bytes) ≡ zeros
+pub begun-zeros : (a : Assembly) → Clean a → begunBytes (isPending (a .progress)) (a .bytes) ≡ zeros
 unfolding begunBytes empty
 begun-zeros a C = go (isPending (a .progress)) refl
   where
@@ -59,7 +59,7 @@ clean-gather : (a : Assembly) (xs : List ℕ) (d : Bool) (s : Step) → Clean a 
 unfolding refused waiting completed
 clean-gather a xs d s C G (refuses r e) = rw e clean-empty
 clean-gather a xs d s C G (waits e) = rw e (clean-grown a xs C G)
-clean-gather a xs d s C G (completes e) = rw e clean-empty
+clean-gather a xs d s C G (completes last e) = rw e clean-empty
 
 -- feeding keeps an assembly clean
 pub clean-step : (a : Assembly) (p : List ℕ) (room : ℕ) → Clean a → Clean (stepOf a p room .assembly)

@@ -4,6 +4,7 @@ use mathlib.Core.Path.{_≡_, refl}
 use mathlib.Core.Bool.{Bool, true, false, cond}
 use mathlib.Core.List.{List}
 use Prim.Native.Nat.{ℕ, _+_}
+use borrow.Author.Tests.{eqb-true}
 use lib.Dec.{eqb, ltb}
 use lib.ListN.{drop}
 use Rattle.protocol.specs.Refusal.{refusal, outputTooSmall}
@@ -21,16 +22,16 @@ use Rattle.assembler.proofs.Laws.{Gathers, JudgedView, judged-view}
 pub data GatherView (a : Assembly) (xs : List ℕ) (dropped : Bool) (s : Step) : Type 0 where
   refuses : (r : Refusal) → s ≡ refused r → GatherView a xs dropped s
   waits : s ≡ waiting (grown a xs) dropped → GatherView a xs dropped s
-  completes : s ≡ completed a xs dropped → GatherView a xs dropped s
+  completes : a .progress .next + 1 ≡ a .progress .total → s ≡ completed a xs dropped → GatherView a xs dropped s
 
 pub gather-view : (a : Assembly) (xs : List ℕ) (dropped : Bool) (room : ℕ) → GatherView a xs dropped (gatherOf a xs dropped room)
 unfolding gatherOf
-gather-view a xs dropped room = go (eqb (a .progress .next + 1) (a .progress .total)) (ltb room (a .progress .«information_length»))
+gather-view a xs dropped room = go (eqb (a .progress .next + 1) (a .progress .total)) refl (ltb room (a .progress .«information_length»))
   where
-    go : (last small : Bool) → GatherView a xs dropped (cond last (cond small (refused (refusal outputTooSmall (a .progress .«information_length»))) (completed a xs dropped)) (waiting (grown a xs) dropped))
-    go true true = refuses _ refl
-    go true false = completes refl
-    go false small = waits refl
+    go : (last : Bool) → eqb (a .progress .next + 1) (a .progress .total) ≡ last → (small : Bool) → GatherView a xs dropped (cond last (cond small (refused (refusal outputTooSmall (a .progress .«information_length»))) (completed a xs dropped)) (waiting (grown a xs) dropped))
+    go true e true = refuses _ refl
+    go true e false = completes (eqb-true _ _ e) refl
+    go false e small = waits refl
 
 -- a piece is refused, begins a message, or joins the pending one
 pub data StepView (a : Assembly) (s : Step) : Type 0 where

@@ -5,3 +5,7 @@ pub mod Collect
 pub mod Passed
 pub mod Delivered
 pub mod Worked
+pub mod Recovered
+pub mod Feeds
+pub mod Made
+pub mod Received

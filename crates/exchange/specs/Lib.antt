@@ -3,3 +3,5 @@ pub mod Collected
 pub mod Delivery
 pub mod Pass
 pub mod Cases
+pub mod Damage
+pub mod Received

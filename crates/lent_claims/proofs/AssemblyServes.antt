@@ -69,7 +69,7 @@ numbers-back p t e =
 
 -- ---- what was put into memory that has the room is what it holds
 
-length-held : (a : Assembly) (m : List ℕ) → length (a .bytes) ≡ 4096 → length (progressBytes (a .progress) ++ a .bytes) ≡ assemblySize
+pub length-held : (a : Assembly) (m : List ℕ) → length (a .bytes) ≡ 4096 → length (progressBytes (a .progress) ++ a .bytes) ≡ assemblySize
 length-held a m whole = length-append (progressBytes (a .progress)) (a .bytes) ∙ omega (arith, length-progress (a .progress), whole)
 
 held-parts : (a : Assembly) (m : List ℕ) → length (a .bytes) ≡ 4096 → held a m ≡ progressBytes (a .progress) ++ (a .bytes ++ drop assemblySize m)
@@ -154,7 +154,7 @@ left-small a s p b e (pending w (joined q n)) = waits-small p w (rw q (first-wor
 
 -- ---- one feed, then a run
 
-fed-in : (m : List ℕ) (a : Assembly) (s : List ℕ) (room : ℕ) → Holds m a → feedIn m s room ≡ kept (stepOf a s room) m
+pub fed-in : (m : List ℕ) (a : Assembly) (s : List ℕ) (room : ℕ) → Holds m a → feedIn m s room ≡ kept (stepOf a s room) m
 unfolding feedIn keptOf
 fed-in m a s room H =
     rw (H .numbers, H .fits) (ap (λ (x : List ℕ). kept (stepOf (assemblyOf (a .progress) x) s room) m) (H .buffer))
@@ -171,7 +171,7 @@ feed-holds m a s room b H =
     )
 
 -- 4,144 zeros are the empty assembly
-zeros-empty : (m : List ℕ) → cleared m ≡ held empty m
+pub zeros-empty : (m : List ℕ) → cleared m ≡ held empty m
 unfolding cleared held empty progressBytes messageBytes countBytes idBytes
 zeros-empty m = ap (λ (b : List ℕ). over b m) (sym (replicate-append-replicate 48 4096 0))
 
@@ -179,12 +179,12 @@ empty-whole : length (empty .bytes) ≡ 4096
 unfolding empty
 empty-whole = length-replicate {A = ℕ} 4096 0
 
-empty-holds : (m : List ℕ) → assemblySize ≤ length m → Holds (emptied m .memory) empty
+pub empty-holds : (m : List ℕ) → assemblySize ≤ length m → Holds (emptied m .memory) empty
 unfolding emptied
 empty-holds m room = rw (le-ltb _ _ room, zeros-empty m) (held-holds empty m room empty-whole none-fits none-small)
 
 -- one received piece, whole message or fragment
-receive-holds : (m : List ℕ) (a : Assembly) (s : List ℕ) (room : ℕ) → Bytes s → Holds m a
+pub receive-holds : (m : List ℕ) (a : Assembly) (s : List ℕ) (room : ℕ) → Bytes s → Holds m a
     → (receiveIn m s room .received ≡ receiveOf a s room .received) × (receiveIn m s room .information ≡ receiveOf a s room .information)
     × Holds (receiveIn m s room .memory) (receiveOf a s room .assembly)
 unfolding receiveIn receiveOf

@@ -11,3 +11,4 @@ pub mod ModemReached
 pub mod ModemTaken
 pub mod PinsTaken
 pub mod PinModemServes
+pub mod DamageInMemory

@@ -1,7 +1,9 @@
 // Demand 3 to be watched. Prints what host and modem come to in each of the 12 runs of the handshake
 // (two native versions of the host, three pairs of a modem's native and advertised version, VERSION
-// listed or not), every command and reply cut and put together again; and a record that is written,
-// cut, fed and read.
+// listed or not), every command and reply cut and put together again; a record that is written, cut, fed
+// and read; and a mixture of fragments, from which messages come out whole.
+mod mixture;
+
 use assembler::Assembly;
 use assembler::door::Received;
 use cutter::Cutting;
@@ -55,6 +57,7 @@ fn main() {
     print_host(0x0200);
     print(b"\nversion read at\tUplinkSpeed\tDownlinkSpeed\n");
     print_carried();
+    mixture::print_mixture();
 }
 
 // A packet service record written, cut at 64 bytes into an indication, fed, and read at both versions.
