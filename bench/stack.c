@@ -12,7 +12,7 @@ enum { STACK = 262144, PAINT = 0xA5 };
 static uint8_t stack[STACK];
 static ucontext_t here, there;
 
-static uint8_t payload[4096], out[8192], memory[CVR_ASSEMBLY_SIZE];
+static uint8_t payload[4096], out[8192], memory[CVR_ASSEMBLY_SIZE], stream[CVR_STREAM_SIZE];
 static uint8_t host[CVR_HOST_SIZE], modem[CVR_MODEM_SIZE], pins[CVR_PINS_SIZE];
 static uint32_t cids[CVR_MOST_CIDS];
 static size_t length;
@@ -87,6 +87,17 @@ static void receive(void) {
     seen = cvr_receive(memory, sizeof memory, out, 64, payload, sizeof payload).refusal.number;
 }
 
+/* The first fragment in two chunks, so that it is held between them. */
+static void stream_feed(void) {
+    cvr_stream_feed(stream, sizeof stream, memory, sizeof memory, out, 63, payload, sizeof payload);
+    seen = cvr_stream_feed(stream, sizeof stream, memory, sizeof memory, out + 63, 1, payload, sizeof payload)
+               .piece.refusal.number;
+}
+
+static void stream_reset(void) {
+    seen = cvr_stream_reset(stream, sizeof stream, memory, sizeof memory).number;
+}
+
 static void host_receive(void) {
     seen = cvr_host_receive(host, sizeof host, message, payload, length).refusal.number;
 }
@@ -156,6 +167,19 @@ static void make_list(void) {
     length = cvr_device_services_write(list, payload, sizeof payload).length;
 }
 
+/* A query, cut; its first fragment is received, alone and from a stream. */
+static void message_rows(void) {
+    cvr_service service = CVR_BASIC_CONNECT;
+    message.message_type = CVR_MESSAGE_COMMAND;
+    message.transaction = 1;
+    message.service = service;
+    row("cvr_message_cut", message_cut);
+    row("cvr_receive", receive);
+    row("cvr_stream_feed", stream_feed);
+    row("cvr_stream_reset", stream_reset);
+    row("cvr_message_write", message_write);
+}
+
 /* VERSION as a query, with its payload. */
 static void make_version(void) {
     cvr_service service = CVR_EXTENSIONS;
@@ -188,7 +212,6 @@ static void pin_rows(void) {
 
 int main(void) {
     cvr_rsrp_snr entry = {60, 50, 0, 0, 0x20};
-    cvr_service service = CVR_BASIC_CONNECT;
     size_t i;
     base = depth(idle);
     packet_service.version = registration.version = signal_state.version = CVR_VERSION_2_00;
@@ -209,12 +232,7 @@ int main(void) {
     length = CVR_SIGNAL_STATE_LENGTH;
     memcpy(payload, out, length);
     row("cvr_signal_state_read", signal_state_read);
-    message.message_type = CVR_MESSAGE_COMMAND;
-    message.transaction = 1;
-    message.service = service;
-    row("cvr_message_cut", message_cut);
-    row("cvr_receive", receive);
-    row("cvr_message_write", message_write);
+    message_rows();
     make_list();
     row("cvr_device_services_cids", device_services_cids);
     row("cvr_device_services_listed", device_services_listed);

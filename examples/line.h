@@ -1,9 +1,9 @@
 /*
- * What the two programs share: a byte stream, cut into pieces by their length field, and messages sent
- * on it. The stream is standard input and output as a rule, so what is said goes to standard error.
+ * What the two programs share: a byte stream, from which pieces come, and messages sent on it. The stream
+ * is standard input and output as a rule, so what is said goes to standard error.
  *
- * A stream has no packet bounds. Where a length can't be one, or a piece doesn't come to its end, the
- * line is out of step: all input is dropped until it has been silent for a moment.
+ * A stream has no packet bounds. Where a length ends it, or a piece doesn't come to its end, the line is
+ * out of step: all input is dropped until it has been silent for a moment.
  */
 #ifndef LINE_H
 #define LINE_H
@@ -22,17 +22,16 @@
 #define LINE_SILENCE 20          /* milliseconds */
 #define LINE_LONG 60000          /* the longest single wait */
 #define LINE_FOREVER INT64_MAX
-#define LINE_HEADER 12           /* bytes of the shortest message */
 
 typedef struct line {
     const char *name; /* stands before what is said */
     int in, out;
     size_t size;      /* transfer size of what is sent */
     size_t drip;      /* bytes written at a time, 0 for all */
-    size_t filled;    /* bytes that came and were not taken */
+    size_t at, filled; /* bytes of the chunk that are taken, and that came */
     int out_of_step;
-    uint8_t bytes[CVR_MOST_TRANSFER];
-    uint8_t assembly[CVR_ASSEMBLY_SIZE];
+    uint8_t chunk[CVR_MOST_TRANSFER];
+    uint8_t stream[CVR_STREAM_SIZE], assembly[CVR_ASSEMBLY_SIZE];
     uint8_t information[CVR_MOST_INFORMATION]; /* of the last complete message */
 } line;
 
@@ -59,65 +58,69 @@ static inline uint32_t line_number(const uint8_t *bytes)
     return bytes[0] | (uint32_t)bytes[1] << 8 | (uint32_t)bytes[2] << 16 | (uint32_t)bytes[3] << 24;
 }
 
-static inline void line_drop(line *l, const char *why)
+/* Bytes of a piece that is still short. */
+static inline size_t line_held(const line *l)
 {
-    fprintf(stderr, "%s: out of step, %s: %zu bytes dropped\n", l->name, why, l->filled);
-    l->filled = 0;
-    cvr_assembly_empty(l->assembly, sizeof l->assembly);
+    return line_number(l->stream + CVR_AT_STREAM_HELD);
 }
 
-/* The length of the piece at the front, 0 while it isn't all there. */
-static inline size_t line_front(line *l)
+static inline void line_drop(line *l, const char *why, size_t bytes)
 {
-    uint32_t length;
-    if (l->filled < LINE_HEADER)
-        return 0;
-    length = line_number(l->bytes + CVR_AT_MESSAGE_LENGTH);
-    if (length < LINE_HEADER || length > sizeof l->bytes) {
-        line_drop(l, "no piece has such a length");
-        l->out_of_step = 1;
-        return 0;
-    }
-    return length <= l->filled ? length : 0;
+    fprintf(stderr, "%s: out of step, %s: %zu bytes dropped\n", l->name, why, bytes);
+    l->at = l->filled = 0;
+    cvr_stream_reset(l->stream, sizeof l->stream, l->assembly, sizeof l->assembly);
 }
 
-static inline void line_take(line *l, size_t length)
-{
-    l->filled -= length;
-    memmove(l->bytes, l->bytes + length, l->filled);
-}
-
-/* Nothing came for a moment: what stands here is no piece, and what comes next begins one. */
+/* Nothing came for a moment: what is held is no piece, and what comes next begins one. */
 static inline void line_silent(line *l)
 {
-    if (l->filled > 0)
-        line_drop(l, "a piece without its end");
+    if (line_held(l) > 0)
+        line_drop(l, "a piece without its end", line_held(l));
     l->out_of_step = 0;
 }
 
 /* Reads once; gives 0 at the end of the input. */
 static inline int line_read(line *l)
 {
-    ssize_t got = read(l->in, l->bytes + l->filled, sizeof l->bytes - l->filled);
+    ssize_t got = read(l->in, l->chunk, sizeof l->chunk);
     if (got < 0)
         return errno == EINTR || errno == EAGAIN;
-    if (!l->out_of_step)
-        l->filled += (size_t)got;
+    l->at = 0;
+    l->filled = l->out_of_step ? 0 : (size_t)got;
     return got > 0;
 }
 
-/* Waits until a piece is there, or until that time. */
-static inline int line_wait(line *l, int64_t until, size_t *length)
+/* Feeds what came, up to the first answer; gives 0 where there is none yet. */
+static inline int line_feed(line *l, cvr_receive_answer *got)
+{
+    cvr_stream_answer fed = cvr_stream_feed(l->stream, sizeof l->stream, l->assembly, sizeof l->assembly,
+                                            l->chunk + l->at, l->filled - l->at, l->information,
+                                            sizeof l->information);
+    l->at += fed.taken;
+    *got = fed.piece;
+    if (fed.ended) {
+        line_drop(l, "no piece has such a length", l->filled - l->at);
+        l->out_of_step = 1;
+        return 0;
+    }
+    return got->received != 0 || got->refusal.number != CVR_NO_REFUSAL;
+}
+
+/* Waits until there is an answer, or until that time. */
+static inline int line_wait(line *l, int64_t until, cvr_receive_answer *answer)
 {
     for (;;) {
         struct pollfd ready = {l->in, POLLIN, 0};
-        int between = l->filled > 0 || l->out_of_step;
+        int between = line_held(l) > 0 || l->out_of_step;
         int64_t left = until - line_now(), most = between ? LINE_SILENCE : LINE_LONG;
         int got;
         if (left <= 0)
             return LINE_NOTHING;
-        if ((*length = line_front(l)) > 0)
-            return LINE_PIECE;
+        if (l->at < l->filled) {
+            if (line_feed(l, answer))
+                return LINE_PIECE;
+            continue;
+        }
         got = poll(&ready, 1, (int)(left < most ? left : most));
         if (got > 0 && !line_read(l))
             return LINE_ENDED;
@@ -126,16 +129,12 @@ static inline int line_wait(line *l, int64_t until, size_t *length)
     }
 }
 
-/* Waits for a piece and judges it; one that is refused is said. */
+/* Waits for a piece; one that is refused is said. */
 static inline int line_receive(line *l, int64_t until, cvr_receive_answer *got)
 {
-    size_t length;
-    int event = line_wait(l, until, &length);
+    int event = line_wait(l, until, got);
     if (event != LINE_PIECE)
         return event;
-    *got = cvr_receive(l->assembly, sizeof l->assembly, l->bytes, length, l->information,
-                       sizeof l->information);
-    line_take(l, length);
     if (got->refusal.number != CVR_NO_REFUSAL)
         line_refused(l, "a piece", got->refusal);
     else if (got->dropped)

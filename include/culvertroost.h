@@ -2,9 +2,9 @@
  * culvertroost: the control messages of MBIM with extensions 2.0, for hosts and for modems.
  *
  * Readers and writers of seven payloads and of whole messages, the cutter and the assembler of
- * fragments, the version handshake of both ends, a modem's table of PINs, decibels and bars. Every
- * function is proved against its specification: on any bytes and any numbers it ends, with the answer
- * described here.
+ * fragments, messages from a byte stream, the version handshake of both ends, a modem's table of PINs,
+ * decibels and bars. Every function is proved against its specification: on any bytes and any numbers it
+ * ends, with the answer described here.
  *
  * A station's receive loop; one read of a cdc-wdm device is one piece:
  *
@@ -30,13 +30,15 @@
  *   }
  *
  * cvr_host_next_command says what to send, cvr_payload_kind what a complete message shows.
- * examples/station.c and examples/modem.c are whole programs, examples/pin.c is a run of PIN entries.
+ * A line without packet bounds is read by cvr_stream_feed.
+ * examples/station.c and examples/modem.c are whole programs, examples/pin.c is a run of PIN entries,
+ * examples/serial_line.c shows what comes from a serial line.
  *
  * Memory. The library allocates nothing, keeps nothing between calls and never faults. What lasts
  * between calls lies in memory that you lend: bytes of any alignment, without pointers inside, that
- * may be copied. Several assemblies, hosts, modems and tables of PINs don't disturb each other; calls on
- * different memory may run in parallel. Of other libraries it wants memcpy, memmove and memset. A call
- * takes less than 5 KB of stack, but a PIN entry (cvr_pin_enter, cvr_pin_receive) up to 10 KB, and
+ * may be copied. Several assemblies, streams, hosts, modems and tables of PINs don't disturb each other;
+ * calls on different memory may run in parallel. Of other libraries it wants memcpy, memmove and memset.
+ * A call takes less than 5 KB of stack, but a PIN entry (cvr_pin_enter, cvr_pin_receive) up to 10 KB, and
  * cvr_device_services_write some 36 KB, half of it the list that is passed;
  * cvr_device_services_write_all writes the same from two lists.
  *
@@ -51,7 +53,8 @@
  *   - Number 0: there is no refusal, and the place is 0. Output past what was written stays as it was.
  *   - Any other number is one of enum cvr_refusal_number. Every other member of the answer is 0, no
  *     output is written, and the memory of a host, a modem or a table of PINs stays as it was. What
- *     becomes of an assembly is told at cvr_receive.
+ *     becomes of an assembly is told at cvr_receive, what of a stream at cvr_stream_feed. `taken` and
+ *     `ended` of a stream's answer are the exception: they count beside a refusal too.
  * Compare answers member by member: padding between members is unspecified, so memcmp won't do.
  *
  * 'Refuses' below lists a function's refusals in the order in which they are judged, without CVR_;
@@ -82,10 +85,10 @@ extern "C" {
 #endif
 
 /* This library's own version. A call, a struct or a number that changes raises the first two. */
-#define CVR_LIBRARY_VERSION "0.8.1"
+#define CVR_LIBRARY_VERSION "0.9.0"
 #define CVR_LIBRARY_VERSION_MAJOR 0
-#define CVR_LIBRARY_VERSION_MINOR 8
-#define CVR_LIBRARY_VERSION_PATCH 1
+#define CVR_LIBRARY_VERSION_MINOR 9
+#define CVR_LIBRARY_VERSION_PATCH 0
 
 /* ---- refusals ---------------------------------------------------------------------------------- */
 
@@ -173,6 +176,7 @@ typedef struct cvr_written {
 
 /* How many bytes of memory to lend. */
 #define CVR_ASSEMBLY_SIZE 4144
+#define CVR_STREAM_SIZE 4104 /* its assembly's is beside it */
 #define CVR_HOST_SIZE 6
 #define CVR_MODEM_SIZE 10
 #define CVR_PINS_SIZE 748 /* a table of PINs */
@@ -986,6 +990,80 @@ cvr_refusal cvr_assembly_empty(uint8_t *memory, size_t size);
 cvr_receive_answer cvr_receive(uint8_t *memory, size_t size, const uint8_t *piece, size_t length,
                                uint8_t *out, size_t room);
 
+/* ---- a byte stream -----------------------------------------------------------------------------
+ * For a line without packet bounds, as a serial one. A stream is fed chunks of any length, down to none,
+ * takes each piece by its length field and receives it as cvr_receive does. However the bytes are cut, the
+ * answers are those of the pieces one by one, and what is kept at the end is the same.
+ *
+ *   void receive_bytes(int line)
+ *   {
+ *       static uint8_t stream[CVR_STREAM_SIZE], assembly[CVR_ASSEMBLY_SIZE];
+ *       static uint8_t chunk[256], information[CVR_MOST_INFORMATION];
+ *       ssize_t length;
+ *       while ((length = read(line, chunk, sizeof chunk)) > 0)
+ *           for (size_t at = 0; at < (size_t)length;) {
+ *               cvr_stream_answer got = cvr_stream_feed(stream, sizeof stream, assembly, sizeof assembly,
+ *                                                       chunk + at, (size_t)length - at, information,
+ *                                                       sizeof information);
+ *               if (got.ended || got.taken == 0)
+ *                   return;
+ *               if (got.piece.received == CVR_RECEIVED_COMPLETE)
+ *                   printf("CID %u\n", (unsigned)got.piece.message.cid);
+ *               at += got.taken;
+ *           }
+ *   }
+ *
+ * A stream keeps the bytes of a piece that is still short in CVR_STREAM_SIZE bytes of memory; beside it
+ * lies its assembly's, as cvr_receive has it. All 0 is an empty stream with an empty assembly.
+ *
+ * Damage to a piece stays local, as at cvr_receive. But a damaged length field moves the bounds of what
+ * follows or ends the stream, and MBIM has nothing to find the next message by: reset, and go on once the
+ * line is known to be at a message's start, for instance after a silence. Reset also where bytes stay held
+ * and nothing more comes. When you send OPEN, empty the assembly alone: a piece may be on its way. */
+
+#define CVR_AT_STREAM_HELD 0  /* bytes held of an unfinished piece, 32 bits */
+#define CVR_AT_STREAM_ENDED 4 /* 1: a length field ended the stream, else 0; 32 bits */
+#define CVR_AT_STREAM_PIECE 8 /* the bytes held, then zeros: 4,096 bytes */
+
+typedef struct cvr_stream_answer {
+    cvr_receive_answer piece; /* of the piece that was taken, as cvr_receive answers it; all 0 while none
+                                 is whole; or the stream's own refusal */
+    uint64_t taken;           /* bytes of the chunk that are taken, refused or not */
+    uint32_t ended;           /* 1: the stream has ended, and the refusal is WRONG_LENGTH at 4; else 0 */
+} cvr_stream_answer;
+
+/* Empties a stream and its assembly; one that ended begins anew.
+ * Refuses: OUTPUT_TOO_SMALL for the stream, the assembly; both stay as they were. */
+cvr_refusal cvr_stream_reset(uint8_t *stream, size_t stream_size, uint8_t *assembly,
+                             size_t assembly_size);
+
+/* Takes bytes up to its first answer; call it again with the others. The output is written where a message
+ * is complete, and not before.
+ * Refuses, with nothing taken and both memories as they were: OUTPUT_TOO_SMALL for the output (under
+ * CVR_MOST_INFORMATION), the stream, the assembly; for the stream, where no calls can have left its
+ * numbers, CONTRADICTION at 0 (over 4,095 bytes held), 4 (over 1, or 1 beside bytes held), 12 (8 bytes or
+ * more are held, and their length field ends a stream or is not above the bytes held); WRONG_LENGTH at 4,
+ * with `ended` 1, where the stream has ended, until it is reset. Bytes past those held are not looked at.
+ *
+ * Then the front decides: the bytes held, and behind them the chunk. The first row that fits holds:
+ *
+ *   the front                          answer              taken up to        held   assembly
+ *   under 8 bytes                      none yet            the chunk's end    all    as it was
+ *   a whole type, and not the length   WRONG_LENGTH at 4,  the front's 8th    none   as it was
+ *     of its type                      `ended` 1
+ *   any other type, known or not, and  WRONG_LENGTH at 4,  the front's 8th    none   emptied
+ *     under 20 or over 4,096           `ended` 1
+ *   shorter than its length            none yet            the chunk's end    all    as it was
+ *   any other, by its first piece      as cvr_receive      the piece's end    none   as by cvr_receive
+ *
+ * So a piece of unknown type is refused, and the stream goes on. WRONG_LENGTH at 4 with `ended` 0 is a
+ * fragment's own. CONTRADICTION with nothing taken is of the stream's memory, else of the assembly's. A
+ * call that is given a byte or more takes one at least, or refuses: a loop that is left where nothing is
+ * taken can't spin. A piece that lies whole in the chunk is not copied to the stream's memory. */
+cvr_stream_answer cvr_stream_feed(uint8_t *stream, size_t stream_size, uint8_t *assembly,
+                                  size_t assembly_size, const uint8_t *chunk, size_t length,
+                                  uint8_t *out, size_t room);
+
 /* ---- the host's end of the handshake -----------------------------------------------------------
  * Its memory is CVR_HOST_SIZE bytes, three 16-bit numbers. Every function but make judges it first.
  * Refuses: OUTPUT_TOO_SMALL; CONTRADICTION at 0, 2, 4, where no calls can have left its numbers. */
@@ -1201,6 +1279,7 @@ CVR_LAYOUT(cvr_whole_answer, 32, word, 24, 28);
 CVR_LAYOUT(cvr_cut_answer, 32, length, 24, 32);
 CVR_LAYOUT(cvr_kind_answer, 24, kind, 16, 20);
 CVR_LAYOUT(cvr_receive_answer, 64, length, 56, 64);
+CVR_LAYOUT(cvr_stream_answer, 80, ended, 72, 76);
 CVR_LAYOUT(cvr_host_answer, 24, version, 20, 22);
 CVR_LAYOUT(cvr_ask_answer, 32, length, 24, 32);
 CVR_LAYOUT(cvr_modem_answer, 48, length, 40, 48);

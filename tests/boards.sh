@@ -63,9 +63,9 @@ seen() {
     reported
 }
 
-# Of 52 kinds 44 have an answer that is not all 0, and 17 an output. No refusal has the number 99h.
+# Of 55 kinds 46 have an answer that is not all 0, and 19 an output. No refusal has the number 99h.
 changed() {
-    seen 52 4 '^(..)?' 99 && seen 52 4 '$' 01 && seen 44 4 '..$' ee && seen 52 5 '$' 01 && seen 17 5 '^..' ee
+    seen 55 4 '^(..)?' 99 && seen 55 4 '$' 01 && seen 46 4 '..$' ee && seen 55 5 '$' 01 && seen 19 5 '^..' ee
 }
 
 # The first three lines are right, one of them as long as it may be, one with the most room. The others
@@ -77,7 +77,7 @@ malformed() {
     {
         printf "$next\n$next%016614d\n02\t0000000000400000$numbers\n" 0
         printf "\n0$next\n $next\n${next}0g\n$next\t\n14\t\t$says\n"
-        printf "\t\t\t\t\n35\t\t\t\t\n1400\t\t\t$says\n"
+        printf "\t\t\t\t\n38\t\t\t\t\n1400\t\t\t$says\n"
         printf "$next%016616d\n02\t0000000001400000$numbers\n14\t\t01\t$says\n$next" 0
     } >"$work/changed"
     awk 'NR > 3 { print NR "\tdiffers" }' "$work/changed" >"$work/lines"

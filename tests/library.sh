@@ -10,6 +10,7 @@ need gcc g++ cargo valgrind pkg-config nm
 CARGO_TARGET_DIR=target/cargo
 export CARGO_TARGET_DIR
 mkdir -p "$work" || exit 2
+recorded=examples/serial_line.stream
 
 # ---- the header
 
@@ -87,6 +88,53 @@ sanitized() {
     compile "$sanitizers" "$work/$1.sanitized" "examples/$1.c" && same "$1" "$work/$1.sanitized"
 }
 
+# ---- the serial line
+
+# fed SIZE COMMAND...: the stream, read in chunks of that size, is shown as expected, until it ends
+fed() {
+    size=$1
+    shift
+    "$@" "$size" <"$recorded" >"$work/out"
+    [ $? -eq 1 ] && diff examples/serial_line.expected "$work/out"
+}
+
+# The recorded stream is the one that the program makes; it is fed in chunks small and large, down to one.
+serial_line() {
+    compile -O2 "$work/serial_line" examples/serial_line.c &&
+        "$work/serial_line" --record | cmp - "$recorded" || return 1
+    for size in 1 7 64 512 4096 "$(wc -c <"$recorded")"; do
+        fed "$size" "$work/serial_line" || { echo "chunks of $size"; return 1; }
+    done
+}
+
+serial_line_under_valgrind() {
+    fed 7 valgrind -q --leak-check=full --error-exitcode=9 "$work/serial_line" &&
+        fed 4096 valgrind -q --leak-check=full --error-exitcode=9 "$work/serial_line"
+}
+
+serial_line_sanitized() {
+    compile "$sanitizers" "$work/serial_line.sanitized" examples/serial_line.c &&
+        "$work/serial_line.sanitized" --record | cmp - "$recorded" &&
+        fed 7 "$work/serial_line.sanitized" && fed 4096 "$work/serial_line.sanitized"
+}
+
+# Input that ends in the midst of a piece: its first 100 bytes are a whole message, a fragment, and 20 bytes.
+unfinished() {
+    for size in 1 64 8192; do
+        head -c 100 "$recorded" | "$work/serial_line" "$size" >"$work/out" || return 1
+        { head -n 2 examples/serial_line.expected && echo 'end of input, bytes held: 20'; } |
+            diff - "$work/out" || return 1
+    done
+}
+
+# Sizes that are none: status 2, and a word about it.
+no_sizes() {
+    for size in '' 0 8193 7x -1 99999999999999999999 --records; do
+        "$work/serial_line" "$size" <"$recorded" >"$work/out" 2>&1
+        [ $? -eq 2 ] && grep -q '^usage: serial_line ' "$work/out" || { echo "size '$size'"; return 1; }
+    done
+}
+
 # ---- the install
 
 # Installed below a prefix, found by pkg-config alone, at the header's version.
@@ -113,6 +161,13 @@ rust() {
     same "$1" cargo run -q --offline --release --manifest-path bindings/Cargo.toml --example "$1"
 }
 
+rust_serial_line() {
+    cargo build -q --offline --release --manifest-path bindings/Cargo.toml --example serial_line || return 1
+    for size in 1 7 4096; do
+        fed "$size" "$CARGO_TARGET_DIR/release/examples/serial_line" || { echo "chunks of $size"; return 1; }
+    done
+}
+
 compare() {
     cargo run -q --offline --release --manifest-path compare/Cargo.toml -- 1000000
 }
@@ -136,9 +191,15 @@ for example in host_and_modem pin; do
     step "C example $example under valgrind" under_valgrind $example
     step "C example $example with sanitizers" sanitized $example
 done
+step 'C example serial_line' serial_line
+step 'C example serial_line under valgrind' serial_line_under_valgrind
+step 'C example serial_line with sanitizers' serial_line_sanitized
+step 'C example serial_line, input that ends in a piece' unfinished
+step 'C example serial_line, sizes that are none' no_sizes
 step 'install' installed
 step 'Rust example host_and_modem' rust host_and_modem
 step 'Rust example pin' rust pin
+step 'Rust example serial_line' rust_serial_line
 step 'compare' compare
 cp "$work/log" "$work/compare"
 step 'compare under valgrind' compare_under_valgrind

@@ -146,6 +146,28 @@ static void messages(cvr_message_header query)
                  CVR_RECEIVED_COMPLETE);
 }
 
+static void streams(void)
+{
+    static uint8_t stream[CVR_STREAM_SIZE], memory[CVR_ASSEMBLY_SIZE], out[CVR_MOST_INFORMATION];
+    cvr_stream_answer answer = cvr_stream_feed(NULL, 0, NULL, 0, NULL, 0, NULL, 0);
+    expect("stream feed", answer.piece.refusal, CVR_OUTPUT_TOO_SMALL, CVR_MOST_INFORMATION);
+    answer = cvr_stream_feed(NULL, 0, NULL, 0, NULL, 0, out, sizeof out);
+    expect("stream feed", answer.piece.refusal, CVR_OUTPUT_TOO_SMALL, CVR_STREAM_SIZE);
+    answer = cvr_stream_feed(stream, sizeof stream, NULL, 0, NULL, 0, out, sizeof out);
+    expect("stream feed", answer.piece.refusal, CVR_OUTPUT_TOO_SMALL, CVR_ASSEMBLY_SIZE);
+    answer = cvr_stream_feed(stream, sizeof stream, memory, sizeof memory, NULL, 0, out, sizeof out);
+    expect("stream feed", answer.piece.refusal, CVR_NO_REFUSAL, 0);
+    expect_equal("stream feed", answer.piece.received + answer.taken + answer.ended, 0);
+    stream[CVR_AT_STREAM_ENDED] = 1;
+    answer = cvr_stream_feed(stream, sizeof stream, memory, sizeof memory, NULL, 0, out, sizeof out);
+    expect("stream feed", answer.piece.refusal, CVR_WRONG_LENGTH, CVR_AT_MESSAGE_LENGTH);
+    expect_equal("stream feed", answer.ended, 1);
+    expect("stream reset", cvr_stream_reset(NULL, 0, NULL, 0), CVR_OUTPUT_TOO_SMALL, CVR_STREAM_SIZE);
+    expect("stream reset", cvr_stream_reset(stream, sizeof stream, NULL, 0), CVR_OUTPUT_TOO_SMALL,
+           CVR_ASSEMBLY_SIZE);
+    expect_equal("stream reset", stream[CVR_AT_STREAM_ENDED], 1);
+}
+
 static void host_end(cvr_message_header message)
 {
     uint8_t host[CVR_HOST_SIZE];
@@ -216,6 +238,7 @@ int main(void)
     choices(CVR_ZERO_SIZE_ABSENT);
     choices(CVR_ZERO_SIZE_STRICT);
     messages(query);
+    streams();
     host_end(query);
     modem_end(query);
     pins_end(query);

@@ -3,6 +3,8 @@
  * parted by tabs; the answer is written as the listing program writes a refused payload.
  *
  *   cvr_receive             a piece; the assembly is empty
+ *   cvr_stream_feed         the room in bytes, what the stream's memory begins with (the others are 0), and
+ *                           a chunk; the assembly is empty
  *   cvr_payload_kind        a service and a CID, of a reply with status 0
  *   cvr_version_info_write  the room in bytes
  *   cvr_message_cut         the transfer size
@@ -77,6 +79,19 @@ static cvr_refusal received(const char *piece)
     return cvr_receive(memory, sizeof memory, in.at, in.length, out, sizeof out).refusal;
 }
 
+static cvr_refusal fed(const char *room, const char *memory, const char *chunk)
+{
+    static uint8_t stream[CVR_STREAM_SIZE], assembly[CVR_ASSEMBLY_SIZE], out[CVR_MOST_INFORMATION];
+    static bytes in;
+    size_t n = strtoul(room, NULL, 10);
+    from_hex(memory, &in);
+    cvr_stream_reset(stream, sizeof stream, assembly, sizeof assembly);
+    memcpy(stream, in.at, in.length < sizeof stream ? in.length : sizeof stream);
+    from_hex(chunk, &in);
+    return cvr_stream_feed(stream, sizeof stream, assembly, sizeof assembly, in.at, in.length, out,
+                           n < sizeof out ? n : sizeof out).piece.refusal;
+}
+
 static cvr_refusal kind(const char *service, const char *cid)
 {
     static bytes id;
@@ -134,6 +149,8 @@ static cvr_refusal answer(char *line)
         word[n++] = part;
     if (strcmp(word[0], "cvr_receive") == 0)
         return received(word[1]);
+    if (strcmp(word[0], "cvr_stream_feed") == 0)
+        return fed(word[1], word[2], word[3]);
     if (strcmp(word[0], "cvr_payload_kind") == 0)
         return kind(word[1], word[2]);
     if (strcmp(word[0], "cvr_version_info_write") == 0)

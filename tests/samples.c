@@ -15,7 +15,7 @@
 #define UNTOUCHED 0xAA
 #define MOST_ROOM 16384
 #define MOST_LIST 1024
-#define QUESTIONS 52
+#define QUESTIONS 55
 
 static sample now; /* the sample whose question is asked; its input with the zeros at the end */
 static const uint8_t *given = now.field[INPUT];
@@ -25,11 +25,11 @@ static size_t answered_length, shown_length;
 static int bad;              /* the question can't be asked */
 static size_t written, room; /* bytes written to the lent output, and its length */
 static size_t listed, list_room;
-static fence input, output, list, service_input, memory, pins_memory, texts[3];
+static fence input, output, list, service_input, memory, pins_memory, stream_memory, texts[3];
 
 /* What stands from line to line. */
 static uint8_t assembly[CVR_ASSEMBLY_SIZE], host[CVR_HOST_SIZE], modem[CVR_MODEM_SIZE];
-static uint8_t pins[CVR_PINS_SIZE];
+static uint8_t pins[CVR_PINS_SIZE], stream[CVR_STREAM_SIZE];
 
 /* ---- what is asked */
 
@@ -160,7 +160,7 @@ static void show_output(uint64_t length)
     show(output.end - room, written);
 }
 
-/* What comes behind a refusal is 0. */
+/* What comes behind a refusal is 0, but for a stream's last two numbers. */
 static void put_refusal(cvr_refusal refusal)
 {
     put(refusal.number);
@@ -417,13 +417,8 @@ static void whole_write(void)
     put_written(cvr_message_write(word(2), word(3), word(4), out, room));
 }
 
-static void receive(void)
+static void put_received(cvr_receive_answer answer)
 {
-    size_t size = limited(2, sizeof assembly);
-    uint8_t *out = lend_output();
-    uint8_t *lent = lend(memory, assembly, size);
-    cvr_receive_answer answer = cvr_receive(lent, size, lend_input(), given_length, out, room);
-    keep(assembly, size);
     put_refusal(answer.refusal);
     put(answer.received);
     put(answer.dropped);
@@ -434,6 +429,16 @@ static void receive(void)
     put(answer.message.word);
     put(answer.length);
     show_output(answer.length);
+}
+
+static void receive(void)
+{
+    size_t size = limited(2, sizeof assembly);
+    uint8_t *out = lend_output();
+    uint8_t *lent = lend(memory, assembly, size);
+    cvr_receive_answer answer = cvr_receive(lent, size, lend_input(), given_length, out, room);
+    keep(assembly, size);
+    put_received(answer);
 }
 
 static void empty(void)
@@ -778,6 +783,42 @@ static void ask_cid_with(void)
     put_position(cvr_device_services_ask_with(word(2), payload, length, service_at(0), word(1)));
 }
 
+/* ---- 53 to 55: the byte stream, whose assembly is the one above */
+
+/* Takes back both memories. */
+static void keep_stream(size_t size, size_t assembly_size)
+{
+    memcpy(stream, stream_memory.end - size, size);
+    keep(assembly, assembly_size);
+}
+
+static void stream_feed(void)
+{
+    size_t size = limited(2, sizeof stream), assembly_size = limited(3, sizeof assembly);
+    uint8_t *out = lend_output(), *lent = lend(stream_memory, stream, size);
+    uint8_t *lent_assembly = lend(memory, assembly, assembly_size);
+    cvr_stream_answer answer = cvr_stream_feed(lent, size, lent_assembly, assembly_size, lend_input(),
+                                               given_length, out, room);
+    keep_stream(size, assembly_size);
+    put_received(answer.piece);
+    put(answer.taken);
+    put(answer.ended);
+}
+
+static void stream_reset(void)
+{
+    size_t size = limited(1, sizeof stream), assembly_size = limited(2, sizeof assembly);
+    uint8_t *lent = lend(stream_memory, stream, size), *lent_assembly = lend(memory, assembly, assembly_size);
+    put_refusal(cvr_stream_reset(lent, size, lent_assembly, assembly_size));
+    keep_stream(size, assembly_size);
+}
+
+static void show_stream(void)
+{
+    put_refusal(none);
+    show(stream, sizeof stream);
+}
+
 /* ---- all questions */
 
 static void (*const questions[QUESTIONS + 1])(void) = {
@@ -787,7 +828,8 @@ static void (*const questions[QUESTIONS + 1])(void) = {
     next_command, host_receive, modem_make, modem_open, modem_close, modem_receive, show_host, show_modem,
     rsrp, snr, bars, registration_read_with, signal_read_with, services_read_with, element_with,
     service_cids_with, is_listed_with, set_pin_read, set_pin_read_with, set_pin_write, pin_info_read,
-    pin_info_write, pin_make, pin_enter, pin_receive, show_pins, ask_cid, ask_cid_with
+    pin_info_write, pin_make, pin_enter, pin_receive, show_pins, ask_cid, ask_cid_with, stream_feed,
+    stream_reset, show_stream
 };
 
 static void ask(void)
@@ -829,6 +871,7 @@ static void make_fences(void)
     service_input = make_fence(16);
     memory = make_fence(sizeof assembly);
     pins_memory = make_fence(sizeof pins);
+    stream_memory = make_fence(sizeof stream);
     for (i = 0; i < 3; i++)
         texts[i] = make_fence(MOST_LINE);
 }

@@ -1,8 +1,8 @@
 /*
  * The tables of the header, row by row: which data classes and PIN numbers may stand where, which numbers
  * choose what a size of 0 is, which payload a message shows, how far a list is judged that is asked for
- * one CID, what each end answers at each stage, and where lent memory is refused. An 'any' of the header is
- * tried at every stage. tests/pins.c has the tables of PINs.
+ * one CID, what each end answers at each stage, where lent memory is refused, and what comes of the front
+ * of a stream. An 'any' of the header is tried at every stage. tests/pins.c has the tables of PINs.
  */
 #include "culvertroost.h"
 
@@ -789,6 +789,260 @@ static void assembly_table(void)
     check("assembly", 7, "emptied", memcmp(memory, before, sizeof memory) == 0, 1);
 }
 
+/* ---- what is at the front of a stream */
+
+enum fate { KEPT, EMPTIED }; /* of the assembly, which has the first of two fragments */
+
+/* So many bytes that begin with the second fragment, but of this type and length; what comes of them. */
+typedef struct front_row {
+    uint32_t type, length;
+    size_t bytes;
+    uint32_t number;
+    uint64_t place;
+    uint32_t received, ended;
+    size_t taken;
+    enum fate fate;
+} front_row;
+
+#define SECOND 54 /* bytes of the second fragment */
+#define NO_TYPE 5
+
+static const front_row front_rows[] = {
+    /* under 8 bytes */
+    {CVR_MESSAGE_COMMAND, SECOND, 0, 0, 0, 0, 0, 0, KEPT},
+    {CVR_MESSAGE_COMMAND, SECOND, 7, 0, 0, 0, 0, 7, KEPT},
+    {CVR_MESSAGE_OPEN, 0, 7, 0, 0, 0, 0, 7, KEPT},
+    /* a whole type, and not the length of its type */
+    {CVR_MESSAGE_CLOSE, 11, 8, CVR_WRONG_LENGTH, 4, 0, 1, 8, KEPT},
+    {CVR_MESSAGE_CLOSE, 16, 16, CVR_WRONG_LENGTH, 4, 0, 1, 8, KEPT},
+    {CVR_MESSAGE_OPEN, 12, 8, CVR_WRONG_LENGTH, 4, 0, 1, 8, KEPT},
+    {CVR_MESSAGE_OPEN, 20, 8, CVR_WRONG_LENGTH, 4, 0, 1, 8, KEPT},
+    {CVR_MESSAGE_HOST_ERROR, 15, 9, CVR_WRONG_LENGTH, 4, 0, 1, 8, KEPT},
+    {CVR_MESSAGE_OPEN_DONE, 0, 8, CVR_WRONG_LENGTH, 4, 0, 1, 8, KEPT},
+    {CVR_MESSAGE_CLOSE_DONE, 12, 30, CVR_WRONG_LENGTH, 4, 0, 1, 8, KEPT},
+    {CVR_MESSAGE_FUNCTION_ERROR, 0x10010, 8, CVR_WRONG_LENGTH, 4, 0, 1, 8, KEPT},
+    /* any other type, and under 20 or over 4,096 */
+    {CVR_MESSAGE_COMMAND, 0, 8, CVR_WRONG_LENGTH, 4, 0, 1, 8, EMPTIED},
+    {CVR_MESSAGE_COMMAND, 19, 30, CVR_WRONG_LENGTH, 4, 0, 1, 8, EMPTIED},
+    {CVR_MESSAGE_COMMAND_DONE, 4097, 8, CVR_WRONG_LENGTH, 4, 0, 1, 8, EMPTIED},
+    {CVR_MESSAGE_COMMAND_DONE, 0x10014, 64, CVR_WRONG_LENGTH, 4, 0, 1, 8, EMPTIED},
+    {CVR_MESSAGE_INDICATE_STATUS, 0xFFFFFFFF, 8, CVR_WRONG_LENGTH, 4, 0, 1, 8, EMPTIED},
+    {NO_TYPE, 16, 16, CVR_WRONG_LENGTH, 4, 0, 1, 8, EMPTIED},
+    {0x80000008, 4097, 8, CVR_WRONG_LENGTH, 4, 0, 1, 8, EMPTIED},
+    /* shorter than its length */
+    {CVR_MESSAGE_CLOSE, 12, 11, 0, 0, 0, 0, 11, KEPT},
+    {CVR_MESSAGE_OPEN, 16, 15, 0, 0, 0, 0, 15, KEPT},
+    {CVR_MESSAGE_COMMAND, 20, 19, 0, 0, 0, 0, 19, KEPT},
+    {CVR_MESSAGE_COMMAND, SECOND, 8, 0, 0, 0, 0, 8, KEPT},
+    {CVR_MESSAGE_COMMAND, SECOND, SECOND - 1, 0, 0, 0, 0, SECOND - 1, KEPT},
+    {NO_TYPE, 4096, 4095, 0, 0, 0, 0, 4095, KEPT},
+    /* a piece, alone and with bytes behind it */
+    {CVR_MESSAGE_CLOSE, 12, 12, 0, 0, CVR_RECEIVED_WHOLE, 0, 12, KEPT},
+    {CVR_MESSAGE_OPEN, 16, 16, 0, 0, CVR_RECEIVED_WHOLE, 0, 16, KEPT},
+    {CVR_MESSAGE_FUNCTION_ERROR, 16, 4200, 0, 0, CVR_RECEIVED_WHOLE, 0, 16, KEPT},
+    {CVR_MESSAGE_COMMAND, SECOND, SECOND, 0, 0, CVR_RECEIVED_COMPLETE, 0, SECOND, EMPTIED},
+    {CVR_MESSAGE_COMMAND, SECOND, SECOND + 40, 0, 0, CVR_RECEIVED_COMPLETE, 0, SECOND, EMPTIED},
+    {CVR_MESSAGE_COMMAND, SECOND - 1, SECOND, CVR_WRONG_LENGTH, 4, 0, 0, SECOND - 1, EMPTIED},
+    {CVR_MESSAGE_COMMAND_DONE, SECOND, SECOND, CVR_WRONG_FRAGMENT, 16, 0, 0, SECOND, EMPTIED},
+    {NO_TYPE, 20, 30, CVR_UNKNOWN, 0, 0, 0, 20, EMPTIED},
+    {NO_TYPE, 4096, 4200, CVR_UNKNOWN, 0, 0, 0, 4096, EMPTIED},
+};
+
+enum { STREAM = CVR_STREAM_SIZE, ASSEMBLY = CVR_ASSEMBLY_SIZE, ROOM = CVR_MOST_INFORMATION };
+
+/* A stream with its assembly and its output, and what is expected of them. */
+typedef struct line {
+    uint8_t stream[STREAM], assembly[ASSEMBLY], out[ROOM];
+} line;
+
+static line now, before;
+static uint8_t front[4200];
+
+static void put_number(uint8_t *at, uint32_t number)
+{
+    int i;
+    for (i = 0; i < 4; i++)
+        at[i] = (uint8_t)(number >> 8 * i);
+}
+
+/* An empty stream whose assembly has the first of two fragments; the second is at `front`. */
+static void begin_line(void)
+{
+    memset(&now, 0, sizeof now);
+    memset(now.out, 0xA5, sizeof now.out);
+    memset(front, 0xC3, sizeof front);
+    check("stream", 0, "the second fragment", pending(now.assembly, front), SECOND);
+    before = now;
+}
+
+static cvr_stream_answer feed(const uint8_t *chunk, size_t length)
+{
+    return cvr_stream_feed(now.stream, sizeof now.stream, now.assembly, sizeof now.assembly, chunk, length,
+                           now.out, sizeof now.out);
+}
+
+/* All members but the message's. */
+static void check_fed(const char *table, int row, cvr_stream_answer got, const front_row *expected)
+{
+    check_refusal(table, row, got.piece.refusal, expected->number, expected->place);
+    check(table, row, "received", got.piece.received, expected->received);
+    check(table, row, "dropped", got.piece.dropped, 0);
+    check(table, row, "the type", got.piece.message.message_type, expected->received ? expected->type : 0);
+    check(table, row, "the length", got.piece.length,
+          expected->received == CVR_RECEIVED_COMPLETE ? SECOND - 20 + 16 : 0);
+    check(table, row, "ended", got.ended, expected->ended);
+    check(table, row, "taken", got.taken, expected->taken);
+}
+
+/* Both memories and the output; so many bytes of the front are held. */
+static void check_line(const char *table, int row, size_t held, const front_row *expected)
+{
+    put_number(before.stream + CVR_AT_STREAM_HELD, (uint32_t)held);
+    put_number(before.stream + CVR_AT_STREAM_ENDED, expected->ended);
+    memcpy(before.stream + CVR_AT_STREAM_PIECE, front, held);
+    if (expected->fate == EMPTIED)
+        memset(before.assembly, 0, sizeof before.assembly);
+    if (expected->received == CVR_RECEIVED_COMPLETE)
+        memset(before.out, 0, SECOND - 20 + 16);
+    check(table, row, "a wrong byte of the stream", memcmp(now.stream, before.stream, STREAM) != 0, 0);
+    check(table, row, "a wrong byte of the assembly",
+          memcmp(now.assembly, before.assembly, ASSEMBLY) != 0, 0);
+    check(table, row, "a wrong byte of the output", memcmp(now.out, before.out, ROOM) != 0, 0);
+}
+
+/* So many bytes are fed before the others. */
+static void try_front(int i, const front_row *row, size_t first)
+{
+    front_row some = {0, 0, 0, 0, 0, 0, 0, 0, KEPT}, others = *row;
+    int is_short = row->number == 0 && row->received == 0;
+    begin_line();
+    put_number(front, row->type);
+    put_number(front + 4, row->length);
+    some.taken = first;
+    check_fed("the front, begun", i, feed(front, first), &some);
+    check_line("the front, begun", i, first, &some);
+    others.taken -= first;
+    before = now;
+    memset(before.stream, 0, sizeof before.stream);
+    check_fed("the front", i, feed(front + first, row->bytes - first), &others);
+    check_line("the front", i, is_short ? row->bytes : 0, row);
+}
+
+/* Each row at many cuts, all of them where it is short. */
+static void front_table(void)
+{
+    size_t first;
+    int i;
+    for (i = 0; i < (int)(sizeof front_rows / sizeof front_rows[0]); i++) {
+        const front_row *row = &front_rows[i];
+        size_t most = row->number == 0 && row->received == 0 ? row->bytes : row->taken - 1;
+        for (first = 0; first <= most; first += first < 60 ? 1 : 269)
+            try_front(i, row, first);
+        try_front(i, row, most);
+    }
+}
+
+/* ---- what a stream refuses before it looks at the chunk */
+
+/* What is lent, and what the stream's memory begins with. */
+typedef struct lent_row {
+    size_t room, stream, assembly;
+    uint32_t held, ended, type, length;
+    uint32_t number;
+    uint64_t place;
+} lent_row;
+
+static const lent_row lent_rows[] = {
+    {ROOM - 1, STREAM - 1, ASSEMBLY - 1, 4096, 2, 0, 0, CVR_OUTPUT_TOO_SMALL, ROOM},
+    {0, STREAM, ASSEMBLY, 0, 1, 0, 0, CVR_OUTPUT_TOO_SMALL, ROOM},
+    {ROOM, STREAM - 1, ASSEMBLY - 1, 4096, 2, 0, 0, CVR_OUTPUT_TOO_SMALL, STREAM},
+    {ROOM, STREAM, ASSEMBLY - 1, 4096, 2, 0, 0, CVR_OUTPUT_TOO_SMALL, ASSEMBLY},
+    {ROOM, STREAM, 0, 0, 1, 0, 0, CVR_OUTPUT_TOO_SMALL, ASSEMBLY},
+    {ROOM, STREAM, ASSEMBLY, 4096, 2, NO_TYPE, 19, CVR_CONTRADICTION, CVR_AT_STREAM_HELD},
+    {ROOM, STREAM, ASSEMBLY, 0x10000, 0, 0, 0, CVR_CONTRADICTION, CVR_AT_STREAM_HELD},
+    {ROOM, STREAM, ASSEMBLY, 0, 2, 0, 0, CVR_CONTRADICTION, CVR_AT_STREAM_ENDED},
+    {ROOM, STREAM, ASSEMBLY, 0, 0x100, 0, 0, CVR_CONTRADICTION, CVR_AT_STREAM_ENDED},
+    {ROOM, STREAM, ASSEMBLY, 1, 1, 0, 0, CVR_CONTRADICTION, CVR_AT_STREAM_ENDED},
+    {ROOM, STREAM, ASSEMBLY, 4095, 1, NO_TYPE, 19, CVR_CONTRADICTION, CVR_AT_STREAM_ENDED},
+    {ROOM, STREAM, ASSEMBLY, 8, 0, CVR_MESSAGE_CLOSE, 16, CVR_CONTRADICTION, 12},
+    {ROOM, STREAM, ASSEMBLY, 8, 0, CVR_MESSAGE_OPEN, 20, CVR_CONTRADICTION, 12},
+    {ROOM, STREAM, ASSEMBLY, 8, 0, NO_TYPE, 19, CVR_CONTRADICTION, 12},
+    {ROOM, STREAM, ASSEMBLY, 8, 0, CVR_MESSAGE_COMMAND, 4097, CVR_CONTRADICTION, 12},
+    {ROOM, STREAM, ASSEMBLY, 12, 0, CVR_MESSAGE_CLOSE, 12, CVR_CONTRADICTION, 12},
+    {ROOM, STREAM, ASSEMBLY, 64, 0, CVR_MESSAGE_COMMAND, 64, CVR_CONTRADICTION, 12},
+    {ROOM, STREAM, ASSEMBLY, 4095, 0, CVR_MESSAGE_COMMAND, 20, CVR_CONTRADICTION, 12},
+    {ROOM, STREAM, ASSEMBLY, 0, 1, NO_TYPE, 19, CVR_WRONG_LENGTH, CVR_AT_MESSAGE_LENGTH},
+};
+
+/* Whatever is in the chunk, nothing is taken and nothing changes. */
+static void lent_table(void)
+{
+    int i, length;
+    for (i = 0; i < (int)(sizeof lent_rows / sizeof lent_rows[0]); i++)
+        for (length = 0; length <= 64; length += 16) {
+            const lent_row *row = &lent_rows[i];
+            front_row expected = {0, 0, 0, row->number, row->place, 0, 0, 0, KEPT};
+            cvr_stream_answer got;
+            begin_line();
+            put_number(now.stream + CVR_AT_STREAM_HELD, row->held);
+            put_number(now.stream + CVR_AT_STREAM_ENDED, row->ended);
+            put_number(now.stream + CVR_AT_STREAM_PIECE, row->type);
+            put_number(now.stream + CVR_AT_STREAM_PIECE + 4, row->length);
+            before = now;
+            expected.ended = row->number == CVR_WRONG_LENGTH;
+            got = cvr_stream_feed(now.stream, row->stream, now.assembly, row->assembly, front,
+                                  (size_t)length, now.out, row->room);
+            check_fed("lent", i, got, &expected);
+            check("lent", i, "a changed byte", memcmp(&now, &before, sizeof now) != 0, 0);
+        }
+}
+
+/* ---- what a stream's memory may hold all the same, and its assembly's faults */
+
+static void held_table(void)
+{
+    static const front_row whole = {CVR_MESSAGE_CLOSE, 12, 12, 0, 0, CVR_RECEIVED_WHOLE, 0, 12, KEPT};
+    static const front_row fault = {CVR_MESSAGE_COMMAND, SECOND, SECOND, CVR_CONTRADICTION,
+                                    CVR_AT_ASSEMBLY_NEXT, 0, 0, SECOND, EMPTIED};
+    static const front_row end = {NO_TYPE, 0, 8, CVR_WRONG_LENGTH, 4, 0, 1, 8, EMPTIED};
+    uint8_t close[12] = {CVR_MESSAGE_CLOSE, 0, 0, 0, 12};
+    begin_line();
+    memset(now.stream + CVR_AT_STREAM_PIECE, 0xEE, 100); /* past the bytes held: not looked at */
+    check_fed("held", 0, feed(close, sizeof close), &whole);
+    begin_line();
+    now.assembly[CVR_AT_ASSEMBLY_NEXT] = 0;
+    before = now;
+    check_fed("held", 1, feed(close, sizeof close), &whole);
+    check_line("held", 1, 0, &whole);
+    check_fed("held", 2, feed(front, SECOND), &fault);
+    check_line("held", 2, 0, &fault);
+    begin_line();
+    now.assembly[CVR_AT_ASSEMBLY_NEXT] = 0; /* an end empties it unjudged */
+    memset(front + CVR_AT_MESSAGE_LENGTH, 0, 4);
+    check_fed("held", 3, feed(front, SECOND), &end);
+    check_line("held", 3, 0, &end);
+}
+
+/* ---- resets */
+
+static void reset_table(void)
+{
+    static uint8_t stream[STREAM + 1], assembly[ASSEMBLY + 1];
+    const uint8_t none[ASSEMBLY] = {0};
+    size_t i;
+    for (i = 0; i < 4; i++) {
+        size_t stream_size = STREAM + 1 - (i & 1) * 2, assembly_size = ASSEMBLY + 1 - (i >> 1) * 2;
+        memset(stream, 0xFF, sizeof stream);
+        memset(assembly, 0xFF, sizeof assembly);
+        check_refusal("reset", (int)i, cvr_stream_reset(stream, stream_size, assembly, assembly_size),
+                      i == 0 ? CVR_NO_REFUSAL : CVR_OUTPUT_TOO_SMALL, i & 1 ? STREAM : ASSEMBLY);
+        check("reset", (int)i, "the stream is empty", memcmp(stream, none, STREAM) == 0, i == 0);
+        check("reset", (int)i, "the assembly is empty", memcmp(assembly, none, ASSEMBLY) == 0, i == 0);
+        check("reset", (int)i, "the first byte", stream[0] + assembly[0], i == 0 ? 0 : 0x1FE);
+        check("reset", (int)i, "the byte behind", stream[STREAM] + assembly[ASSEMBLY], 0x1FE);
+    }
+}
+
 int main(void)
 {
     write_payloads();
@@ -802,5 +1056,9 @@ int main(void)
     modem_table();
     memory_table();
     assembly_table();
+    front_table();
+    lent_table();
+    held_table();
+    reset_table();
     return failed;
 }

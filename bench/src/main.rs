@@ -1,7 +1,8 @@
 //! Nanoseconds a call, of the static library, of the second program (release build) and of a loop that
 //! only copies the same bytes, in one run: the rounds of the three take turns, and each shows its least.
 //! No buffer is cleared between calls; what the library itself clears is part of its time. Then how the
-//! library's time grows with its input, and its question for one CID beside the full one.
+//! library's time grows with its input, its question for one CID beside the full one, and a byte stream
+//! beside its pieces.
 //!
 //! `bench calls COUNT [ROW]` measures nothing: it makes so many calls of each row of the tables, or of
 //! those whose name begins so, for a program that counts: `bench/instructions`, a profiler.
@@ -12,6 +13,7 @@ mod inputs;
 mod measure;
 mod plain;
 mod rows;
+mod streams;
 
 use inputs::Inputs;
 use measure::Mode;
@@ -53,4 +55,8 @@ fn main() {
         println!("\n{:26} {:>5} {:>9} {:>9} {:>6}", "a CID", "bytes", "ask", "listed", "ratio");
     }
     asks::run(mode);
+    if heads {
+        println!("\n{}", streams::HEAD);
+    }
+    streams::run(mode);
 }

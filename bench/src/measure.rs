@@ -55,7 +55,7 @@ pub fn bench_calls(count: usize, call: &mut dyn FnMut()) {
 
 impl Mode<'_> {
     /// The row's calls, if these are asked for, and how many things they did, before its name.
-    fn calls(&self, name: &str, units: usize, call: &mut dyn FnMut()) {
+    pub fn calls(&self, name: &str, units: usize, call: &mut dyn FnMut()) {
         if let Mode::Calls { count, of } = *self {
             if name.starts_with(of) {
                 bench_calls(count, call);
@@ -121,6 +121,30 @@ pub fn beside(mode: Mode, place: &str, bytes: usize, mut calls: [(&str, &mut dyn
     }
     let [one, other] = times.map(|time| time.nanoseconds);
     println!("{place:26} {bytes:5} {one:9.1} {other:9.1} {:6.2}", one / other);
+}
+
+/// Several ways to do a row's things, each behind its name, which take turns: the time of each for one
+/// thing, and divided by the first's. A call that does much is made less often.
+pub fn ways(mode: Mode, row: &Row, mut ways: Vec<(&str, Box<dyn FnMut() + '_>)>) {
+    if let Mode::Calls { .. } = mode {
+        for (name, call) in &mut ways {
+            mode.calls(&format!("{}, {name}", row.name), row.units, call);
+        }
+        return;
+    }
+    let mut times: Vec<Least> = ways.iter().map(|_| Least::new(100)).collect();
+    for _ in 0..ROUNDS {
+        for (time, (_, call)) in times.iter_mut().zip(&mut ways) {
+            time.round(call);
+        }
+    }
+    let first = times[0].nanoseconds;
+    print!("{:26} {:5} {:9.1}", row.name, row.bytes, first / row.units as f64);
+    for time in &times[1..] {
+        let one = time.nanoseconds / row.units as f64;
+        print!(" {one:9.1} {:6.2}", time.nanoseconds / first);
+    }
+    println!();
 }
 
 /// A call of the library on one size of its input: `count` elements or fragments in so many bytes.

@@ -5,6 +5,7 @@
 
 /// How many bytes of memory each state takes.
 pub const ASSEMBLY_SIZE: usize = 4144;
+pub const STREAM_SIZE: usize = 4104;
 pub const HOST_SIZE: usize = 6;
 pub const MODEM_SIZE: usize = 10;
 pub const PINS_SIZE: usize = 748;
@@ -212,6 +213,7 @@ layout!(#[derive(Default)] ReceiveAnswer, 64, 56, {
     message: MessageHeader,
     length: u64,
 });
+layout!(#[derive(Default)] StreamAnswer, 80, 72, { piece: ReceiveAnswer, taken: u64, ended: u32 });
 
 layout!(#[derive(Default)] HostAnswer, 24, 20, { refusal: Refusal, event: u32, version: u16 });
 layout!(#[derive(Default)] AskAnswer, 32, 24, { refusal: Refusal, command: u32, version: u16, length: u64 });
@@ -429,6 +431,23 @@ extern "C" {
         out: *mut u8,
         out_length: usize,
     ) -> ReceiveAnswer;
+
+    fn cvr_stream_reset(
+        stream: *mut u8,
+        stream_length: usize,
+        assembly: *mut u8,
+        assembly_length: usize,
+    ) -> Refusal;
+    fn cvr_stream_feed(
+        stream: *mut u8,
+        stream_length: usize,
+        assembly: *mut u8,
+        assembly_length: usize,
+        chunk: *const u8,
+        chunk_length: usize,
+        out: *mut u8,
+        out_length: usize,
+    ) -> StreamAnswer;
 
     fn cvr_host_make(memory: *mut u8, memory_length: usize, native: u16) -> Refusal;
     fn cvr_host_open(memory: *mut u8, memory_length: usize, advertised: u16) -> HostAnswer;
@@ -836,6 +855,34 @@ pub fn receive(memory: &mut [u8], piece: &[u8], out: &mut [u8]) -> ReceiveAnswer
             memory.len(),
             piece.as_ptr(),
             piece.len(),
+            out.as_mut_ptr(),
+            out.len(),
+        )
+    }
+}
+
+#[inline]
+pub fn stream_reset(stream: &mut [u8], assembly: &mut [u8]) -> Refusal {
+    unsafe {
+        cvr_stream_reset(stream.as_mut_ptr(), stream.len(), assembly.as_mut_ptr(), assembly.len())
+    }
+}
+
+#[inline]
+pub fn stream_feed(
+    stream: &mut [u8],
+    assembly: &mut [u8],
+    chunk: &[u8],
+    out: &mut [u8],
+) -> StreamAnswer {
+    unsafe {
+        cvr_stream_feed(
+            stream.as_mut_ptr(),
+            stream.len(),
+            assembly.as_mut_ptr(),
+            assembly.len(),
+            chunk.as_ptr(),
+            chunk.len(),
             out.as_mut_ptr(),
             out.len(),
         )

@@ -2,7 +2,7 @@
 //! static library. Nothing here allocates, and no input makes it panic.
 //!
 //! A function gives its answer or a [`Refusal`]: a number of [`refusals`] and a place. A refused call
-//! writes nothing.
+//! writes nothing. Only a [`Stream`] tells more beside a refusal: how many bytes it took.
 //! Versions are BCD numbers, [`VERSION_1_00`] or [`VERSION_2_00`]; other numbers are refused. A
 //! record's member that only the other version has is 0 when read, and a writer doesn't look at it.
 
@@ -22,7 +22,9 @@ pub use c::{
     VersionInfo,
 };
 pub use ends::{Action, Event, Host, Modem, Next, Taken};
-pub use messages::{judge, next_transaction, Assembly, Fragments, Kind, Received, Whole};
+pub use messages::{
+    judge, next_transaction, Assembly, Fed, Fragments, Kind, Received, Stream, Whole,
+};
 pub use payloads::{bars, rsrp, snr, Position, Reading, Texts, ZeroSize};
 pub use pins::{pin_type, Entered, PinTable, PinTexts};
 

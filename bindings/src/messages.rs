@@ -1,5 +1,5 @@
-//! Messages: whole ones judged and written, others cut, all of them received, and which payload
-//! one shows.
+//! Messages: whole ones judged and written, others cut, all of them received, piece by piece or from a
+//! byte stream, and which payload one shows.
 
 use crate::c::{self, Refusal};
 use crate::MessageHeader;
@@ -99,6 +99,20 @@ pub enum Received {
     Complete { message: MessageHeader, length: usize, dropped: bool },
 }
 
+impl Received {
+    /// What an answer says, if it isn't a refusal and a piece was received.
+    fn of(answer: &c::ReceiveAnswer) -> Received {
+        let c::ReceiveAnswer { received, dropped, message, length, .. } = *answer;
+        let MessageHeader { message_type, transaction, word, .. } = message;
+        let dropped = dropped != 0;
+        match received {
+            1 => Received::Whole(Whole { message_type, transaction, word }),
+            2 => Received::Pending { message_type, transaction, dropped },
+            _ => Received::Complete { message, length: length as usize, dropped },
+        }
+    }
+}
+
 /// Receives messages, and puts them together from their fragments.
 #[derive(Clone)]
 pub struct Assembly {
@@ -118,20 +132,73 @@ impl Assembly {
     /// Takes any piece that came: a whole message or a fragment. A complete message, and a refused
     /// piece that is no whole message, leave an empty assembly.
     pub fn receive(&mut self, piece: &[u8], out: &mut [u8]) -> Result<Received, Refusal> {
-        let c::ReceiveAnswer { refusal, received, dropped, message, length } =
-            c::receive(&mut self.memory, piece, out);
-        let MessageHeader { message_type, transaction, word, .. } = message;
-        let dropped = dropped != 0;
-        refusal.or(match received {
-            1 => Received::Whole(Whole { message_type, transaction, word }),
-            2 => Received::Pending { message_type, transaction, dropped },
-            _ => Received::Complete { message, length: length as usize, dropped },
-        })
+        let answer = c::receive(&mut self.memory, piece, out);
+        answer.refusal.or(Received::of(&answer))
     }
 }
 
 impl Default for Assembly {
     fn default() -> Assembly {
         Assembly::new()
+    }
+}
+
+/// What came of a chunk.
+#[derive(Clone, Copy, Debug, PartialEq, Eq)]
+pub struct Fed {
+    /// The piece that was taken, as an [`Assembly`] answers it; none while the bytes are short of one.
+    pub piece: Result<Option<Received>, Refusal>,
+    /// How many bytes of the chunk are taken, refused or not.
+    pub taken: usize,
+    /// A length field ended the stream: until it is reset, it takes nothing and repeats the refusal.
+    pub ended: bool,
+}
+
+/// Receives messages from a line without packet bounds, in chunks of any length. It takes each piece by
+/// its length field.
+#[derive(Clone)]
+pub struct Stream {
+    memory: [u8; c::STREAM_SIZE],
+    assembly: Assembly,
+}
+
+impl Stream {
+    pub const fn new() -> Stream {
+        Stream { memory: [0; c::STREAM_SIZE], assembly: Assembly::new() }
+    }
+
+    /// Drops the bytes held and what is pending; a stream that ended begins anew. The next byte is a
+    /// message's first.
+    pub fn reset(&mut self) {
+        *self = Stream::new();
+    }
+
+    /// Drops what is pending and keeps the bytes held, as a host does that sends OPEN.
+    pub fn clear_assembly(&mut self) {
+        self.assembly.clear();
+    }
+
+    /// How many bytes are held, of a piece that is still short.
+    pub fn held(&self) -> usize {
+        let [a, b, c, d, ..] = self.memory;
+        u32::from_le_bytes([a, b, c, d]) as usize
+    }
+
+    /// Takes bytes up to the first answer: feed those that are not taken yet again. Of a chunk that isn't
+    /// empty a byte or more is taken, or the call refuses. Output under [`MOST_INFORMATION`] bytes is
+    /// refused, with nothing taken.
+    ///
+    /// [`MOST_INFORMATION`]: crate::MOST_INFORMATION
+    pub fn feed(&mut self, chunk: &[u8], out: &mut [u8]) -> Fed {
+        let c::StreamAnswer { piece, taken, ended } =
+            c::stream_feed(&mut self.memory, &mut self.assembly.memory, chunk, out);
+        let received = (piece.received != 0).then(|| Received::of(&piece));
+        Fed { piece: piece.refusal.or(received), taken: taken as usize, ended: ended != 0 }
+    }
+}
+
+impl Default for Stream {
+    fn default() -> Stream {
+        Stream::new()
     }
 }

@@ -5,9 +5,10 @@ use crate::lent::{Lent, FILL};
 use culvertroost::c::{self, *};
 use second::flat::{question as q, Answer};
 
-/// The memory that is lent for the assembly, the host, the modem and the table of PINs.
+/// The memory that is lent for the assembly, the stream beside it, the host, the modem and the table of PINs.
 pub struct Library {
     assembly: [u8; ASSEMBLY_SIZE],
+    stream: [u8; STREAM_SIZE],
     host: Option<[u8; HOST_SIZE]>,
     modem: Option<[u8; MODEM_SIZE]>,
     pins: Option<[u8; PINS_SIZE]>,
@@ -23,7 +24,8 @@ type Flat = Result<Answer, Stop>;
 
 impl Library {
     pub fn new() -> Library {
-        Library { assembly: [0; ASSEMBLY_SIZE], host: None, modem: None, pins: None }
+        let (assembly, stream) = ([0; ASSEMBLY_SIZE], [0; STREAM_SIZE]);
+        Library { assembly, stream, host: None, modem: None, pins: None }
     }
 
     /// The answer, or what the library did that it must not.
@@ -34,6 +36,9 @@ impl Library {
             q::RECEIVE => receive(&mut self.assembly, &asked),
             q::EMPTY_ASSEMBLY => empty(&mut self.assembly),
             q::SHOW_ASSEMBLY => with_output(&[], self.assembly.to_vec()),
+            q::STREAM_FEED => stream_feed(&mut self.stream, &mut self.assembly, &asked),
+            q::STREAM_RESET => stream_reset(&mut self.stream, &mut self.assembly, &asked),
+            q::SHOW_STREAM => with_output(&[], self.stream.to_vec()),
             q::MAKE_HOST => make_host(&mut self.host, &asked),
             q::MAKE_MODEM => make_modem(&mut self.modem, &asked),
             q::HOST_OPEN..=q::HOST_RECEIVE | q::SHOW_HOST => match &mut self.host {
@@ -610,11 +615,16 @@ fn receive(assembly: &mut [u8; ASSEMBLY_SIZE], asked: &Asked) -> Flat {
     if answer.is_err() && !untouched && memory.iter().any(|byte| *byte != 0) {
         return Err(Stop::Wrong("a refused piece left something"));
     }
-    let (ReceiveAnswer { received, dropped, message, .. }, information) = answer?;
+    let (answer, information) = answer?;
+    with_output(&received(answer), information)
+}
+
+fn received(answer: ReceiveAnswer) -> Vec<u64> {
+    let ReceiveAnswer { received, dropped, message, length, .. } = answer;
     let MessageHeader { message_type, transaction, service, cid, word } = message;
     let head = [received, dropped, message_type, transaction];
-    let tail = [cid, word, information.len() as u32];
-    with_output(&words(&[&head[..], &service_words(service), &tail].concat()), information)
+    let numbers = [&head[..], &service_words(service), &[cid, word]].concat();
+    [&words(&numbers)[..], &[length]].concat()
 }
 
 /// Whether a piece has the type of a message that is never fragmented.
@@ -638,6 +648,72 @@ fn empty(assembly: &mut [u8; ASSEMBLY_SIZE]) -> Flat {
 
 pub fn u32_at(bytes: &[u8], at: usize) -> u32 {
     u32::from_le_bytes([bytes[at], bytes[at + 1], bytes[at + 2], bytes[at + 3]])
+}
+
+// ---- the byte stream
+
+/// Lends the fronts of both memories, as much of each as the question says.
+fn stream_feed(
+    stream: &mut [u8; STREAM_SIZE],
+    assembly: &mut [u8; ASSEMBLY_SIZE],
+    asked: &Asked,
+) -> Flat {
+    let (stream, assembly) = (lent_part(stream, asked, 1), lent_part(assembly, asked, 2));
+    let (mut lent, mut lent_assembly) = (Lent::holding(stream), Lent::holding(assembly));
+    let mut out = Lent::filled(asked.number(0) as usize);
+    let answer = c::stream_feed(lent.memory(), lent_assembly.memory(), asked.input, out.memory());
+    if !lent.guards_hold() || !lent_assembly.guards_hold() {
+        return Err(Stop::Wrong("bytes beside a memory touched"));
+    }
+    let written = answer.piece.length as usize;
+    if !out.holds_past(written) {
+        return Err(Stop::Wrong("output touched"));
+    }
+    let is_idle = answer.piece.refusal.number != 0 && answer.taken == 0;
+    if is_idle && (lent.bytes() != stream || lent_assembly.bytes() != assembly) {
+        return Err(Stop::Wrong("memory touched by a call that takes nothing"));
+    }
+    stream.copy_from_slice(lent.bytes());
+    assembly.copy_from_slice(lent_assembly.bytes());
+    stream_fed(answer, out.bytes()[..written].to_vec())
+}
+
+/// As much of a memory as the question says at this place.
+fn lent_part<'a>(memory: &'a mut [u8], asked: &Asked, place: usize) -> &'a mut [u8] {
+    let size = memory.len().min(asked.number(place) as usize);
+    &mut memory[..size]
+}
+
+/// The piece's numbers, refused or not, and beside them how many bytes were taken and whether the stream has
+/// ended, which is told by one refusal.
+fn stream_fed(answer: StreamAnswer, output: Vec<u8>) -> Flat {
+    let StreamAnswer { piece, taken, ended } = answer;
+    let refusal = match accepted(piece) {
+        Ok(_) => vec![0],
+        Err(Stop::Refused(refusal)) => refused(refusal).numbers,
+        Err(wrong) => return Err(wrong),
+    };
+    if ended > 1 || ended == 1 && refusal != [2, 4] {
+        return Err(Stop::Wrong("ended by another refusal"));
+    }
+    let numbers = [&refusal[..], &received(piece), &[taken, ended.into()]].concat();
+    Ok(Answer { numbers, output })
+}
+
+fn stream_reset(
+    stream: &mut [u8; STREAM_SIZE],
+    assembly: &mut [u8; ASSEMBLY_SIZE],
+    asked: &Asked,
+) -> Flat {
+    let (stream, assembly) = (lent_part(stream, asked, 0), lent_part(assembly, asked, 1));
+    let mut kept = Ok(Refusal::default());
+    let answer = keep(stream, |stream| {
+        kept = keep(assembly, |assembly| c::stream_reset(stream, assembly));
+        kept.as_ref().copied().unwrap_or_default()
+    })?;
+    kept?;
+    accepted(answer)?;
+    plain(&[])
 }
 
 // ---- the two ends

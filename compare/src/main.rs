@@ -18,6 +18,8 @@ mod pins;
 mod random;
 mod services;
 mod sides;
+mod stream_memory;
+mod streams;
 mod sweep;
 
 use random::Random;
@@ -28,7 +30,7 @@ const CASES: usize = 100_000;
 const SEED: u64 = 20;
 
 /// What makes up questions; each is asked in turn.
-const MAKERS: [fn(&mut Sides, &mut Random); 16] = [
+const MAKERS: [fn(&mut Sides, &mut Random); 17] = [
     payloads::version,
     payloads::packet,
     payloads::registration,
@@ -40,6 +42,7 @@ const MAKERS: [fn(&mut Sides, &mut Random); 16] = [
     messages::kind,
     messages::cut,
     messages::feeds,
+    streams::streams,
     ends::run,
     either_end,
     pins::payloads,
@@ -65,12 +68,14 @@ fn main() -> ExitCode {
         MAKERS.iter().for_each(|make| make(&mut sides, &mut random));
     }
     sides.report();
-    let wrong = memory::hostile(&mut random, cases / 10);
+    let swept = stream_memory::Sweep::new();
+    println!("{:16} {:8} cases of a sweep", "stream memory", swept.cases);
+    let wrong = swept.wrong + memory::hostile(&mut random, cases / 10);
     let unasked = sides.unasked();
     if !unasked.is_empty() {
         println!("not asked: {unasked:?}");
     }
-    let unmet = sides.met.missing();
+    let unmet = [sides.met.missing(), sides.streams.missing(), swept.missing()].concat();
     if !unmet.is_empty() {
         println!("not met: {unmet:?}");
     }

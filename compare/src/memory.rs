@@ -1,11 +1,13 @@
 //! Hostile memory, lent for an assembly, a host, a modem or a table of PINs: too small, random, or
 //! damaged. It must give the refusal that the second program has for it, or a good answer that leaves
-//! good memory, of a table the second program's; everything outside stays as it was.
+//! good memory, of a table the second program's; everything outside stays as it was. A stream's is in
+//! `stream_memory`.
 
 use crate::lent::Lent;
 use crate::library::{accepted, is_whole, u32_at, Refusable, Stop, WHOLE};
 use crate::payloads::put;
 use crate::random::Random;
+use crate::stream_memory;
 use culvertroost::c::{self, *};
 use second::memory::{judge_assembly, judge_host, judge_modem};
 use second::message::{COMMAND, COMMAND_DONE, INDICATE_STATUS};
@@ -15,15 +17,16 @@ use second::pin_memory;
 const PRINTED: usize = 20;
 
 /// The refusal that a case came to, if any, or what went wrong.
-type Outcome = Result<Option<Refusal>, &'static str>;
+pub type Outcome = Result<Option<Refusal>, &'static str>;
 type Case = fn(&mut Random) -> Outcome;
 
-const CASES: [(&str, Case); 5] = [
+const CASES: [(&str, Case); 6] = [
     ("assembly memory", assembly),
     ("host memory", host),
     ("modem memory", modem),
     ("PINs' memory", pins),
     ("modem with PINs", modem_with_pins),
+    ("stream memory", stream_memory::fed),
 ];
 
 /// Tries so many cases and gives how many went wrong.
@@ -74,12 +77,12 @@ fn need_refusal(refused: Option<Refusal>, expected: Option<Refusal>) -> Result<(
     need(refused.is_none_or(|refusal| refusal.number != 10), "good memory refused")
 }
 
-fn need(holds: bool, what: &'static str) -> Result<(), &'static str> {
+pub fn need(holds: bool, what: &'static str) -> Result<(), &'static str> {
     holds.then_some(()).ok_or(what)
 }
 
 /// A size of memory: as needed, a little less or more, or much less.
-fn size(random: &mut Random, needed: usize) -> usize {
+pub fn size(random: &mut Random, needed: usize) -> usize {
     match random.below(8) {
         0 => needed - 1,
         1 => random.below(needed),
@@ -94,7 +97,7 @@ fn assembly_refusal(memory: &[u8]) -> Option<Refusal> {
     expected(judge_assembly(memory))
 }
 
-fn assembly_memory(random: &mut Random) -> Vec<u8> {
+pub fn assembly_memory(random: &mut Random) -> Vec<u8> {
     let size = size(random, ASSEMBLY_SIZE);
     let mut memory = if random.once_in(3) { vec![0; size] } else { random.bytes(size) };
     match random.below(12) {
@@ -136,7 +139,7 @@ fn whole(random: &mut Random) -> Vec<u8> {
 }
 
 /// A fragment that may go on with what the memory holds, a whole message, or any bytes.
-fn piece(random: &mut Random, memory: &[u8]) -> Vec<u8> {
+pub fn piece(random: &mut Random, memory: &[u8]) -> Vec<u8> {
     if random.once_in(6) {
         return whole(random);
     }

@@ -1,4 +1,4 @@
-//! Whole messages, the cutter, the payload kind, and streams of pieces.
+//! Whole messages, the cutter, the payload kind, and runs of pieces.
 
 use crate::damage;
 use crate::library::{u32_at, WHOLE};
@@ -144,7 +144,8 @@ fn parted(random: &mut Random) -> Vec<Vec<u8>> {
     fragments
 }
 
-fn stream(sides: &mut Sides, random: &mut Random) -> Vec<Vec<u8>> {
+/// The fragments of a message.
+fn message(sides: &mut Sides, random: &mut Random) -> Vec<Vec<u8>> {
     if random.once_in(3) {
         return parted(random);
     }
@@ -205,12 +206,18 @@ impl Random {
     }
 }
 
-pub fn feeds(sides: &mut Sides, random: &mut Random) {
-    let mut pieces = stream(sides, random);
-    let strays = if random.once_in(3) { stream(sides, random) } else { Vec::new() };
+/// The pieces of a message, good or disturbed.
+pub fn pieces(sides: &mut Sides, random: &mut Random) -> Vec<Vec<u8>> {
+    let mut pieces = message(sides, random);
+    let strays = if random.once_in(3) { message(sides, random) } else { Vec::new() };
     for _ in 0..random.below(4) {
         disturbed(random, &mut pieces, &strays);
     }
+    pieces
+}
+
+pub fn feeds(sides: &mut Sides, random: &mut Random) {
+    let pieces = pieces(sides, random);
     if random.once_in(8) {
         sides.step(q::EMPTY_ASSEMBLY, &[], &[]);
     }

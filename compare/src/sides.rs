@@ -2,6 +2,7 @@
 
 use crate::asks::Met;
 use crate::library::Library;
+use crate::streams;
 use second::flat::{question as q, Answer, Second};
 use std::collections::BTreeSet;
 use std::fmt::{Debug, Write};
@@ -10,7 +11,7 @@ use std::fmt::{Debug, Write};
 const PRINTED: usize = 20;
 
 /// The questions that are counted together.
-const GROUPS: [(&str, &[u32]); 13] = [
+const GROUPS: [(&str, &[u32]); 14] = [
     ("VERSION", &[q::VERSION_READ, q::VERSION_WRITE]),
     ("packet service", &[q::PACKET_READ, q::PACKET_WRITE]),
     ("registration", &[q::REGISTRATION_READ, q::REGISTRATION_READ_WITH, q::REGISTRATION_WRITE]),
@@ -51,6 +52,7 @@ const GROUPS: [(&str, &[u32]); 13] = [
         ],
     ),
     ("tables of PINs", &[q::MAKE_PINS, q::PIN_ENTRY, q::PIN_RECEIVE, q::SHOW_PINS]),
+    ("byte streams", &[q::STREAM_FEED, q::STREAM_RESET, q::SHOW_STREAM]),
 ];
 
 #[derive(Clone, Default)]
@@ -65,6 +67,7 @@ pub struct Sides {
     library: Library,
     counts: Vec<Count>,
     pub met: Met,
+    pub streams: streams::Met,
     pub cases: usize,
     pub differences: usize,
 }
@@ -74,8 +77,9 @@ impl Sides {
         Sides {
             second: Second::new(),
             library: Library::new(),
-            counts: vec![Count::default(); q::ASK_CID_WITH as usize + 1],
+            counts: vec![Count::default(); q::SHOW_STREAM as usize + 1],
             met: Met::default(),
+            streams: streams::Met::default(),
             cases: 0,
             differences: 0,
         }
@@ -180,7 +184,7 @@ impl Sides {
         println!("  library   {got}");
     }
 
-    /// One line for each group, and the total; then what the question for one CID came to.
+    /// One line for each group, and the total; then what the question for one CID and streams came to.
     pub fn report(&self) {
         let mut total = Count::default();
         for (name, questions) in GROUPS {
@@ -193,6 +197,7 @@ impl Sides {
         }
         total.print("total");
         self.met.report();
+        self.streams.report();
     }
 
     /// Questions that were not asked.
@@ -238,6 +243,7 @@ fn states_of(question: u32) -> &'static [u32] {
         q::MAKE_MODEM..=q::MODEM_RECEIVE => &[q::SHOW_MODEM],
         q::MAKE_PINS | q::PIN_ENTRY => &[q::SHOW_PINS],
         q::PIN_RECEIVE => &[q::SHOW_MODEM, q::SHOW_PINS],
+        q::STREAM_FEED | q::STREAM_RESET => &[q::SHOW_STREAM, q::SHOW_ASSEMBLY],
         _ => &[],
     }
 }

@@ -9,6 +9,7 @@ use crate::payloads::put;
 use crate::pins;
 use crate::services::{same_all, same_written};
 use crate::sides::Sides;
+use crate::streams;
 use second::flat::{question as q, ASSEMBLY_SIZE, MODEM_SIZE};
 use second::message::{COMMAND, COMMAND_DONE, INDICATE_STATUS};
 use second::payload::{BASIC_CONNECT, EXTENSIONS};
@@ -72,6 +73,7 @@ pub fn all(sides: &mut Sides) {
         message(sides, message_type);
     }
     door(sides);
+    streams::sweep(sides);
     (0..4).for_each(|stage| host(sides, stage));
     (0..4).for_each(|stage| host_lists(sides, stage));
     (0..3).for_each(|stage| modem(sides, stage));

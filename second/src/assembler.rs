@@ -46,6 +46,11 @@ impl Assembler {
         Assembler { progress: None, bytes: [0; MAX_INFORMATION] }
     }
 
+    /// The assembly of an unfinished message; past the gathered bytes these are zero.
+    pub(crate) const fn of(progress: Progress, bytes: [u8; MAX_INFORMATION]) -> Self {
+        Assembler { progress: Some(progress), bytes }
+    }
+
     #[inline]
     pub fn progress(&self) -> Option<&Progress> {
         self.progress.as_ref()
@@ -126,7 +131,7 @@ impl Assembler {
 
     /// Empties the assembly; past the gathered bytes it is zero already.
     #[inline]
-    fn clear(&mut self) {
+    pub(crate) fn clear(&mut self) {
         if let Some(progress) = self.progress.take() {
             self.bytes.get_mut(..progress.gathered).unwrap_or_default().fill(0);
         }

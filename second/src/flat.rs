@@ -1,6 +1,8 @@
 //! Questions and answers as numbers and bytes, as docs/samples.md has them.
 //! Lent outputs are filled with one byte first, and what must stay untouched is checked.
 
+mod stream;
+
 use crate::assembler::Assembler;
 use crate::bytes::word;
 use crate::device_services::{self, DeviceServices, Element, Position, Shown};
@@ -17,8 +19,9 @@ use crate::refusal::{require, Refusal, OUTPUT_TOO_SMALL};
 use crate::registration::{self, Registration};
 use crate::signal_quality::{self, Reading};
 use crate::signal_state::{self, Entries, RsrpSnr, SignalState};
+use crate::stream::Stream;
 use crate::version::{Version, MBIM};
-use crate::{cutter, pin_memory, version_info, ServiceId};
+use crate::{assembly_memory, cutter, pin_memory, stream_memory, version_info, ServiceId};
 
 /// The numbers of the questions.
 pub mod question {
@@ -74,21 +77,25 @@ pub mod question {
     pub const SHOW_PINS: u32 = 50;
     pub const ASK_CID: u32 = 51;
     pub const ASK_CID_WITH: u32 = 52;
+    pub const STREAM_FEED: u32 = 53;
+    pub const STREAM_RESET: u32 = 54;
+    pub const SHOW_STREAM: u32 = 55;
 }
 
 /// What a lent output holds before the call.
 const FILL: u8 = 0xAA;
 const FILL_WORD: u32 = 0xAAAA_AAAA;
 
-/// How many bytes of memory an assembly, a modem and a table of PINs take.
+/// How many bytes of memory an assembly, a modem, a table of PINs and a stream take.
 pub const ASSEMBLY_SIZE: u64 = crate::memory::ASSEMBLY_SIZE as u64;
 pub const MODEM_SIZE: u64 = crate::memory::MODEM_SIZE as u64;
 pub const PINS_SIZE: u64 = pin_memory::PINS_SIZE as u64;
+pub const STREAM_SIZE: u64 = stream_memory::STREAM_SIZE as u64;
 
-/// The assembly, the host, the modem and the table of PINs that stand between questions.
+/// The stream with the assembly, the host, the modem and the table of PINs that stand between questions.
 #[derive(Default)]
 pub struct Second {
-    assembler: Assembler,
+    stream: Stream,
     host: Option<Host>,
     modem: Option<Modem>,
     pins: Option<Pins>,
@@ -112,12 +119,12 @@ impl Second {
     pub fn ask(&mut self, question: u32, arguments: &[u64], input: &[u8]) -> Answer {
         let asked = Asked { arguments, input };
         let answer = match question {
-            question::RECEIVE => receive(&mut self.assembler, &asked),
-            question::EMPTY_ASSEMBLY => {
-                self.assembler = Assembler::new();
-                plain(&[])
+            question::RECEIVE..=question::SHOW_ASSEMBLY => {
+                ask_assembly(&mut self.stream.assembler, question, &asked)
             }
-            question::SHOW_ASSEMBLY => with_output(&[], assembly_memory(&self.assembler)),
+            question::STREAM_FEED..=question::SHOW_STREAM => {
+                stream::ask(&mut self.stream, question, &asked)
+            }
             question::MAKE_HOST => make_host(&mut self.host, &asked),
             question::MAKE_MODEM => make_modem(&mut self.modem, &asked),
             question::HOST_OPEN..=question::HOST_RECEIVE | question::SHOW_HOST => {
@@ -595,22 +602,53 @@ fn whole_write(asked: &Asked) -> Flat {
     written(asked.number(0), |out| message::write_whole(&whole, out))
 }
 
+fn ask_assembly(assembler: &mut Assembler, question: u32, asked: &Asked) -> Flat {
+    match question {
+        question::RECEIVE => receive(assembler, asked),
+        question::EMPTY_ASSEMBLY => {
+            *assembler = Assembler::new();
+            plain(&[])
+        }
+        _ => with_output(&[], assembly_memory::bytes(assembler).to_vec()),
+    }
+}
+
 /// Memory of this size is judged before the piece.
 fn receive(assembler: &mut Assembler, asked: &Asked) -> Flat {
     judge_memory(asked.number(1), ASSEMBLY_SIZE)?;
     let call = |out: &mut [u8]| {
         let received = door::receive(assembler, asked.input, out)?;
-        let written = match received {
-            Received::Complete { length, .. } => length,
-            _ => 0,
-        };
-        Ok((received, written))
+        Ok((received, written_by(received)))
     };
     let (received, information) = lend(asked.number(0), call)?;
+    with_output(&received_numbers(received), information)
+}
+
+/// How many bytes of output a received piece wrote.
+fn written_by(received: Received) -> usize {
+    match received {
+        Received::Complete { length, .. } => length,
+        _ => 0,
+    }
+}
+
+/// The numbers of a received piece.
+fn received_numbers(received: Received) -> [u64; 11] {
     let (case, dropped, header) = received_header(received);
-    let head = [case, dropped.into(), header.message_type, header.transaction].map(u64::from);
-    let tail = [header.cid, header.word, information.len() as u32].map(u64::from);
-    with_output(&[&head[..], &service_numbers(&header.service), &tail].concat(), information)
+    let [first, second, third, fourth] = service_numbers(&header.service);
+    [
+        case.into(),
+        dropped.into(),
+        header.message_type.into(),
+        header.transaction.into(),
+        first,
+        second,
+        third,
+        fourth,
+        header.cid.into(),
+        header.word.into(),
+        written_by(received) as u64,
+    ]
 }
 
 /// The case's number, whether something was dropped, and what is known of the message.
@@ -635,23 +673,6 @@ fn received_header(received: Received) -> (u32, bool, Header) {
 
 fn judge_memory(size: u64, needed: u64) -> Result<(), Refusal> {
     require(size >= needed, OUTPUT_TOO_SMALL, needed as usize)
-}
-
-/// The memory of an assembly: 48 bytes of numbers, all 0 where it is empty, and the bytes gathered.
-pub(crate) fn assembly_memory(assembler: &Assembler) -> Vec<u8> {
-    let mut memory = vec![0; 48];
-    if let Some(progress) = assembler.progress() {
-        let header = progress.header;
-        let fields = [progress.total, progress.next, progress.declared as u32];
-        memory.clear();
-        memory.extend([header.message_type, header.transaction].map(u32::to_le_bytes).concat());
-        memory.extend(header.service);
-        memory.extend([header.cid, header.word].map(u32::to_le_bytes).concat());
-        memory.extend(fields.map(u32::to_le_bytes).concat());
-        memory.extend((progress.gathered as u32).to_le_bytes());
-    }
-    memory.extend(assembler.bytes());
-    memory
 }
 
 fn cut(asked: &Asked) -> Flat {

@@ -1,12 +1,13 @@
 //! A second, independent implementation of the MBIM scope: payload readers
-//! and writers, fragments, the version handshake, PIN entry, signal readings and the
-//! replay of traces. It answers every input without a panic; only `flat`, `rows` and
+//! and writers, fragments, byte streams, the version handshake, PIN entry, signal readings
+//! and the replay of traces. It answers every input without a panic; only `flat`, `rows` and
 //! `replay` allocate.
 
 mod bytes;
 mod pair;
 
 pub mod assembler;
+pub mod assembly_memory;
 pub mod cutter;
 pub mod data_class;
 pub mod device_services;
@@ -26,6 +27,8 @@ pub mod replay;
 pub mod rows;
 pub mod signal_quality;
 pub mod signal_state;
+pub mod stream;
+pub mod stream_memory;
 pub mod trace;
 pub mod version;
 pub mod version_info;

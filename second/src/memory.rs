@@ -93,8 +93,9 @@ fn version(memory: &[u8], place: usize) -> Result<Version, Refusal> {
 mod tests {
     use super::*;
     use crate::assembler::Assembler;
+    use crate::assembly_memory;
     use crate::device_services::{self, Element};
-    use crate::flat::{assembly_memory, host_numbers, modem_numbers};
+    use crate::flat::{host_numbers, modem_numbers};
     use crate::handshake::{Host, Modem};
     use crate::message::{Header, COMMAND_DONE};
     use crate::payload::{BASIC_CONNECT, CID_DEVICE_SERVICES, CID_VERSION, EXTENSIONS};
@@ -215,7 +216,7 @@ mod tests {
         piece[first - 4..first].copy_from_slice(&4096u32.to_le_bytes());
         let mut assembler = Assembler::default();
         assembler.feed(&piece, &mut []);
-        assembler.progress().map(|_| assembly_memory(&assembler))
+        assembler.progress().map(|_| assembly_memory::bytes(&assembler).to_vec())
     }
 
     #[test]

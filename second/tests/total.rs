@@ -1,10 +1,13 @@
 //! No question panics, whatever its arguments and input are, and no answer
 //! touches output that it must leave alone (the questions check that themselves).
 
-use second::flat::{question, Second, ASSEMBLY_SIZE, PINS_SIZE};
-use second::pin_memory;
+use second::door::Received;
+use second::flat::{question, Answer, Second, ASSEMBLY_SIZE, PINS_SIZE, STREAM_SIZE};
+use second::refusal::Refusal;
 use second::replay::Replay;
+use second::stream::Fed;
 use second::trace::LONGEST_LINE;
+use second::{pin_memory, stream_memory};
 
 struct Random(u64);
 
@@ -32,6 +35,15 @@ impl Random {
         }
     }
 
+    /// This number, now and then one less or more.
+    fn near(&mut self, number: u64) -> u64 {
+        match self.below(12) {
+            0 => number - 1,
+            1 => number + 1,
+            _ => number,
+        }
+    }
+
     /// Words that are often small, as bytes, of any length.
     fn input(&mut self) -> Vec<u8> {
         let length = [0, 4, 12, 20, 28, 32, 44, 48, 52, 64, 140, 600, 4096, 4100];
@@ -56,18 +68,18 @@ fn any_question_is_answered() {
     second.ask(question::MAKE_MODEM, &[0x0200, 0x0100, 10], &[0; 8]);
     second.ask(question::MAKE_PINS, &[PINS_SIZE, 1, 1, 3, 0, 1, 1, 3, 4], &[7; 544]);
     for _ in 0..60_000 {
-        let asked = random.below(54) as u32;
+        let asked = random.below(57) as u32;
         let count = random.below(30);
         let mut arguments: Vec<u64> = (0..count).map(|_| random.number()).collect();
         if let Some(room) = arguments.first_mut() {
-            let is_room =
-                !matches!(asked, 3 | 5 | 7 | 12 | 20..=23 | 26..=27 | 33..=38 | 41 | 43 | 51 | 52);
+            let is_room = !matches!(asked, 3 | 5 | 7 | 12 | 20..=23 | 26..=27 | 33..=38 | 41 | 43 | 51 | 52 | 54);
             *room = if is_room { *room % 8000 } else { *room };
         }
         let input = random.input();
         let answer = second.ask(asked, &arguments, &input);
         let refused = answer.numbers.first().is_some_and(|number| *number != 0);
-        assert!(!refused || (answer.numbers.len() == 2 && answer.output.is_empty()));
+        let length = if asked == question::STREAM_FEED { 15 } else { 2 };
+        assert!(!refused || (answer.numbers.len() == length && answer.output.is_empty()));
     }
 }
 
@@ -312,6 +324,123 @@ fn damaged_streams_are_answered() {
         let empty = answer.numbers[0] != 0 || answer.numbers[1] == 3;
         assert!(is_whole || !empty || shown.output == [0; 4144]);
     }
+}
+
+/// The bytes of a stream: good pieces and damaged ones, with faults of a length field now and then.
+fn stream(random: &mut Random, fragments: &[&[u8]]) -> Vec<u8> {
+    let mut stream = Vec::new();
+    for number in 0..1 + random.below(6) {
+        let mut piece = match random.below(4) {
+            0 => vec![2, 0, 0, 0, 12, 0, 0, 0, 7, 0, 0, 0],
+            _ => fragments[number as usize % fragments.len()].to_vec(),
+        };
+        if random.below(6) == 0 {
+            let place = random.below(piece.len().min(20) as u64) as usize;
+            piece[place] ^= 1 << random.below(8);
+        }
+        stream.extend(piece);
+    }
+    stream
+}
+
+/// What a call of the stream came to, as the question shows it.
+fn has_numbers(fed: &Fed, answer: &Answer) -> bool {
+    let refusal = match fed.answer {
+        Err(refusal) => [refusal.number.into(), refusal.place as u64],
+        Ok(received) => [0, if received.is_some() { answer.numbers[1].max(1) } else { 0 }],
+    };
+    answer.numbers[..2] == refusal
+        && answer.numbers.ends_with(&[fed.taken as u64, fed.ended.into()])
+}
+
+type Run = (Vec<Result<Received, Refusal>>, [Vec<u8>; 2]);
+
+/// Feeds a stream in chunks of any length up to the most, by the question and in lent memory, which must
+/// come to the same. Gives the answers and both memories.
+fn run_stream(random: &mut Random, second: &mut Second, most: u64, bytes: &[u8]) -> Run {
+    let sizes = [STREAM_SIZE, ASSEMBLY_SIZE];
+    second.ask(question::STREAM_RESET, &sizes, &[]);
+    let [mut stream, mut assembly] = sizes.map(|size| vec![0; size as usize]);
+    let (mut rest, mut answers, mut out) = (bytes, Vec::new(), [0; 4096]);
+    while !rest.is_empty() {
+        let chunk = &rest[..rest.len().min(random.below(most + 1) as usize)];
+        let arguments = [4096, STREAM_SIZE, ASSEMBLY_SIZE];
+        let answer = second.ask(question::STREAM_FEED, &arguments, chunk);
+        let fed = stream_memory::feed(&mut stream, &mut assembly, chunk, &mut out);
+        assert!(has_numbers(&fed, &answer) && out.starts_with(&answer.output));
+        answers.extend(fed.answer.transpose());
+        rest = if fed.ended { &[] } else { &rest[fed.taken..] };
+    }
+    let shown = [question::SHOW_STREAM, question::SHOW_ASSEMBLY];
+    let shown = shown.map(|show| second.ask(show, &[], &[]).output);
+    assert_eq!(shown, [stream, assembly]);
+    (answers, shown)
+}
+
+/// Streams cut at random come to the same by value, in lent memory, and uncut.
+#[test]
+fn cut_streams_are_answered_alike() {
+    let mut random = Random(0x0BAD_CAFE_1234_4321);
+    let mut second = Second::new();
+    let input: Vec<u8> = (0..=115).collect();
+    let cut = second.ask(question::CUT, &[9000, 64, 3, 7, 11, 1], &input).output;
+    let fragments: Vec<&[u8]> = cut.chunks(64).collect();
+    let mut ended = 0;
+    for _ in 0..1000 {
+        let bytes = stream(&mut random, &fragments);
+        let mosts = [9, 90, 1000];
+        let [uncut, other, another] =
+            mosts.map(|most| run_stream(&mut random, &mut second, most, &bytes));
+        assert!(uncut == other && uncut == another);
+        ended += u32::from(uncut.1[0][4]);
+    }
+    assert!((100..900).contains(&ended), "{ended}");
+}
+
+/// Memory of about so many bytes that holds one word over and over.
+fn any_memory(random: &mut Random, size: u64) -> Vec<u8> {
+    let size = random.near(size);
+    let word = [0, random.number() as u32][random.below(2) as usize].to_le_bytes();
+    word.into_iter().cycle().take(size as usize).collect()
+}
+
+/// Any memory of a stream, most often with a piece of a few bytes held.
+fn any_stream(random: &mut Random) -> Vec<u8> {
+    let mut memory = any_memory(random, STREAM_SIZE);
+    let good = [random.below(14), 0, [1, 2, 3, 9][random.below(4) as usize], 16];
+    for (place, number) in good.into_iter().enumerate() {
+        let number = if random.below(12) == 0 { random.number() } else { number };
+        memory[4 * place..4 * place + 4].copy_from_slice(&(number as u32).to_le_bytes());
+    }
+    memory
+}
+
+/// Any memory is answered: a refusal that takes nothing leaves it, and all else leaves it good.
+#[test]
+fn any_memory_of_a_stream_is_answered() {
+    let mut random = Random(0x7654_3210_0FED_CBA9);
+    let mut seen = [0; 4];
+    for _ in 0..6000 {
+        let (mut stream, mut assembly) =
+            (any_stream(&mut random), any_memory(&mut random, ASSEMBLY_SIZE));
+        let before = [stream.clone(), assembly.clone()];
+        let (chunk, room) = (random.input(), random.near(4096) as usize);
+        let fed = stream_memory::feed(&mut stream, &mut assembly, &chunk, &mut vec![0; room]);
+        assert!(fed.taken <= chunk.len());
+        let case = match fed.answer {
+            Ok(None) => 0,
+            Ok(Some(_)) => 1,
+            Err(_) => 2 + usize::from(fed.taken == 0),
+        };
+        seen[case] += 1;
+        if case == 3 {
+            assert_eq!([stream, assembly], before);
+            continue;
+        }
+        let again = stream_memory::feed(&mut stream, &mut assembly, &[], &mut [0; 4096]);
+        assert!(again.ended == fed.ended && again.answer.is_err() == fed.ended);
+    }
+    assert!(seen.iter().all(|times| *times > 100), "{seen:?}");
 }
 
 /// Random bytes, or the line of a random piece, now and then damaged.

@@ -3,3 +3,4 @@ pub mod View
 pub mod Left
 pub mod Clean
 pub mod Delivered
+pub mod Room

@@ -3,6 +3,7 @@
 use Rattle.c_claims.specs.NumberZero.{EveryNumberTells}
 use Rattle.c_claims.proofs.Payloads as payloads
 use Rattle.c_claims.proofs.Messages as messages
+use Rattle.c_claims.proofs.Streams as streams
 use Rattle.c_claims.proofs.Ends as ends
 use Rattle.c_claims.proofs.Pins as pins
 
@@ -46,6 +47,8 @@ every-number-tells = record {
   payload-kind = messages.kind-told;
   assembly-empty = messages.empty-told;
   receive = messages.receive-told;
+  stream-reset = streams.reset-told;
+  stream-feed = streams.feed-told;
   host-make = ends.host-make-told;
   host-open = ends.host-open-told;
   host-close = ends.host-close-told;

@@ -46,6 +46,8 @@ use Rattle.assembler.specs.declared.door.Received.{Received}
 use Rattle.host.specs.declared.HostAnswer.{HostAnswer}
 use Rattle.host.specs.declared.Ask.{Ask}
 use Rattle.lent.specs.LentAssembly.{emptied, receiveIn}
+use Rattle.stream.specs.declared.Said.{Said}
+use Rattle.lent_stream.specs.LentStream as stream
 use Rattle.lent_host.specs.LentHost as host
 use Rattle.lent_modem.specs.LentModem as modem
 use Rattle.lent_modem.specs.declared.ModemReply.{ModemReply}
@@ -62,6 +64,7 @@ use Rattle.c_structs.specs.Signals as signalAnswer
 use Rattle.c_structs.specs.Services as servicesAnswer
 use Rattle.c_structs.specs.Quality.{readingInfo, barsInfo}
 use Rattle.c_structs.specs.Messages.{wholeInfo, cutInfo, kindInfo, receiveInfo}
+use Rattle.c_structs.specs.Streams.{streamInfo}
 use Rattle.c_structs.specs.Ends.{hostInfo, askInfo}
 use Rattle.c_structs.specs.Pins.{setPinAnswer, pinInfoAnswer, entryAnswer}
 use Rattle.c_structs.specs.declared.packets.PacketServiceInfo.{PacketServiceInfo}
@@ -74,7 +77,7 @@ use Rattle.culvertroost.specs.Services as servicesBy
 use Rattle.culvertroost.specs.Modems.{replyInfo}
 use Rattle.culvertroost.specs.Pins as setPinBy
 use Rattle.culvertroost.specs.Pins.{pinReplyInfo}
-use Rattle.c_claims.specs.Refused.{faulty, writtenRefused, versionRefused, packetRefused, registrationRefused, signalRefused, servicesRefused, elementRefused, listedRefused, positionRefused, allRefused, setPinRefused, pinInfoRefused, readingRefused, barsRefused, wholeRefused, cutRefused, shownRefused, receivedRefused, hostRefused, askRefused, modemRefused, entryRefused, pinModemRefused}
+use Rattle.c_claims.specs.Refused.{faulty, writtenRefused, versionRefused, packetRefused, registrationRefused, signalRefused, servicesRefused, elementRefused, listedRefused, positionRefused, allRefused, setPinRefused, pinInfoRefused, readingRefused, barsRefused, wholeRefused, cutRefused, shownRefused, receivedRefused, saidRefused, hostRefused, askRefused, modemRefused, entryRefused, pinModemRefused}
 
 -- the number is 0 exactly where nothing was refused
 abbrev pub Tells : ℕ → Bool → Type 0
@@ -139,6 +142,9 @@ KindTells a = Tells (kindInfo a .refusal .number) (shownRefused a)
 abbrev pub ReceivedTells : Received → Type 0
 ReceivedTells a = Tells (receiveInfo a .refusal .number) (receivedRefused a)
 
+abbrev pub SaidTells : Said → ℕ → Type 0
+SaidTells a n = Tells (streamInfo a n .piece .refusal .number) (saidRefused a)
+
 abbrev pub HostTells : HostAnswer → Type 0
 HostTells a = Tells (hostInfo a .refusal .number) (hostRefused a)
 
@@ -195,6 +201,8 @@ pub record EveryNumberTells : Type 0 where
   pub payload-kind : (m : MessageHeader) → KindTells (shownOf m)
   pub assembly-empty : (memory : List ℕ) → VerdictTells (emptied memory .verdict)
   pub receive : (memory piece : List ℕ) (room : ℕ) → ReceivedTells (receiveIn memory piece room .received)
+  pub stream-reset : (memory assembly : List ℕ) → VerdictTells (stream.resetIn memory assembly .verdict)
+  pub stream-feed : (memory assembly chunk : List ℕ) (room : ℕ) → SaidTells (stream.feedIn memory assembly chunk room .fed .said) (stream.feedIn memory assembly chunk room .fed .taken)
   pub host-make : (memory : List ℕ) (native : ℕ) → VerdictTells (host.makeIn memory native .verdict)
   pub host-open : (memory : List ℕ) (advertised : ℕ) → HostTells (host.openIn memory advertised .answer)
   pub host-close : (memory : List ℕ) → HostTells (host.closeIn memory .answer)

@@ -39,6 +39,8 @@ use Rattle.payload.specs.declared.Shown.{Shown}
 use Rattle.payload.specs.declared.Shown.the-variants as shown
 use Rattle.assembler.specs.declared.door.Received.{Received}
 use Rattle.assembler.specs.declared.door.Received.the-variants as received
+use Rattle.stream.specs.declared.Said.{Said}
+use Rattle.stream.specs.declared.Said.the-variants as said
 use Rattle.host.specs.declared.HostAnswer.{HostAnswer}
 use Rattle.host.specs.declared.HostAnswer.the-variants as host
 use Rattle.host.specs.declared.Ask.{Ask}
@@ -139,6 +141,13 @@ receivedRefused (received.Whole type transaction word) = false
 receivedRefused (received.Pending type transaction dropped) = false
 receivedRefused (received.Complete m n dropped) = false
 receivedRefused (received.Refused r) = true
+
+-- a chunk of a stream: a piece still short is an answer
+abbrev pub saidRefused : Said → Bool
+saidRefused said.Nothing = false
+saidRefused (said.Piece x) = receivedRefused x
+saidRefused (said.Ended r) = true
+saidRefused (said.Refused r) = true
 
 -- ---- the ends: a failed command is answered with its status, and is no refusal
 

@@ -4,6 +4,7 @@ pub mod Versions
 pub mod Packets
 pub mod Registrations
 pub mod Signals
+pub mod Streams
 pub mod Services
 pub mod Quality
 pub mod Messages

@@ -65,6 +65,10 @@ headOf type transaction word = record {
 abbrev pub receivedInfo : Refusal → ℕ → ℕ → MessageHeader → ℕ → ReceiveInfo
 receivedInfo r received dropped m n = record { refusal = r; received = received; dropped = dropped; message = m; length = n }
 
+-- no piece was taken
+abbrev pub nothingReceived : ReceiveInfo
+nothingReceived = receivedInfo noRefusal 0 0 (headOf 0 0 0) 0
+
 unfoldable pub receiveInfo : Received → ReceiveInfo
 receiveInfo (WholeMessage type transaction word) = receivedInfo noRefusal 1 0 (headOf type transaction word) 0
 receiveInfo (Pending type transaction d) = receivedInfo noRefusal 2 (flagOf d) (headOf type transaction 0) 0

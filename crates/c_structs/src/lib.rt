@@ -9,6 +9,7 @@ pub mod quality;
 pub mod registrations;
 pub mod services;
 pub mod signals;
+pub mod streams;
 pub mod versions;
 
 use protocol::Refusal;

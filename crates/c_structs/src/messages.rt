@@ -9,7 +9,7 @@ use protocol::Refusal;
 use protocol::service::Kind;
 use protocol::service::ServiceId;
 ghost use mathlib.Core.Path.{_≡_};
-ghost use Rattle.c_structs.specs.Messages.{flagOf, kindNumber, wholeInfo, cutInfo, kindInfo, headOf, receiveInfo};
+ghost use Rattle.c_structs.specs.Messages.{flagOf, kindNumber, wholeInfo, cutInfo, kindInfo, headOf, nothingReceived, receiveInfo};
 
 // A whole message.
 #[repr(C)]
@@ -156,6 +156,20 @@ pub fn receive_info(received: Received) -> ReceiveInfo
             message: head_of(0, 0, 0),
             length: 0,
         },
+    }
+}
+
+// No piece was taken.
+pub fn nothing_received() -> ReceiveInfo
+    ensures { λ r. ⌜ r ≡ nothingReceived ⌝ }
+{
+    let refusal = no_refusal();
+    ReceiveInfo {
+        refusal,
+        received: 0,
+        dropped: 0,
+        message: head_of(0, 0, 0),
+        length: 0,
     }
 }
 

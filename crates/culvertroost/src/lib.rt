@@ -10,4 +10,5 @@ pub mod quality;
 pub mod registrations;
 pub mod services;
 pub mod signals;
+pub mod streams;
 pub mod versions;

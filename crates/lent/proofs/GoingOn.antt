@@ -68,7 +68,7 @@ joins p s G =
     )
 
 -- it is no whole message's
-type-fragmented : (t : ℕ) → isFragmented t ≡ true → isWhole t ≡ false
+pub type-fragmented : (t : ℕ) → isFragmented t ≡ true → isWhole t ≡ false
 unfolding isFragmented isWhole
 type-fragmented t e = ⊎-elim (λ h. rw (eqb-true t 3 h)) (λ h. ⊎-elim (λ k. rw (eqb-true t 0x80000003 k)) (λ k. ⊎-elim (λ l. rw (eqb-true t 0x80000007 l)) (λ l. never l) (or-cases _ _ k)) (or-cases _ _ h)) (or-cases _ _ e)
 

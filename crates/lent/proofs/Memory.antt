@@ -40,20 +40,24 @@ front-cleared m room =
 drop-front : (n : ℕ) (m r : List ℕ) → n ≤ length m → drop n (take n m ++ r) ≡ r
 drop-front n m r room = drop-at (take n m) r n (length-take n m ∙ omega (arith, room))
 
--- the buffer given back, and then the numbers put before it
+-- k bytes behind the first n given back, and then n put before them
+pub put-front : (n k : ℕ) (m b xs : List ℕ) {s : List ℕ} → n + k ≤ length m → length b ≡ k → length xs ≡ n → s ≡ sets (take n m ++ (b ++ drop k (drop n m))) 0 xs → s ≡ over (xs ++ b) m
+unfolding over
+put-front n k m b xs room eb ex e =
+    let rest = b ++ drop (n + k) m in
+    let fits : length xs ≤ length (take n m ++ rest) = simp (length-append, length-take) (omega (arith, room, ex)) in
+    let all : length (xs ++ b) ≡ n + k = length-append xs b ∙ omega (arith, ex, eb) in
+    e ∙ ap (λ (t : List ℕ). sets (take n m ++ (b ++ t)) 0 xs) (drop-drop k n m)
+    ∙ sets-over xs (take n m ++ rest) fits
+    ∙ ap (λ (j : ℕ). xs ++ drop j (take n m ++ rest)) ex
+    ∙ ap (λ (t : List ℕ). xs ++ t) (drop-front n m rest (omega (arith, room)))
+    ∙ sym (append-assoc xs b (drop (n + k) m))
+    ∙ ap (λ (j : ℕ). (xs ++ b) ++ drop j m) (sym all)
+
+-- the buffer of an assembly, and then its numbers
 pub put-back : (m b xs : List ℕ) {s : List ℕ} → assemblySize ≤ length m → length b ≡ 4096 → length xs ≡ 48 → s ≡ sets (take 48 m ++ (b ++ drop 4096 (drop 48 m))) 0 xs
     → s ≡ over (xs ++ b) m
-unfolding over
-put-back m b xs room eb ex e =
-    let rest = b ++ drop assemblySize m in
-    let fits : length xs ≤ length (take 48 m ++ rest) = simp (length-append, length-take) (omega (arith, room, ex)) in
-    let n : length (xs ++ b) ≡ assemblySize = length-append xs b ∙ omega (arith, ex, eb) in
-    e ∙ ap (λ (t : List ℕ). sets (take 48 m ++ (b ++ t)) 0 xs) (drop-drop 4096 48 m)
-    ∙ sets-over xs (take 48 m ++ rest) fits
-    ∙ ap (λ (k : ℕ). xs ++ drop k (take 48 m ++ rest)) ex
-    ∙ ap (λ (t : List ℕ). xs ++ t) (drop-front 48 m rest (omega (arith, room)))
-    ∙ sym (append-assoc xs b (drop assemblySize m))
-    ∙ ap (λ (k : ℕ). (xs ++ b) ++ drop k m) (sym n)
+put-back m b xs room eb ex e = put-front 48 4096 m b xs room eb ex e
 
 pub length-buffer : (m : List ℕ) → assemblySize ≤ length m → length (bufferIn m) ≡ 4096
 length-buffer m room = length-take 4096 (drop 48 m) ∙ simp length-drop (omega (arith, room))

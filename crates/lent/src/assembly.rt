@@ -87,6 +87,59 @@ pub fn receive(memory: &mut [u8], piece: &[u8], out: &mut [u8]) -> Received
             dropped: false,
         };
     }
+    anew(receive_judged(memory, piece, out))
+}
+
+// The same answer, made of its parts. An answer that a call leaves in memory would have the one above go
+// through memory too, and wait for it.
+fn anew(received: Received) -> Received
+    ensures { λ r. ⌜ r ≡ received ⌝ }
+{
+    match received {
+        Received::Whole {
+            message_type,
+            transaction,
+            word,
+        } => Received::Whole {
+            message_type,
+            transaction,
+            word,
+        },
+        Received::Pending {
+            message_type,
+            transaction,
+            dropped,
+        } => Received::Pending {
+            message_type,
+            transaction,
+            dropped,
+        },
+        Received::Complete {
+            message,
+            length,
+            dropped,
+        } => Received::Complete {
+            message,
+            length,
+            dropped,
+        },
+        Received::Refused(refusal) => Received::Refused(refusal),
+    }
+}
+
+// The same with every piece judged rule by rule. `receive` is compiled into its caller as long as it has
+// one; others call this one.
+pub fn receive_judged(memory: &mut [u8], piece: &[u8], out: &mut [u8]) -> Received
+    ensures { λ r. ⌜ r ≡ receiveIn (now (memory .entry)) (now (piece .entry)) (length (now (out .entry))) .received ⌝ }
+    ensures { λ _. ⌜ now (memory .exit) ≡ receiveIn (now (memory .entry)) (now (piece .entry)) (length (now (out .entry))) .memory ⌝ }
+    ensures { λ _. ⌜ now (out .exit) ≡ over (receiveIn (now (memory .entry)) (now (piece .entry)) (length (now (out .entry))) .information) (now (out .entry)) ⌝ }
+{
+    if memory.len() < ASSEMBLY_SIZE {
+        return Received::Refused(Refusal {
+            number: OUTPUT_TOO_SMALL,
+            place: ASSEMBLY_SIZE,
+        });
+    }
     if is_whole_piece(piece) {
         return show_whole(piece);
     }

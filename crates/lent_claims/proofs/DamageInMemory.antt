@@ -26,7 +26,7 @@ use Rattle.lent_claims.proofs.AssemblyServes.{length-held, fed-in, zero
 -- ---- memory that holds an assembly is told by it, whatever the memory held before
 
 -- the first of two stores of the same length leaves no trace
-over-again : (x y m : List ℕ) → length x ≡ length y → over x (over y m) ≡ over x m
+pub over-again : (x y m : List ℕ) → length x ≡ length y → over x (over y m) ≡ over x m
 unfolding over
 over-again x y m e = ap (λ (l : List ℕ). x ++ l) (drop-at y (drop (length y) m) (length x) (sym e) ∙ ap (λ (k : ℕ). drop k m) (sym e))
 

@@ -258,7 +258,8 @@ pub fn is_wrong_amount(last: bool, gathered: usize, declared: usize) -> bool
     false
 }
 
-fn whole_length(message_type: u32) -> u32
+// How long a whole message of this type is.
+pub fn whole_length(message_type: u32) -> u32
     ensures { λ r. ⌜ r ≡ wholeLength «message_type» ⌝ }
 {
     if message_type == CLOSE {

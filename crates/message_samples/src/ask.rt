@@ -5,6 +5,7 @@ use crate::modems::with_modem;
 use crate::pieces::with_assembly;
 use crate::pins::receive;
 use crate::pins::with_pins;
+use crate::streams::with_stream;
 use sample_lines::answers::Asked;
 use sample_lines::answers::least;
 use sample_lines::answers::no_question;
@@ -12,19 +13,23 @@ use sample_lines::answers::word_at;
 use wire::put_bytes;
 use wire::put_run;
 
-// Where the memory of the host, the modem and the table of PINs begins in the state.
+// Where the memory of the host, the modem, the table of PINs and the stream begins in the state.
 const ASSEMBLY_SIZE: usize = 4144;
 
 const HOST_END: usize = 4150;
 
 const MODEM_END: usize = 4160;
 
+const PINS_END: usize = 4908;
+
+const STREAM_END: usize = 9012;
+
 // The first argument is the input's length.
 pub fn ask(
     question: u8,
     arguments: &[u8; 16640],
     bytes: &[u8; 16640],
-    state: &mut [u8; 4908],
+    state: &mut [u8; 9012],
     out: &mut [u8; 16640],
 ) -> Asked {
     let numbers = &arguments[..];
@@ -47,6 +52,7 @@ fn ask_lent(
         27 | 28 | 29 | 30 | 32 => modem_of(question, arguments, input, state, out),
         47 | 48 | 50 => pins_of(question, arguments, input, state, out),
         49 => modem_and_pins_of(arguments, input, state, out),
+        53 | 54 | 55 => stream_of(question, arguments, input, state, out),
         _ => no_question(),
     }
 }
@@ -96,20 +102,57 @@ fn pins_of(
     state: &mut [u8],
     out: &mut [u8],
 ) -> Asked {
-    if state.len() < MODEM_END {
+    if state.len() < PINS_END {
         return no_question();
     }
-    with_pins(question, arguments, input, &mut state[MODEM_END..], out)
+    with_pins(
+        question,
+        arguments,
+        input,
+        &mut state[MODEM_END..PINS_END],
+        out,
+    )
 }
 
 // Two parts of the state can't be lent at once: the modem's goes through a block of its own.
 fn modem_and_pins_of(arguments: &[u8], input: &[u8], state: &mut [u8], out: &mut [u8]) -> Asked {
-    if state.len() < MODEM_END {
+    if state.len() < PINS_END {
         return no_question();
     }
     let mut modem = [0u8; 10];
     put_run(&mut modem, 0, &state[HOST_END..MODEM_END], 10);
-    let asked = receive(arguments, input, &mut modem, &mut state[MODEM_END..], out);
+    let asked = receive(
+        arguments,
+        input,
+        &mut modem,
+        &mut state[MODEM_END..PINS_END],
+        out,
+    );
     put_bytes(state, HOST_END, &modem);
+    asked
+}
+
+// The stream's assembly is the one assembly; the stream's own memory goes through a block.
+fn stream_of(
+    question: u8,
+    arguments: &[u8],
+    input: &[u8],
+    state: &mut [u8],
+    out: &mut [u8],
+) -> Asked {
+    if state.len() < STREAM_END {
+        return no_question();
+    }
+    let mut stream = [0u8; 4104];
+    put_run(&mut stream, 0, &state[PINS_END..STREAM_END], 4104);
+    let asked = with_stream(
+        question,
+        arguments,
+        input,
+        &mut stream,
+        &mut state[..ASSEMBLY_SIZE],
+        out,
+    );
+    put_bytes(state, PINS_END, &stream);
     asked
 }

@@ -6,7 +6,7 @@ use sample_lines::is_answer;
 use sample_lines::read_line;
 
 // No question here has a list.
-pub fn is_right(line: &[u8], state: &mut [u8; 4908]) -> bool {
+pub fn is_right(line: &[u8], state: &mut [u8; 9012]) -> bool {
     let mut question = [0u8; 1];
     let mut arguments = [0u8; 16640];
     let mut input = [0u8; 16640];

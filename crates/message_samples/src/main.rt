@@ -1,7 +1,7 @@
 // Asks the library each question about messages and both ends that stands in the sample lines on
 // standard input, and prints which of its answers are not those of the line (docs/samples.md). What
-// stays from line to line is the memory of the assembly, of the host, of the modem and of the table of
-// PINs, one after another.
+// stays from line to line is the memory of the assembly, of the host, of the modem, of the table of PINs
+// and of the stream, one after another.
 mod ask;
 mod hosts;
 mod judge;
@@ -9,6 +9,7 @@ mod messages;
 mod modems;
 mod pieces;
 mod pins;
+mod streams;
 
 use judge::is_right;
 use libc::STDIN_FILENO;
@@ -28,7 +29,7 @@ fn read_lines(bytes: &mut [u8; 1048576]) {
 }
 
 fn ask_lines(text: &[u8]) {
-    let mut state = [0u8; 4908];
+    let mut state = [0u8; 9012];
     let mut lines: usize = 0;
     let mut differing: usize = 0;
     let mut from: usize = 0;

@@ -34,7 +34,7 @@ fn receive(arguments: &[u8], input: &[u8], state: &mut [u8], out: &mut [u8]) -> 
     cvr_receive(&mut state[..size], input, &mut out[..room])
 }
 
-fn received(answer: ReceiveInfo) -> Asked {
+pub fn received(answer: ReceiveInfo) -> Asked {
     let refusal = answer.refusal;
     let message = answer.message;
     let service = message.service;

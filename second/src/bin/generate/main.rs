@@ -26,6 +26,7 @@ mod runs;
 mod samples;
 mod services;
 mod signals;
+mod streams;
 mod traces;
 mod versions;
 
@@ -69,5 +70,6 @@ fn all() -> Samples {
     pin_entries::all(&mut samples);
     pin_modems::all(&mut samples);
     asks::all(&mut samples);
+    streams::all(&mut samples);
     samples
 }

@@ -21,7 +21,7 @@ impl Samples {
         &self.payloads
     }
 
-    /// The samples of messages and of both ends.
+    /// The samples of messages, of both ends and of the stream.
     pub fn messages(&self) -> &str {
         &self.messages
     }
@@ -41,20 +41,28 @@ impl Samples {
     }
 }
 
-/// Whether a question is one of messages and of both ends.
+/// Whether a question is one of messages, of both ends and of the stream.
 fn is_message(asked: u32) -> bool {
-    (question::WHOLE_MESSAGE..=question::SHOW_MODEM).contains(&asked) || is_of_pins(asked)
+    (question::WHOLE_MESSAGE..=question::SHOW_MODEM).contains(&asked)
+        || is_of_pins(asked)
+        || is_of_stream(asked)
 }
 
 fn has_state(asked: u32) -> bool {
     (question::RECEIVE..=question::SHOW_ASSEMBLY).contains(&asked)
         || (question::MAKE_HOST..=question::SHOW_MODEM).contains(&asked)
         || is_of_pins(asked)
+        || is_of_stream(asked)
 }
 
 /// Whether a question is one of the table of PINs.
 fn is_of_pins(asked: u32) -> bool {
     (question::MAKE_PINS..=question::SHOW_PINS).contains(&asked)
+}
+
+/// Whether a question is one of the stream.
+fn is_of_stream(asked: u32) -> bool {
+    (question::STREAM_FEED..=question::SHOW_STREAM).contains(&asked)
 }
 
 /// A sample as docs/samples.md has it.

@@ -1,6 +1,6 @@
--- By the room, by whether the message goes on, then by whether the piece is a whole message's.
+-- By the room, then by whether the message goes on.
 use borrow.Author.Needs.{needs}
-use mathlib.Core.Path.{refl}
+use mathlib.Core.Path.{refl, _∙_}
 use borrow.Author.Tests.{lt-ltb, le-ltb}
 use lib.ListN.{length}
 use Rattle.wire.specs.Output.{over}
@@ -34,15 +34,7 @@ returns-2 c =
     rw (le-ltb _ _ (c .before .before .before .before .before .before .before .before .before .before .before .if1 .left), not-whole p s G, ← c .before .before .before .before .before .before .progress-at .ensures .0, amid-fits p s G, goes-on p (bufferIn m) s (length (c .before .before .before .before .before .before .before .before .before .before .before .before .before .before .before .args .out .now)) G, c .before .u32-at .ensures, c .u32-at2 .ensures) (refl, (c .before .before .before .before .go-on .ensures, refl))
 
 returns-3 : tie.Need-returns-3
-unfolding receiveIn over
-returns-3 c = rw (le-ltb _ _ (c .before .before .before .before .before .before .if1 .left), ← c .before .before .is-whole-piece .ensures, c .before .if3 .taken) (c .show-whole .ensures, (refl, refl))
-
-feed-requires : tie.Need-feed-requires
-feed-requires c κs = c .before .before .before .before .before .before .before .if1 .left
-
-returns-4 : tie.Need-returns-4
-unfolding receiveIn
-returns-4 c = rw (le-ltb _ _ (c .before .before .before .before .before .before .before .before .before .before .before .before .before .if1 .left), ← c .before .before .before .before .before .before .before .before .before .is-whole-piece .ensures, c .before .before .before .before .before .before .before .before .if3 .left, ← c .before .before .before .before .before .feed .ensures .0) (c .show-fed .ensures, c .before .before .before .before .before .feed .ensures .1)
+returns-3 c = (c .anew .ensures ∙ c .before .before .before .before .before .receive-judged .ensures .0, c .before .before .before .before .before .receive-judged .ensures .1)
 
 pub receive-spec : {M : Type 1} → statement M
-receive-spec = tie.close (tie.spec returns goes-on-in-requires progress-at-requires go-on-requires (λ c. search needs) (λ c. search needs) (λ c. search needs) returns-2 (λ c. search needs) (λ c. search needs) (λ c. search needs) returns-3 feed-requires (λ c. search needs) (λ c. search needs) (λ c. search needs) returns-4)
+receive-spec = tie.close (tie.spec returns goes-on-in-requires progress-at-requires go-on-requires (λ c. search needs) (λ c. search needs) (λ c. search needs) returns-2 (λ c. search needs) (λ c. search needs) (λ c. search needs) (λ c. search needs) returns-3)

@@ -1,0 +1,4 @@
+pub mod Stream
+pub mod Ready
+pub mod OneByOne
+pub mod Run
