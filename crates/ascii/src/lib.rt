@@ -1,5 +1,7 @@
 // Numbers and lines in ASCII text: decimal digits, bytes in hexadecimal, and how far a text goes.
 // It knows no payload.
+#![tactic(auto)]
+
 ghost use Rattle.std.specs.Prelude.{◌≡◌, ◌/◌, ◌+◌, ◌≤◌, ◌<◌, length, drop};
 ghost use Rattle.std.proofs.lemmas.List.Edits.{sets};
 ghost use Rattle.ascii.specs.Ascii.{decimal, digit_in, hex_digit, hex_value, hex_run, unhexed, glyph_of, hex_pair, agreement, through};
@@ -7,7 +9,7 @@ ghost use Rattle.ascii.specs.Ascii.{decimal, digit_in, hex_digit, hex_value, hex
 use wire::{byte_at, put_byte, put_run};
 
 // The digits of a number: those of bytes from `from` on.
-#[derive(Drop)]
+#[derive(Clone, Copy)]
 struct Digits {
     bytes: [u8; 20],
     from: usize,

@@ -11,7 +11,7 @@ use protocol::Refusal;
 use wire::u32_at;
 
 // What a piece is. `dropped` says that an unfinished message was dropped for this one.
-#[derive(Drop)]
+#[derive(Clone, Copy)]
 pub enum Received {
     Whole {
         message_type: u32,
@@ -32,13 +32,13 @@ pub enum Received {
 }
 
 // The assembly after a piece, and what the piece is.
-#[derive(Drop)]
+#[derive(Clone, Copy)]
 pub struct Receipt {
     pub assembly: Assembly,
     pub received: Received,
 }
 
-#[derive(Drop)]
+#[derive(Clone, Copy)]
 pub struct ReceiptInPlace {
     pub progress: Progress,
     pub received: Received,

@@ -1,6 +1,8 @@
 // Puts the fragments of one message together. `feed` takes and gives back the assembly by value;
 // `feed_in_place`, the core, works on a lent buffer and copies none of it. No payload is looked at.
 // `door` takes any received piece.
+#![tactic(auto)]
+
 pub mod door;
 
 ghost use Rattle.std.specs.Prelude.{◌≡◌, ◌++◌, ◌+◌, ◌≤◌, ◌<◌, length, take, replicate};
@@ -20,7 +22,7 @@ use protocol::{
 use wire::put_bytes;
 
 // How far the pending message has come: 01's assembly without its buffer. Total 0 is no message.
-#[derive(Drop)]
+#[derive(Clone, Copy)]
 pub struct Progress {
     pub message: MessageHeader,
     pub total: u32,
@@ -30,14 +32,14 @@ pub struct Progress {
 }
 
 // 01's assembly.
-#[derive(Drop)]
+#[derive(Clone, Copy)]
 pub struct Assembly {
     pub progress: Progress,
     pub bytes: [u8; 4096],
 }
 
 // What a feed answers. `dropped` says that an unfinished message was dropped for this one.
-#[derive(Drop)]
+#[derive(Clone, Copy)]
 pub enum Answer {
     Pending {
         dropped: bool,
@@ -50,13 +52,13 @@ pub enum Answer {
     Refused(Refusal),
 }
 
-#[derive(Drop)]
+#[derive(Clone, Copy)]
 pub struct Fed {
     pub assembly: Assembly,
     pub answer: Answer,
 }
 
-#[derive(Drop)]
+#[derive(Clone, Copy)]
 pub struct FedInPlace {
     pub progress: Progress,
     pub answer: Answer,
@@ -64,7 +66,7 @@ pub struct FedInPlace {
 
 // A piece that is refused, or whose information from `from` on joins the message that has come as
 // far as `progress` says.
-#[derive(Drop)]
+#[derive(Clone, Copy)]
 enum Judged {
     Refused(Refusal),
     Gathers {

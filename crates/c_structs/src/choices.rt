@@ -6,14 +6,14 @@ use handshake::{Numbered, version_at};
 use pairs::ZeroSize;
 use protocol::{OUTSIDE_TABLE, Refusal, Version};
 
-#[derive(Drop)]
+#[derive(Clone, Copy)]
 pub enum Chosen {
     By(ZeroSize),
     Refused(Refusal),
 }
 
 // What a reader with two forms is asked for.
-#[derive(Drop)]
+#[derive(Clone, Copy)]
 pub enum Reading {
     At(Version, ZeroSize),
     Refused(Refusal),

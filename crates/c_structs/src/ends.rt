@@ -12,7 +12,7 @@ use protocol::status::NO_DEVICE_SUPPORT;
 
 // What a call did to the host's end: 0 nothing, 1 opened, 2 asks VERSION, 3 settled at the version.
 #[repr(C)]
-#[derive(Drop)]
+#[derive(Clone, Copy)]
 pub struct HostInfo {
     pub refusal: Refusal,
     pub event: u32,
@@ -22,7 +22,7 @@ pub struct HostInfo {
 // The host's next command: 0 none, 1 DEVICE_SERVICES, 2 VERSION with so many payload bytes, 3 any at
 // the version.
 #[repr(C)]
-#[derive(Drop)]
+#[derive(Clone, Copy)]
 pub struct AskInfo {
     pub refusal: Refusal,
     pub command: u32,
@@ -34,7 +34,7 @@ pub struct AskInfo {
 // 3 failed it with the status, 4 doesn't know its service or CID, which stands at the place. The version
 // is the one that it is settled at, or 0.
 #[repr(C)]
-#[derive(Drop)]
+#[derive(Clone, Copy)]
 pub struct ModemInfo {
     pub refusal: Refusal,
     pub action: u32,

@@ -1,5 +1,7 @@
 // Plain structs in C's layout for records and answers, and the way from one to the other: one module
 // a payload or part. Nothing is judged here.
+#![tactic(auto)]
+
 pub mod choices;
 pub mod ends;
 pub mod messages;
@@ -19,7 +21,7 @@ use protocol::{Refusal, Verdict, Written};
 
 // What a writer answers: the length is 0 where it refuses.
 #[repr(C)]
-#[derive(Drop)]
+#[derive(Clone, Copy)]
 pub struct WrittenAnswer {
     pub refusal: Refusal,
     pub length: usize,

@@ -12,7 +12,7 @@ use protocol::service::{Kind, ServiceId};
 
 // A whole message.
 #[repr(C)]
-#[derive(Drop)]
+#[derive(Clone, Copy)]
 pub struct WholeInfo {
     pub refusal: Refusal,
     pub message_type: u32,
@@ -22,7 +22,7 @@ pub struct WholeInfo {
 
 // A message cut: how many fragments, and their length together.
 #[repr(C)]
-#[derive(Drop)]
+#[derive(Clone, Copy)]
 pub struct CutInfo {
     pub refusal: Refusal,
     pub count: u32,
@@ -31,7 +31,7 @@ pub struct CutInfo {
 
 // Which payload a message shows.
 #[repr(C)]
-#[derive(Drop)]
+#[derive(Clone, Copy)]
 pub struct KindInfo {
     pub refusal: Refusal,
     pub kind: u32,
@@ -40,7 +40,7 @@ pub struct KindInfo {
 // A piece received: 1 a whole message, 2 a fragment before others, 3 the last fragment of a message with
 // so much information. What is not known yet of a message is 0.
 #[repr(C)]
-#[derive(Drop)]
+#[derive(Clone, Copy)]
 pub struct ReceiveInfo {
     pub refusal: Refusal,
     pub received: u32,

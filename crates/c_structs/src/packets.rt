@@ -9,7 +9,7 @@ use protocol::{Refusal, Version};
 
 // What the version's form does not have is 0 in an answer, and no writer looks at it.
 #[repr(C)]
-#[derive(Drop)]
+#[derive(Clone, Copy)]
 pub struct PacketServiceInfo {
     pub version: u16,
     pub nw_error: u32,
@@ -22,7 +22,7 @@ pub struct PacketServiceInfo {
 }
 
 #[repr(C)]
-#[derive(Drop)]
+#[derive(Clone, Copy)]
 pub struct PacketServiceAnswer {
     pub refusal: Refusal,
     pub info: PacketServiceInfo,

@@ -13,7 +13,7 @@ use pin_modem::PinModemAnswer;
 use protocol::Refusal;
 
 #[repr(C)]
-#[derive(Drop)]
+#[derive(Clone, Copy)]
 pub struct SetPinAnswer {
     pub refusal: Refusal,
     pub info: SetPin,
@@ -21,7 +21,7 @@ pub struct SetPinAnswer {
 }
 
 #[repr(C)]
-#[derive(Drop)]
+#[derive(Clone, Copy)]
 pub struct PinInfoAnswer {
     pub refusal: Refusal,
     pub info: PinInfo,
@@ -29,7 +29,7 @@ pub struct PinInfoAnswer {
 
 // What an entry is answered: a status, and whether PIN_INFO is shown with it, 1 or 0.
 #[repr(C)]
-#[derive(Drop)]
+#[derive(Clone, Copy)]
 pub struct EntryAnswer {
     pub refusal: Refusal,
     pub status: u32,

@@ -9,7 +9,7 @@ use signal_quality::{Bars, Reading, ReadingRead};
 // 1 dBm, 2 dB, 3 below the range, with its edge, 4 unknown; 0 where refused. The value is 0 where
 // there is none.
 #[repr(C)]
-#[derive(Drop)]
+#[derive(Clone, Copy)]
 pub struct ReadingInfo {
     pub refusal: Refusal,
     pub kind: u32,
@@ -18,7 +18,7 @@ pub struct ReadingInfo {
 
 // 1 where there are bars, 0 where the RSSI is no reading or refused.
 #[repr(C)]
-#[derive(Drop)]
+#[derive(Clone, Copy)]
 pub struct BarsInfo {
     pub refusal: Refusal,
     pub reading: u32,

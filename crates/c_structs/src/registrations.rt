@@ -12,7 +12,7 @@ use registration::{
 
 // What the version's form does not have is 0 in an answer, and no writer looks at it.
 #[repr(C)]
-#[derive(Drop)]
+#[derive(Clone, Copy)]
 pub struct RegistrationInfo {
     pub version: u16,
     pub nw_error: u32,
@@ -25,7 +25,7 @@ pub struct RegistrationInfo {
 }
 
 #[repr(C)]
-#[derive(Drop)]
+#[derive(Clone, Copy)]
 pub struct RegistrationAnswer {
     pub refusal: Refusal,
     pub info: RegistrationInfo,

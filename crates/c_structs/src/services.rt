@@ -11,7 +11,7 @@ use services_query::all::AllAnswer;
 use services_query::{ElementAnswer, ListedAnswer};
 
 #[repr(C)]
-#[derive(Drop)]
+#[derive(Clone, Copy)]
 pub struct DeviceServicesAnswer {
     pub refusal: Refusal,
     pub info: DeviceServices,
@@ -19,7 +19,7 @@ pub struct DeviceServicesAnswer {
 
 // 1 and the element, or 0 where it is not listed.
 #[repr(C)]
-#[derive(Drop)]
+#[derive(Clone, Copy)]
 pub struct ElementInfo {
     pub refusal: Refusal,
     pub listed: u32,
@@ -28,7 +28,7 @@ pub struct ElementInfo {
 
 // 1 where it is listed, else 0.
 #[repr(C)]
-#[derive(Drop)]
+#[derive(Clone, Copy)]
 pub struct ListedInfo {
     pub refusal: Refusal,
     pub listed: u32,
@@ -36,7 +36,7 @@ pub struct ListedInfo {
 
 // 1 and the position where it is listed, else 0.
 #[repr(C)]
-#[derive(Drop)]
+#[derive(Clone, Copy)]
 pub struct PositionInfo {
     pub refusal: Refusal,
     pub listed: u32,
@@ -46,7 +46,7 @@ pub struct PositionInfo {
 
 // How many elements and CIDs stand at the fronts of the caller's lists.
 #[repr(C)]
-#[derive(Drop)]
+#[derive(Clone, Copy)]
 pub struct AllInfo {
     pub refusal: Refusal,
     pub elements: u32,

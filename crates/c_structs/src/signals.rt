@@ -12,7 +12,7 @@ use signal_state::{
 // What the version's form does not have is 0 in an answer, and no writer looks at it; the same holds
 // of the entries past the count.
 #[repr(C)]
-#[derive(Drop)]
+#[derive(Clone, Copy)]
 pub struct SignalStateInfo {
     pub version: u16,
     pub rssi: u32,
@@ -25,7 +25,7 @@ pub struct SignalStateInfo {
 }
 
 #[repr(C)]
-#[derive(Drop)]
+#[derive(Clone, Copy)]
 pub struct SignalStateAnswer {
     pub refusal: Refusal,
     pub info: SignalStateInfo,

@@ -12,7 +12,7 @@ use stream::Said;
 // A chunk fed: the piece that was taken, as far as one is whole, or a refusal of the stream's own; how
 // many bytes were taken, refused or not; and whether the stream has ended.
 #[repr(C)]
-#[derive(Drop)]
+#[derive(Clone, Copy)]
 pub struct StreamInfo {
     pub piece: ReceiveInfo,
     pub taken: usize,

@@ -7,7 +7,7 @@ use protocol::Refusal;
 use version_info::{VersionInfo, VersionInfoRead};
 
 #[repr(C)]
-#[derive(Drop)]
+#[derive(Clone, Copy)]
 pub struct VersionInfoAnswer {
     pub refusal: Refusal,
     pub info: VersionInfo,

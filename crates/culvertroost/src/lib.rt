@@ -1,5 +1,7 @@
 // The C library: what other languages call, one module a payload or part. Each function is total; a
 // slice is a pointer and a length, and a struct passes by value in C's layout.
+#![tactic(auto)]
+
 pub mod assembly;
 pub mod hosts;
 pub mod messages;

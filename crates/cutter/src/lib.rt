@@ -1,5 +1,7 @@
 // Cuts a message into fragments, all written one after another into the caller's output, and counts
 // transactions. What the service, the CID, a reply's status and the information say is not looked at.
+#![tactic(auto)]
+
 ghost use Rattle.std.specs.Prelude.{◌≡◌, ◌+◌, ◌-◌, ◌^◌, ◌<◌, ◌≤◌, min, length, take, drop};
 ghost use Rattle.std.proofs.lemmas.List.Edits.{sets};
 ghost use Rattle.protocol.specs.Verdict.{judge};
@@ -21,7 +23,7 @@ pub const LEAST_TRANSFER: usize = 64;
 
 // What the cutter answers: how many fragments it put at the front of the output and their length
 // together, or a refusal.
-#[derive(Drop)]
+#[derive(Clone, Copy)]
 pub enum Cutting {
     Fragments { count: u32, length: usize },
     Refused(Refusal),

@@ -1,5 +1,7 @@
 // The DEVICE_SERVICES payload: its reader, the judge of one element, and an element's fields.
 // Questions to the list and the writer stand in crates of their own.
+#![tactic(auto)]
+
 ghost use Rattle.std.specs.Prelude.{◌≡◌, ◌≤◌, min, length};
 ghost use Rattle.device_services.specs.DeviceServices.{count_of, head_at, pair_place, offset_of, cid_count_at, element_at, cid_at, length_verdict, part_verdict, element_judged_with, element_judged, verdict_with, verdict_of, read_with, read_of};
 
@@ -11,7 +13,7 @@ use wire::u32_at;
 
 // What stands before the pairs.
 #[repr(C)]
-#[derive(Drop)]
+#[derive(Clone, Copy)]
 pub struct DeviceServices {
     pub device_services_count: u32,
     pub max_dss_sessions: u32,
@@ -19,7 +21,7 @@ pub struct DeviceServices {
 
 // What an element has besides its CIDs.
 #[repr(C)]
-#[derive(Drop)]
+#[derive(Clone, Copy)]
 pub struct DeviceService {
     pub device_service_id: ServiceId,
     pub dss_payload: u32,
@@ -27,14 +29,14 @@ pub struct DeviceService {
     pub cid_count: u32,
 }
 
-#[derive(Drop)]
+#[derive(Clone, Copy)]
 pub enum DeviceServicesRead {
     Info(DeviceServices),
     Refused(Refusal),
 }
 
 // What is said of an element by its number: not listed, where the list has none of that number.
-#[derive(Drop)]
+#[derive(Clone, Copy)]
 pub enum ElementJudged {
     Fits,
     NotListed,

@@ -1,5 +1,7 @@
 // Whole runs: what the cutter gives, the assembler puts together again. The claims stand in specs/
 // and proofs/.
+#![tactic(auto)]
+
 ghost use Rattle.std.specs.Prelude.{◌≡◌, ◌+◌, ◌-◌, ◌≤◌, min, length};
 ghost use Rattle.exchange.specs.Messages.{parts};
 ghost use Rattle.cutter.specs.Cut.{cut_of};

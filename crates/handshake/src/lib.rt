@@ -1,6 +1,7 @@
 // The handshake: how host and modem settle on a version of the extensions. Each end is a value that
 // its calls take and give back, and takes received messages as header and information. Fragments,
 // time and which reply belongs to which command are not known here.
+#![tactic(auto)]
 
 ghost use Rattle.std.specs.Prelude.{◌≡◌};
 ghost use Rattle.handshake.specs.Versions.{number_of, number_verdict, version_of, numbered, info_of, larger, lower, above, is_later};
@@ -11,14 +12,14 @@ use protocol::{Refusal, Verdict, Version, WRONG_VERSION, also};
 use version_info::{EXTENSIONS_1_0, EXTENSIONS_2_0, MBIM_1_0, VersionInfo, is_extension};
 
 // What a BCD number stands for.
-#[derive(Drop)]
+#[derive(Clone, Copy)]
 pub enum Numbered {
     At(Version),
     Refused(Refusal),
 }
 
 // What a command is to the handshake.
-#[derive(Drop)]
+#[derive(Clone, Copy)]
 pub enum Role {
     Services,
     Version,

@@ -1,5 +1,7 @@
 // The host's end: it reads the modem's list of services first, asks VERSION where the rule says so,
 // and then keeps the version that it settled on until it is opened or closed again.
+#![tactic(auto)]
+
 ghost use Rattle.std.specs.Prelude.{◌≡◌, ◌&&◌, not};
 ghost use Rattle.protocol.specs.Verdict.{judge};
 ghost use Rattle.handshake.specs.Versions.{is_later};
@@ -14,7 +16,7 @@ use services_ask::{PositionAnswer, ask};
 use version_info::VersionInfoRead;
 
 // How far the handshake is.
-#[derive(Drop)]
+#[derive(Clone, Copy)]
 pub enum HostStage {
     Closed,
     // Open to a modem that advertises a version; no list was accepted yet.
@@ -25,20 +27,20 @@ pub enum HostStage {
 }
 
 // 01's end of a host.
-#[derive(Drop)]
+#[derive(Clone, Copy)]
 pub struct Host {
     pub native: Version,
     pub stage: HostStage,
 }
 
-#[derive(Drop)]
+#[derive(Clone, Copy)]
 pub enum HostMade {
     Made(Host),
     Refused(Refusal),
 }
 
 // What a call did to the handshake.
-#[derive(Drop)]
+#[derive(Clone, Copy)]
 pub enum HostAnswer {
     Unchanged,
     Opened,
@@ -48,14 +50,14 @@ pub enum HostAnswer {
 }
 
 // The end after a call, and the call's answer.
-#[derive(Drop)]
+#[derive(Clone, Copy)]
 pub struct HostStep {
     pub host: Host,
     pub answer: HostAnswer,
 }
 
 // The next command.
-#[derive(Drop)]
+#[derive(Clone, Copy)]
 pub enum Ask {
     // None before the host is open.
     Nothing,

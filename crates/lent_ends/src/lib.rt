@@ -1,5 +1,6 @@
 // The ends of the handshake in memory that the caller lends, 6 bytes a host and 10 a modem. Memory that
 // is too small, or whose numbers no calls can have left, is refused and stays as it was.
+#![tactic(auto)]
 
 ghost use Rattle.std.specs.Prelude.{◌≡◌, ◌&&◌};
 ghost use Rattle.protocol.specs.Verdict.{judge};

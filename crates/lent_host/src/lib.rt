@@ -1,4 +1,6 @@
 // The host's end in 6 bytes: its native version, its stage and the stage's version, 16 bits each.
+#![tactic(auto)]
+
 ghost use Rattle.std.specs.Prelude.{◌≡◌};
 ghost use Rattle.std.proofs.lemmas.List.Edits.{sets};
 ghost use Rattle.protocol.specs.Verdict.{judge};
@@ -21,7 +23,7 @@ const STAGE: usize = 2;
 const VERSION: usize = 4;
 
 // What the memory holds.
-#[derive(Drop)]
+#[derive(Clone, Copy)]
 enum HostHeld {
     Held(Host),
     Refused(Refusal),

@@ -1,5 +1,7 @@
 // The modem's end in 10 bytes: its native and its advertised version, whether it lists VERSION, its
 // stage and the version that it settled on, 16 bits each.
+#![tactic(auto)]
+
 ghost use Rattle.std.specs.Prelude.{◌≡◌, not, eqb};
 ghost use Rattle.std.proofs.lemmas.List.Edits.{sets};
 ghost use Rattle.wire.specs.Numbers.{u16_at};
@@ -34,14 +36,14 @@ const LISTED: u16 = 1;
 const SETTLED: u16 = 2;
 
 // What the memory holds.
-#[derive(Drop)]
+#[derive(Clone, Copy)]
 pub enum ModemHeld {
     Held(Modem),
     Refused(Refusal),
 }
 
 // What a message is answered, and the stage of the end after it.
-#[derive(Drop)]
+#[derive(Clone, Copy)]
 pub struct ModemReply {
     pub answer: ModemAnswer,
     pub stage: ModemStage,

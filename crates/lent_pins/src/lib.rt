@@ -2,6 +2,8 @@
 // entered, and the length of its secret, a byte each; its tries and their starting number, 32 bits
 // each; the secret, zero behind it. Memory that is too small, or with a flag, a length or tries that
 // no call leaves, is refused and stays as it was.
+#![tactic(auto)]
+
 pub mod modems;
 
 ghost use Rattle.std.specs.Prelude.{◌≡◌, ◌+◌, ◌≤◌, min, length, take};

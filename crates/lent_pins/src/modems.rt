@@ -16,7 +16,7 @@ use pin_modem::{PinModemAnswer, PinModemStep, is_entry, serve};
 use protocol::{Refusal, Verdict};
 
 // What a message is answered, and the stage of the end after it.
-#[derive(Drop)]
+#[derive(Clone, Copy)]
 pub struct PinReply {
     pub answer: PinModemAnswer,
     pub stage: ModemStage,

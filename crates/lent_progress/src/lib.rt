@@ -1,4 +1,6 @@
 // The numbers of an assembly in lent memory, judged: what no feeds from empty can have left is refused.
+#![tactic(auto)]
+
 ghost use Rattle.std.specs.Prelude.{◌≡◌};
 ghost use Rattle.protocol.specs.Verdict.{judge};
 ghost use Rattle.lent_progress.specs.LentProgress.{is_none, stray_word, above_carried, pending_rules, progress_verdict};

@@ -1,6 +1,8 @@
 // A stream in memory that the caller lends: 4,104 bytes of its own, how many bytes it holds, whether it
 // ended and its piece buffer, and beside them the memory of its assembly. All zero is an empty stream.
 // Memory that is too small, or that no calls can have left, is refused and stays as it was.
+#![tactic(auto)]
+
 ghost use Rattle.std.specs.Prelude.{◌≡◌, false, eqb, length, drop};
 ghost use Rattle.std.proofs.lemmas.List.Edits.{sets};
 ghost use Rattle.wire.specs.Numbers.{u32_at};
@@ -33,7 +35,7 @@ const PIECE: usize = 8;
 const MOST_HELD: usize = 4095;
 
 // What a call answers, and how many bytes of the chunk it took.
-#[derive(Drop)]
+#[derive(Clone, Copy)]
 pub struct FedLent {
     pub said: Said,
     pub taken: usize,

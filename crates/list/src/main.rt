@@ -1,5 +1,7 @@
 // Reads request lines from standard input and writes the listing of each. It only reads and writes;
 // every byte of a listing is the library's.
+#![tactic(auto)]
+
 ghost use Rattle.std.specs.Prelude.{◌≤◌};
 
 use libc::{STDIN_FILENO, STDOUT_FILENO};
@@ -7,7 +9,7 @@ use listing::lines::collect;
 use listing::list_line;
 
 // How many bytes of an unfinished line are kept, and whether there may be more to answer.
-#[derive(Drop)]
+#[derive(Clone, Copy)]
 struct Answered {
     have: usize,
     goes_on: bool,

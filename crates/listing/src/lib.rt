@@ -1,5 +1,7 @@
 // The text of a listing: one request line in, the listing of its payload out. It neither reads nor
 // writes a file; the program `list` does.
+#![tactic(auto)]
+
 pub mod lines;
 
 ghost use Rattle.std.specs.Prelude.{◌≡◌, ◌+◌, ◌≤◌, length};

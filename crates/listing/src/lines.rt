@@ -7,7 +7,7 @@ use ascii::length_through;
 use wire::{byte_at, put_run};
 
 // Where the chunk goes on, how many bytes of the line are kept, and whether it has ended.
-#[derive(Drop)]
+#[derive(Clone, Copy)]
 pub struct Collected {
     pub next: usize,
     pub have: usize,

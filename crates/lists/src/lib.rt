@@ -1,5 +1,7 @@
 // A list behind a pair: a count, and as many elements of one size. What stands in an element is
 // judged where it is known.
+#![tactic(auto)]
+
 ghost use Rattle.std.specs.Prelude.{◌≡◌};
 ghost use Rattle.protocol.specs.Verdict.{judge as judged};
 ghost use Rattle.pairs.specs.Pair.{range_at};
@@ -10,7 +12,7 @@ use protocol::{Refusal, Verdict, WRONG_COUNT, WRONG_SIZE, also};
 use wire::u32_at;
 
 // What lists of one kind are like.
-#[derive(Drop)]
+#[derive(Clone, Copy)]
 pub struct ListForm {
     // The most bytes.
     pub limit: u32,

@@ -1,5 +1,7 @@
 // Headers of messages, judged by themselves: of a whole message, which is also written here, and of
 // one fragment. No fragment is put together here, and no payload is looked at.
+#![tactic(auto)]
+
 ghost use Rattle.std.specs.Prelude.{◌≡◌, ◌+◌, ◌-◌};
 ghost use Rattle.std.proofs.lemmas.List.Edits.{sets};
 ghost use Rattle.message.specs.Message.{whole_length, whole_word_at, whole_of, head_bytes, whole_bytes, write_whole_of, is_whole_piece, length_place, wrong_total, header_of, word_at, message_at, wrong_word, wrong_amount, first_header_of, opened_by, fragment_of};
@@ -19,7 +21,7 @@ pub const MOST_FRAGMENTS: u32 = 128;
 
 // A whole message. The word is its one number: OPEN's transfer size, a reply's status, an error's
 // code; CLOSE has none and shows 0.
-#[derive(Drop)]
+#[derive(Clone, Copy)]
 pub enum Whole {
     Message {
         message_type: u32,
@@ -30,7 +32,7 @@ pub enum Whole {
 }
 
 // What every fragment's header says.
-#[derive(Drop)]
+#[derive(Clone, Copy)]
 pub struct FragmentHeader {
     pub message_type: u32,
     pub transaction: u32,
@@ -39,7 +41,7 @@ pub struct FragmentHeader {
 }
 
 // A fragment judged on its own header alone.
-#[derive(Drop)]
+#[derive(Clone, Copy)]
 enum Header {
     Fits(FragmentHeader),
     Refused(Refusal),
@@ -48,7 +50,7 @@ enum Header {
 // A fragmented message without its information. The word is a command's type or a reply's status;
 // an indication has none and shows 0.
 #[repr(C)]
-#[derive(Drop)]
+#[derive(Clone, Copy)]
 pub struct MessageHeader {
     pub message_type: u32,
     pub transaction: u32,
@@ -58,20 +60,20 @@ pub struct MessageHeader {
 }
 
 // What a first fragment's header says: the message, and how much information it declares.
-#[derive(Drop)]
+#[derive(Clone, Copy)]
 pub struct FirstHeader {
     pub message: MessageHeader,
     pub information_length: u32,
 }
 
-#[derive(Drop)]
+#[derive(Clone, Copy)]
 enum First {
     Header(FirstHeader),
     Refused(Refusal),
 }
 
 // One fragment: the first of its message, or a later one.
-#[derive(Drop)]
+#[derive(Clone, Copy)]
 pub enum Fragment {
     First {
         header: FragmentHeader,

@@ -2,6 +2,8 @@
 // standard input, and prints which of its answers are not those of the line (docs/samples.md). What
 // stays from line to line is the memory of the assembly, of the host, of the modem, of the table of PINs
 // and of the stream, one after another.
+#![tactic(auto)]
+
 mod ask;
 mod hosts;
 mod judge;

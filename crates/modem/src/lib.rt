@@ -1,5 +1,7 @@
 // The modem's end: it serves its list of services first, answers VERSION or takes another first
 // command as the rule says, and then keeps the version that it settled on.
+#![tactic(auto)]
+
 ghost use Rattle.std.specs.Prelude.{◌≡◌};
 ghost use Rattle.protocol.specs.Verdict.{judge};
 ghost use Rattle.version_info.specs.VersionInfo.{read_of};
@@ -19,7 +21,7 @@ use services_query::{ListedAnswer, is_listed};
 use version_info::VersionInfoRead;
 
 // How far the handshake is.
-#[derive(Drop)]
+#[derive(Clone, Copy)]
 pub enum ModemStage {
     Start,
     // The list of services was served; the first other command is awaited.
@@ -28,7 +30,7 @@ pub enum ModemStage {
 }
 
 // 01's end of a modem. `lists_version` says whether VERSION is in its own list of services.
-#[derive(Drop)]
+#[derive(Clone, Copy)]
 pub struct Modem {
     pub native: Version,
     pub advertised: Version,
@@ -36,14 +38,14 @@ pub struct Modem {
     pub stage: ModemStage,
 }
 
-#[derive(Drop)]
+#[derive(Clone, Copy)]
 pub enum ModemMade {
     Made(Modem),
     Refused(Refusal),
 }
 
 // What a command is answered.
-#[derive(Drop)]
+#[derive(Clone, Copy)]
 pub enum ModemAnswer {
     // The handshake lets the command through: it is to be served.
     Serve(Kind),
@@ -58,7 +60,7 @@ pub enum ModemAnswer {
 }
 
 // The end after a command, and the answer.
-#[derive(Drop)]
+#[derive(Clone, Copy)]
 pub struct ModemStep {
     pub modem: Modem,
     pub answer: ModemAnswer,

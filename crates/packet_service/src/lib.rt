@@ -1,4 +1,6 @@
 // The PACKET_SERVICE payload: its record, and a reader and a writer of both forms.
+#![tactic(auto)]
+
 ghost use Rattle.std.specs.Prelude.{◌≡◌};
 ghost use Rattle.std.proofs.lemmas.List.Edits.{sets};
 ghost use Rattle.protocol.specs.Verdict.{exact_length, judge};
@@ -12,7 +14,7 @@ use protocol::{
 use wire::{put_u32, put_u64, u32_at, u64_at};
 
 // What only one form has.
-#[derive(Drop)]
+#[derive(Clone, Copy)]
 pub enum PacketForm {
     V1 {
         highest_available_data_class: u32,
@@ -23,7 +25,7 @@ pub enum PacketForm {
     },
 }
 
-#[derive(Drop)]
+#[derive(Clone, Copy)]
 pub struct PacketService {
     pub nw_error: u32,
     pub packet_service_state: u32,
@@ -32,7 +34,7 @@ pub struct PacketService {
     pub form: PacketForm,
 }
 
-#[derive(Drop)]
+#[derive(Clone, Copy)]
 pub enum PacketServiceRead {
     Info(PacketService),
     Refused(Refusal),

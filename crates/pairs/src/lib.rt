@@ -1,5 +1,7 @@
 // One offset/size pair of a payload: judged as a reader meets it, and placed as a writer puts it.
 // The texts of a record are judged in crate `texts`, a list behind a pair in `lists`.
+#![tactic(auto)]
+
 ghost use Rattle.std.specs.Prelude.{◌≡◌};
 ghost use Rattle.std.proofs.lemmas.List.Edits.{sets};
 ghost use Rattle.pairs.specs.Pair.{if_strict, range_at, part_of, unfit, verdict_of, padded, placed, shown_at, range_bytes};
@@ -12,7 +14,7 @@ use wire::{put_u32, u32_at};
 
 // 01's pair. An accepted one shows `length` bytes of the payload from `start`; absent is (0, 0).
 #[repr(C)]
-#[derive(Drop)]
+#[derive(Clone, Copy)]
 pub struct Range {
     pub start: u32,
     pub length: u32,
@@ -22,7 +24,7 @@ pub struct Range {
 pub const PAIR_SIZE: usize = 8;
 
 // What a pair is of: a text has an even size.
-#[derive(Drop)]
+#[derive(Clone, Copy)]
 pub enum PairKind {
     Text,
     List,
@@ -30,7 +32,7 @@ pub enum PairKind {
 
 // The reader's choice: a pair of size 0 is absent whatever its offset, or refused where it has one.
 // What reads without a choice reads by the first.
-#[derive(Drop)]
+#[derive(Clone, Copy)]
 pub enum ZeroSize {
     Absent,
     Strict,

@@ -1,5 +1,7 @@
 // Which payload an assembled message shows. The payload itself is read elsewhere, at a version that
 // its reader chooses.
+#![tactic(auto)]
+
 ghost use Rattle.std.specs.Prelude.{◌≡◌};
 ghost use Rattle.protocol.specs.Service.{kind_of};
 ghost use Rattle.payload.specs.Payload.{command_way, done_way, way_of, row_of, shown_in, shown_by, shown_of};
@@ -11,7 +13,7 @@ use protocol::status::{FAILURE, SUCCESS};
 use protocol::{Refusal, UNKNOWN};
 
 // What a message shows: a payload of some kind, none, or the refusal of its type, service or CID.
-#[derive(Drop)]
+#[derive(Clone, Copy)]
 pub enum Shown {
     Payload(Kind),
     NoPayload,
@@ -20,7 +22,7 @@ pub enum Shown {
 
 // Which way a message goes: an answer is a DONE of status 0 or an indication, a failed one a DONE of
 // status 2. A query is any COMMAND that is no set.
-#[derive(Drop)]
+#[derive(Clone, Copy)]
 enum Way {
     Query,
     Set,

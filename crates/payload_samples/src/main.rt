@@ -1,5 +1,7 @@
 // Asks the library each question about payloads and readings that stands in the sample lines on
 // standard input, and prints which of its answers are not those of the line (docs/samples.md).
+#![tactic(auto)]
+
 mod ask;
 mod judge;
 mod pins;

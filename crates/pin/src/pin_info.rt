@@ -9,14 +9,14 @@ use protocol::{
 use wire::{put_u32, u32_at};
 
 #[repr(C)]
-#[derive(Drop)]
+#[derive(Clone, Copy)]
 pub struct PinInfo {
     pub pin_type: u32,
     pub pin_state: u32,
     pub remaining_attempts: u32,
 }
 
-#[derive(Drop)]
+#[derive(Clone, Copy)]
 pub enum PinInfoRead {
     Info(PinInfo),
     Refused(Refusal),

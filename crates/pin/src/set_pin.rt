@@ -16,20 +16,20 @@ use texts::{judge_sizes, judge_texts, judged_text, put_pair, put_text, start_of}
 use wire::{put_u32, u32_at};
 
 #[repr(C)]
-#[derive(Drop)]
+#[derive(Clone, Copy)]
 pub struct SetPin {
     pub pin_type: u32,
     pub pin_operation: u32,
 }
 
 #[repr(C)]
-#[derive(Drop)]
+#[derive(Clone, Copy)]
 pub struct SetPinTexts {
     pub pin: Range,
     pub new_pin: Range,
 }
 
-#[derive(Drop)]
+#[derive(Clone, Copy)]
 pub enum SetPinRead {
     Info(SetPin, SetPinTexts),
     Refused(Refusal),

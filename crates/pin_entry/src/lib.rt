@@ -1,5 +1,7 @@
 // PIN entry in the model: a table of PINs and PUKs that an entry takes and gives back by value. An
 // entry is a SET_PIN payload; messages are not known here.
+#![tactic(auto)]
+
 pub mod starts;
 
 ghost use Rattle.std.specs.Prelude.{◌≡◌, ◌-◌, ◌≤◌, ◌<◌, true, ◌&&◌, length, take};
@@ -15,7 +17,7 @@ use protocol::status::{FAILURE, NO_DEVICE_SUPPORT, SUCCESS};
 use wire::{byte_at, put_bytes};
 
 // A PIN or a PUK. The first `secret_length` bytes of `secret` count.
-#[derive(Drop)]
+#[derive(Clone, Copy)]
 pub struct PinRow {
     pub present: bool,
     pub enabled: bool,
@@ -27,13 +29,13 @@ pub struct PinRow {
 }
 
 // A row for each of the types 1 to 17, in that order.
-#[derive(Drop)]
+#[derive(Clone, Copy)]
 pub struct PinTable {
     pub rows: [PinRow; 17],
 }
 
 // What an entry is answered.
-#[derive(Drop)]
+#[derive(Clone, Copy)]
 pub enum PinAnswer {
     // A status with PIN_INFO.
     Info { status: u32, info: PinInfo },
@@ -44,7 +46,7 @@ pub enum PinAnswer {
 }
 
 // The table after an entry, and the answer.
-#[derive(Drop)]
+#[derive(Clone, Copy)]
 pub struct Entered {
     pub table: PinTable,
     pub answer: PinAnswer,

@@ -11,7 +11,7 @@ use protocol::{OUTSIDE_TABLE, Verdict, WRONG_SIZE, also};
 // A PIN or a PUK. `present` and `enabled` are 0 or 1; the first `secret_length` bytes of `secret`
 // count. Of a row that is not present nothing else is used.
 #[repr(C)]
-#[derive(Drop)]
+#[derive(Clone, Copy)]
 pub struct PinStart {
     pub present: u32,
     pub enabled: u32,
@@ -22,13 +22,13 @@ pub struct PinStart {
 
 // A row for each of the types 1 to 17, in that order.
 #[repr(C)]
-#[derive(Drop)]
+#[derive(Clone, Copy)]
 pub struct PinStarts {
     pub rows: [PinStart; 17],
 }
 
 // A table made, and the verdict on what it was made of; a refused one has no rows.
-#[derive(Drop)]
+#[derive(Clone, Copy)]
 pub struct PinsMade {
     pub verdict: Verdict,
     pub table: PinTable,

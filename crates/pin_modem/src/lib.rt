@@ -1,5 +1,7 @@
 // The modem's end with a table of PINs: a set of CID 4 that the handshake lets through is an entry.
 // Everything else is as the modem's end answers it.
+#![tactic(auto)]
+
 ghost use Rattle.std.specs.Prelude.{◌≡◌};
 ghost use Rattle.pin_entry.specs.Meaning.{table_of, enter_of};
 ghost use Rattle.pin_modem.specs.PinModem.{is_pin, serves_pin, is_entry, serving_of, reply_of, serve_of, receive_of};
@@ -15,7 +17,7 @@ use protocol::status::NO_DEVICE_SUPPORT;
 use protocol::{Refusal, Written};
 
 // What a message is answered.
-#[derive(Drop)]
+#[derive(Clone, Copy)]
 pub enum PinModemAnswer {
     // As the modem's end answers it.
     Modem(ModemAnswer),
@@ -24,7 +26,7 @@ pub enum PinModemAnswer {
 }
 
 // The end and the table after a message, and the answer.
-#[derive(Drop)]
+#[derive(Clone, Copy)]
 pub struct PinModemStep {
     pub modem: Modem,
     pub table: PinTable,

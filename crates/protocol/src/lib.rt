@@ -1,5 +1,7 @@
 // What document 01 fixes for every payload and message: versions, refusals and verdicts here; data
 // classes, message types, statuses, and services with their CIDs in modules. No payload is known here.
+#![tactic(auto)]
+
 pub mod data_class;
 pub mod message_type;
 pub mod service;
@@ -9,7 +11,7 @@ ghost use Rattle.std.specs.Prelude.{◌≡◌};
 ghost use Rattle.protocol.specs.Verdict.{first_of, fault_if, exact_length, open_length};
 
 // The version of the extensions: 1.00 or 2.00.
-#[derive(Drop)]
+#[derive(Clone, Copy)]
 pub enum Version {
     V1,
     V2,
@@ -17,7 +19,7 @@ pub enum Version {
 
 // 01's refusal: a number of its table and a place, a byte offset where 01 or 02 says no other.
 #[repr(C)]
-#[derive(Drop)]
+#[derive(Clone, Copy)]
 pub struct Refusal {
     pub number: u32,
     pub place: usize,
@@ -66,14 +68,14 @@ pub const BAD_LINE: u32 = 19;
 pub const MOST_INFORMATION: usize = 4096;
 
 // What a judge finds: all rules are kept, or the refusal of the first one broken.
-#[derive(Drop)]
+#[derive(Clone, Copy)]
 pub enum Verdict {
     Fits,
     Fault(Refusal),
 }
 
 // What a writer answers: how many bytes it put at the front of the output, or a refusal.
-#[derive(Drop)]
+#[derive(Clone, Copy)]
 pub enum Written {
     Length(usize),
     Refused(Refusal),

@@ -8,7 +8,7 @@ use wire::{put_u32, u32_at};
 
 // The 16 bytes of a service id in printed order, as four little-endian words.
 #[repr(C)]
-#[derive(Drop)]
+#[derive(Clone, Copy)]
 pub struct ServiceId {
     pub word0: u32,
     pub word1: u32,
@@ -17,7 +17,7 @@ pub struct ServiceId {
 }
 
 // A payload that this library reads and writes.
-#[derive(Drop)]
+#[derive(Clone, Copy)]
 pub enum Kind {
     RegisterState,
     PacketService,
@@ -29,7 +29,7 @@ pub enum Kind {
 }
 
 // What a service and a CID stand for: the payload that its answers carry.
-#[derive(Drop)]
+#[derive(Clone, Copy)]
 pub enum Carried {
     Payload(Kind),
     Refused(Refusal),

@@ -1,5 +1,7 @@
 // The REGISTER_STATE payload: its record, and a reader of both forms; the writer is in
 // `registration_writer`. Texts are shown as ranges of the payload; what stands in one is not judged.
+#![tactic(auto)]
+
 ghost use Rattle.std.specs.Prelude.{◌≡◌, length};
 ghost use Rattle.protocol.specs.Verdict.{first_of, judge};
 ghost use Rattle.protocol.specs.declared.Verdict.TheVariants.{Fits};
@@ -14,13 +16,13 @@ use texts::{judge_texts, judged_text};
 use wire::u32_at;
 
 // What only one form has.
-#[derive(Drop)]
+#[derive(Clone, Copy)]
 pub enum RegistrationForm {
     V1,
     V2 { preferred_data_class: u32 },
 }
 
-#[derive(Drop)]
+#[derive(Clone, Copy)]
 pub struct Registration {
     pub nw_error: u32,
     pub register_state: u32,
@@ -32,14 +34,14 @@ pub struct Registration {
 }
 
 #[repr(C)]
-#[derive(Drop)]
+#[derive(Clone, Copy)]
 pub struct RegistrationTexts {
     pub provider_id: Range,
     pub provider_name: Range,
     pub roaming_text: Range,
 }
 
-#[derive(Drop)]
+#[derive(Clone, Copy)]
 pub enum RegistrationRead {
     Info(Registration, RegistrationTexts),
     Refused(Refusal),

@@ -1,4 +1,6 @@
 // The writer of the REGISTER_STATE payload; what it writes is said beside the reader, in `registration`.
+#![tactic(auto)]
+
 ghost use Rattle.std.specs.Prelude.{◌≡◌, ◌≤◌, length};
 ghost use Rattle.std.proofs.lemmas.List.Edits.{sets};
 ghost use Rattle.protocol.specs.Verdict.{judge};

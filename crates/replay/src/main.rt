@@ -1,5 +1,7 @@
 // Reads a station's trace from standard input and writes what came of each of its lines. It only reads
 // and writes; every byte of the output is the library's.
+#![tactic(auto)]
+
 ghost use Rattle.std.specs.Prelude.{◌≡◌, ◌≤◌};
 
 use libc::{STDIN_FILENO, STDOUT_FILENO};
@@ -9,7 +11,7 @@ use trace_step::Replay;
 
 // What stands from line to line; the number of the last line, how many bytes of an unfinished one are
 // kept, how much of the output waits to be written, and whether there may be more.
-#[derive(Drop)]
+#[derive(Clone, Copy)]
 struct Session {
     replay: Replay,
     number: u64,

@@ -1,4 +1,6 @@
 // One request line: kind, tab, version, tab, the payload in hexadecimal, line feed.
+#![tactic(auto)]
+
 ghost use Rattle.std.specs.Prelude.{◌≡◌, ◌≤◌};
 ghost use Rattle.text_parts.specs.Words.{reach_from};
 ghost use Rattle.request_line.specs.Request.{kind_words, version_words, kind_of, kind_length, version_of, payload_at, request_of};
@@ -7,7 +9,7 @@ use protocol::Version;
 use text_parts::{LineEnd, Reached, also_word, line_end_at};
 
 // What a listing can be asked of.
-#[derive(Drop)]
+#[derive(Clone, Copy)]
 pub enum ListingKind {
     PacketService,
     Version,
@@ -18,7 +20,7 @@ pub enum ListingKind {
     PinInfo,
 }
 
-#[derive(Drop)]
+#[derive(Clone, Copy)]
 pub enum Request {
     // The payload's digits stand in the line from `from` on.
     Payload {

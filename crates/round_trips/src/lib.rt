@@ -1,6 +1,8 @@
 // The writers again, with the promise that what they write reads back. The theorems of a round trip
 // ask that each number of a record is of its width; of a record that a program holds this is so, and
 // here nothing is asked.
+#![tactic(auto)]
+
 ghost use Rattle.std.specs.Prelude.{◌≡◌};
 ghost use Rattle.packet_service.specs.PacketService.{write_of as packet_written};
 ghost use Rattle.registration.specs.Registration.{write_of as registration_written};

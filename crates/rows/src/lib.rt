@@ -1,5 +1,7 @@
 // Rows of text, one behind the other: a name, a tab, a value, a line feed. Each is put at any place
 // of any output; what has no room is dropped. It knows no payload.
+#![tactic(auto)]
+
 ghost use Rattle.std.specs.Prelude.{◌≡◌, ◌+◌, ◌-◌, min};
 ghost use Rattle.ascii.specs.Ascii.{decimal, hex_pair, hexed};
 ghost use Rattle.rows.specs.Rows.{Put, field, row, indexed_row, text_row, refusal_line, refused_line};

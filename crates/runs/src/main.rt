@@ -2,6 +2,8 @@
 // (two native versions of the host, three pairs of a modem's native and advertised version, VERSION
 // listed or not), every command and reply cut and put together again; a record that is written, cut, fed
 // and read; and a mixture of fragments, from which messages come out whole.
+#![tactic(auto)]
+
 mod mixture;
 
 use assembler::Assembly;
@@ -21,7 +23,7 @@ use protocol::service::{
 use protocol::status::NO_DEVICE_SUPPORT;
 
 // Both ends, and the number of the host's refusal, 0 for none.
-#[derive(Drop)]
+#[derive(Clone, Copy)]
 struct Ends {
     host: Host,
     modem: Modem,
@@ -29,7 +31,7 @@ struct Ends {
 }
 
 // What came out of an assembly.
-#[derive(Drop)]
+#[derive(Clone, Copy)]
 enum Arrived {
     Message {
         message: MessageHeader,

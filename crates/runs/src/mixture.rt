@@ -8,7 +8,7 @@ use wire::u32_at;
 
 // How far the mixture has come: the assembly without its buffer, the next piece's position, and that of
 // the last piece with number 0.
-#[derive(Drop)]
+#[derive(Clone, Copy)]
 struct Watch {
     progress: Progress,
     position: u64,

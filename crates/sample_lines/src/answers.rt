@@ -7,7 +7,7 @@ use wire::{u16_at, u32_at};
 
 // An answer: its numbers, of which the first `count` count, how many bytes of the output belong to
 // it, and how many numbers of the list.
-#[derive(Drop)]
+#[derive(Clone, Copy)]
 pub struct Asked {
     pub numbers: [u32; 16],
     pub count: u32,

@@ -1,5 +1,7 @@
 // Sample lines (docs/samples.md): their fields, which are bytes in hexadecimal, and whether what a
 // call left is what its line says.
+#![tactic(auto)]
+
 pub mod answers;
 
 ghost use Rattle.std.specs.Prelude.{◌≡◌, ◌&&◌, ◌+◌, ◌≤◌, min, length, get_or};

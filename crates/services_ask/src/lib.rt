@@ -1,4 +1,6 @@
 // Whether a list of services holds one CID, and where: judged no further than the answer needs.
+#![tactic(auto)]
+
 ghost use Rattle.std.specs.Prelude.{◌≡◌, true, ◌≤◌, ◌<◌};
 ghost use Rattle.services_query.specs.ServicesQuery.{is_of};
 ghost use Rattle.services_ask.specs.ServicesAsk.{NoneOf, position_with, position_of};
@@ -10,7 +12,7 @@ use protocol::{Refusal, Verdict};
 use wire::u32_at;
 
 // The position is that of the first match in listed order; both numbers count from 0.
-#[derive(Drop)]
+#[derive(Clone, Copy)]
 pub enum PositionAnswer {
     Listed {
         element_number: u32,

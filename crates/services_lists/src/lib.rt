@@ -1,5 +1,7 @@
 // The DEVICE_SERVICES payload written over the caller's lists, in the form in which
 // `services_query::all` gives them. The record of `services_writer` is not needed.
+#![tactic(auto)]
+
 ghost use Rattle.std.specs.Prelude.{◌≡◌, not, ◌+◌, ◌*◌, ◌/◌, ◌%◌, ◌≤◌, ◌<◌, ltb, eqb, length};
 ghost use Rattle.std.proofs.lemmas.List.Edits.{sets};
 ghost use Rattle.folds.specs.Folds.{first_fault, joined};
@@ -30,7 +32,7 @@ const MOST_FIELDS: usize = 224;
 const COUNT_WORD: usize = 6;
 
 // The CIDs that the elements count together.
-#[derive(Drop)]
+#[derive(Clone, Copy)]
 enum Totalled {
     Cids(usize),
     Refused(Refusal),

@@ -13,7 +13,7 @@ use pairs::ZeroSize;
 use protocol::{OUTPUT_TOO_SMALL, Refusal, Verdict};
 
 // How many elements and CIDs stand at the fronts of the caller's lists.
-#[derive(Drop)]
+#[derive(Clone, Copy)]
 pub enum AllAnswer {
     Listed { elements: u32, cids: usize },
     Refused(Refusal),

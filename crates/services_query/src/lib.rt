@@ -1,5 +1,7 @@
 // Questions to a DEVICE_SERVICES payload: an element by its number or its service, and whether a
 // CID is listed. The whole list is judged before anything of it is shown.
+#![tactic(auto)]
+
 pub mod all;
 
 ghost use Rattle.std.specs.Prelude.{◌≡◌, ◌&&◌, ◌+◌, ◌≤◌, length};
@@ -18,14 +20,14 @@ use protocol::{OUTPUT_TOO_SMALL, Refusal, Verdict};
 use wire::u32_at;
 
 // An element's fields; its CIDs stand at the front of the caller's list.
-#[derive(Drop)]
+#[derive(Clone, Copy)]
 pub enum ElementAnswer {
     Listed(DeviceService),
     NotListed,
     Refused(Refusal),
 }
 
-#[derive(Drop)]
+#[derive(Clone, Copy)]
 pub enum ListedAnswer {
     Listed,
     NotListed,

@@ -1,5 +1,7 @@
 // What the writer of DEVICE_SERVICES gives, its reader and the questions show again: theorems, and
 // one function that runs writer and question on any record.
+#![tactic(auto)]
+
 ghost use Rattle.std.specs.Prelude.{◌≡◌};
 ghost use Rattle.services_writer.specs.ServicesWriter.{write_of};
 ghost use Rattle.services_trip.specs.ServicesTrip.{asked_of};

@@ -1,5 +1,7 @@
 // The DEVICE_SERVICES payload: its record and its writer. The record is passed by value and is
 // large (about 17 KB); a program that only reads needs nothing of this crate.
+#![tactic(auto)]
+
 ghost use Rattle.std.specs.Prelude.{◌≡◌, ◌+◌, ◌*◌, ◌≤◌, ltb, get_or};
 ghost use Rattle.std.proofs.lemmas.List.Edits.{sets};
 ghost use Rattle.wire.specs.Numbers.{digits};
@@ -23,7 +25,7 @@ use wire::put_u32;
 
 // An element with its CIDs, of which the first `cid_count` count.
 #[repr(C)]
-#[derive(Drop)]
+#[derive(Clone, Copy)]
 pub struct ServiceElement {
     pub fields: DeviceService,
     pub cids: [u32; 128],
@@ -31,7 +33,7 @@ pub struct ServiceElement {
 
 // The record, of whose elements the first `device_services_count` count.
 #[repr(C)]
-#[derive(Drop)]
+#[derive(Clone, Copy)]
 pub struct ServiceList {
     pub device_services_count: u32,
     pub max_dss_sessions: u32,

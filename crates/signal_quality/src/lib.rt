@@ -1,4 +1,6 @@
 // Decibels from the codes of a signal entry, and bars from an RSSI. No payload is known here.
+#![tactic(auto)]
+
 ghost use Rattle.std.specs.Prelude.{◌≡◌};
 ghost use Rattle.signal_quality.specs.Decibels.{coded, rsrp_of, snr_of};
 ghost use Rattle.signal_quality.specs.Bars.{bars_table, reached, bars_of};
@@ -6,7 +8,7 @@ ghost use Rattle.signal_quality.specs.Bars.{bars_table, reached, bars_of};
 use protocol::{OUTSIDE_TABLE, Refusal};
 
 // 01's reading: the lower edge of a code's step; below the range, with the range's edge; or unknown.
-#[derive(Drop)]
+#[derive(Clone, Copy)]
 pub enum Reading {
     Dbm(f32),
     Db(f32),
@@ -14,13 +16,13 @@ pub enum Reading {
     Unknown,
 }
 
-#[derive(Drop)]
+#[derive(Clone, Copy)]
 pub enum ReadingRead {
     Info(Reading),
     Refused(Refusal),
 }
 
-#[derive(Drop)]
+#[derive(Clone, Copy)]
 pub enum Bars {
     Count(u32),
     NoReading,

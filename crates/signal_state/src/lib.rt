@@ -1,5 +1,7 @@
 // The SIGNAL_STATE payload: its record and entries, and a reader of both forms; the writer is in
 // `signal_writer`. What a code means in decibels is not known here.
+#![tactic(auto)]
+
 ghost use Rattle.std.specs.Prelude.{◌≡◌, ◌||◌, ◌+◌, ◌*◌, ◌≤◌, length};
 ghost use Rattle.protocol.specs.Verdict.{judge as judged};
 ghost use Rattle.pairs.specs.Pair.{by_default};
@@ -18,7 +20,7 @@ use wire::u32_at;
 
 // One entry of the list.
 #[repr(C)]
-#[derive(Drop)]
+#[derive(Clone, Copy)]
 pub struct RsrpSnr {
     pub rsrp: u32,
     pub snr: u32,
@@ -28,13 +30,13 @@ pub struct RsrpSnr {
 }
 
 // What only one form has: at 2.00 a list of `count` entries, which stand beside the record.
-#[derive(Drop)]
+#[derive(Clone, Copy)]
 pub enum SignalForm {
     V1,
     V2 { count: u32 },
 }
 
-#[derive(Drop)]
+#[derive(Clone, Copy)]
 pub struct SignalState {
     pub rssi: u32,
     pub error_rate: u32,
@@ -44,14 +46,14 @@ pub struct SignalState {
     pub form: SignalForm,
 }
 
-#[derive(Drop)]
+#[derive(Clone, Copy)]
 pub enum SignalStateRead {
     Info(SignalState),
     Refused(Refusal),
 }
 
 // The answer, and the entries beside it: zero past the count, and all zero with a refusal.
-#[derive(Drop)]
+#[derive(Clone, Copy)]
 pub struct SignalStateShown {
     pub answer: SignalStateRead,
     pub entries: [RsrpSnr; 16],

@@ -15,7 +15,7 @@ use wire::{byte_at, put_bytes, u32_at};
 
 // What is left to do: nothing, a stream to end beside the type whose length field ended it, or a piece
 // to pass on, which lies at the front of the chunk or of the buffer.
-#[derive(Drop)]
+#[derive(Clone, Copy)]
 pub enum Ready {
     Done {
         state: State,
@@ -35,7 +35,7 @@ pub enum Ready {
 
 // What stands at the front of a stream: an unfinished piece, a length field that ends the stream beside
 // the type given, or a piece of so many bytes.
-#[derive(Drop)]
+#[derive(Clone, Copy)]
 pub enum Next {
     Short,
     Ends(u32),

@@ -1,6 +1,8 @@
 // Messages from a stream of bytes without packet bounds: a stream is fed chunks of any length, takes
 // each piece by its length field and passes it through the door. `feed` takes and gives back the stream
 // by value; `feed_in_place` works on lent buffers. No header is judged here but its length field.
+#![tactic(auto)]
+
 pub mod front;
 
 ghost use Rattle.std.specs.Prelude.{◌≡◌, length};
@@ -16,13 +18,13 @@ use protocol::{Refusal, WRONG_LENGTH};
 
 // What a stream keeps beside its assembly and its buffer: how many bytes of an unfinished piece the
 // buffer holds at its front, and whether a length field ended the stream.
-#[derive(Drop)]
+#[derive(Clone, Copy)]
 pub struct State {
     pub held: usize,
     pub ended: bool,
 }
 
-#[derive(Drop)]
+#[derive(Clone, Copy)]
 pub struct Stream {
     pub assembly: Assembly,
     pub state: State,
@@ -31,7 +33,7 @@ pub struct Stream {
 
 // What a call answers: nothing while a piece is short; what a piece is that was taken; the refusal of a
 // length field, which ended the stream; or one that takes nothing.
-#[derive(Drop)]
+#[derive(Clone, Copy)]
 pub enum Said {
     Nothing,
     Piece(Received),
@@ -40,14 +42,14 @@ pub enum Said {
 }
 
 // The stream after a call, what it answers, and how many bytes of the chunk it took.
-#[derive(Drop)]
+#[derive(Clone, Copy)]
 pub struct Fed {
     pub stream: Stream,
     pub said: Said,
     pub taken: usize,
 }
 
-#[derive(Drop)]
+#[derive(Clone, Copy)]
 pub struct FedInPlace {
     pub progress: Progress,
     pub state: State,

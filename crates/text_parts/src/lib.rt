@@ -1,6 +1,8 @@
 // Texts in parts: a fixed word, a word of a table, a run of digits, a decimal number in bounds. A
 // text that is not good has a column: the length of its longest good beginning (specs/Parts).
 // It knows no line's form.
+#![tactic(auto)]
+
 ghost use Rattle.std.specs.Prelude.{◌≡◌, ◌+◌, ◌-◌, ◌*◌, ◌≤◌, max};
 ghost use Rattle.text_parts.specs.Words.{word, also_word};
 ghost use Rattle.text_parts.specs.Hex.{hex_digits_at, line_end_at};
@@ -10,21 +12,21 @@ use ascii::{agree_at, hex_run};
 use wire::byte_at;
 
 // The word of a table that stands in a text, or the column up to which one could.
-#[derive(Drop)]
+#[derive(Clone, Copy)]
 pub enum Reached {
     Word(u32),
     Column(usize),
 }
 
 // How many digits the end of a line has, or the first column where no good line goes on or ends.
-#[derive(Drop)]
+#[derive(Clone, Copy)]
 pub enum LineEnd {
     Digits(usize),
     Column(usize),
 }
 
 // The decimal digits that a text begins with, and their value.
-#[derive(Drop)]
+#[derive(Clone, Copy)]
 pub struct Number {
     pub digits: usize,
     pub value: u32,

@@ -1,5 +1,7 @@
 // The texts of a record: their pairs judged and laid out by rows. A row is the place of a pair and
 // its limit; rows stand in field order. What stands in a text is not judged.
+#![tactic(auto)]
+
 ghost use Rattle.std.specs.Prelude.{◌≡◌, ◌≤◌, min, length, get_or};
 ghost use Rattle.std.proofs.lemmas.List.Edits.{sets};
 ghost use Rattle.wire.specs.Output.{fitted};

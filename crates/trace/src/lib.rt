@@ -1,5 +1,7 @@
 // The text of a replay (docs/replay.md): one line of a station's trace in, its rows out. It neither
 // reads nor writes a file; the program `replay` does.
+#![tactic(auto)]
+
 pub mod heads;
 pub mod marks;
 
@@ -23,7 +25,7 @@ use rows::put_text;
 use trace_step::{Replay, Replayed, step};
 
 // What stands from line to line after this one, and the place behind its text.
-#[derive(Drop)]
+#[derive(Clone, Copy)]
 pub struct Listed {
     pub replay: Replay,
     pub next: usize,

@@ -1,17 +1,19 @@
 // One line of a station's trace: counter, tab, sender, tab, the piece's bytes in hexadecimal, line feed.
+#![tactic(auto)]
+
 ghost use Rattle.std.specs.Prelude.{◌≡◌, ◌≤◌};
 ghost use Rattle.trace_line.specs.TraceLine.{is_sender, sender_of, bytes_from, sender_from, line_of};
 
 use text_parts::{LineEnd, line_end_at, number_of};
 use wire::byte_at;
 
-#[derive(Drop)]
+#[derive(Clone, Copy)]
 pub enum Sender {
     Host,
     Device,
 }
 
-#[derive(Drop)]
+#[derive(Clone, Copy)]
 pub enum LineRead {
     // The piece's digits stand in the line from `from` on.
     Line {

@@ -1,6 +1,8 @@
 // A station's trace, one line at a time: each piece goes to the assembler of its sender. What a line
 // gives is said in values; its text is made elsewhere. The two buffers are lent, so that no line
 // copies them.
+#![tactic(auto)]
+
 ghost use Rattle.std.specs.Prelude.{◌≡◌, ◌+◌, ◌-◌, ◌/◌, ◌%◌, ◌^◌, ◌≤◌, length, take, drop, if◌then◌else◌};
 ghost use Rattle.wire.specs.Output.{over};
 ghost use Rattle.ascii.specs.Ascii.{unhexed};
@@ -23,7 +25,7 @@ use trace_line::{LineRead, Sender, read_line};
 use version_info::VersionInfoRead;
 
 // The counter of the last good line.
-#[derive(Drop)]
+#[derive(Clone, Copy)]
 pub enum Previous {
     Nothing,
     Counter(u32),
@@ -31,7 +33,7 @@ pub enum Previous {
 
 // What stands from line to line beside the two buffers: how far each sender's message has come, the
 // previous counter, and the version that payloads are read at.
-#[derive(Drop)]
+#[derive(Clone, Copy)]
 pub struct Replay {
     pub host: Progress,
     pub device: Progress,
@@ -40,7 +42,7 @@ pub struct Replay {
 }
 
 // What a line gives. The version is the one that a payload in it is read at.
-#[derive(Drop)]
+#[derive(Clone, Copy)]
 pub enum Replayed {
     BadLine(Refusal),
     Piece {
@@ -52,7 +54,7 @@ pub enum Replayed {
     },
 }
 
-#[derive(Drop)]
+#[derive(Clone, Copy)]
 pub struct Stepped {
     pub replay: Replay,
     pub replayed: Replayed,

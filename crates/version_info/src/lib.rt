@@ -1,4 +1,6 @@
 // The VERSION payload: its record, and its reader and writer. It has one form at both versions.
+#![tactic(auto)]
+
 ghost use Rattle.std.specs.Prelude.{◌≡◌};
 ghost use Rattle.std.proofs.lemmas.List.Edits.{sets};
 ghost use Rattle.version_info.specs.VersionInfo.{is_extension, record_at, verdict_of, read_of, bytes_of, write_of};
@@ -10,13 +12,13 @@ use wire::{put_u16, u16_at};
 
 // Two BCD numbers.
 #[repr(C)]
-#[derive(Drop)]
+#[derive(Clone, Copy)]
 pub struct VersionInfo {
     pub bcd_mbim_version: u16,
     pub bcd_mbim_extended_version: u16,
 }
 
-#[derive(Drop)]
+#[derive(Clone, Copy)]
 pub enum VersionInfoRead {
     Info(VersionInfo),
     Refused(Refusal),

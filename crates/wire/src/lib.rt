@@ -1,5 +1,7 @@
 // Little-endian numbers and runs of bytes at a place of a byte slice. Every function is total: a
 // byte past the end reads as zero, and a store past the end is dropped. Nothing is judged here.
+#![tactic(auto)]
+
 ghost use Rattle.std.specs.Prelude.{◌≡◌, [], ◌∷◌, ◌+◌, ◌-◌, ◌≤◌, ◌<◌, length, get_or, set, take, drop};
 ghost use Rattle.std.proofs.lemmas.List.Edits.{sets};
 ghost use Rattle.wire.specs.Numbers.{u16_at, u32_at, u64_at, digits};
@@ -9,7 +11,7 @@ ghost use Rattle.wire.specs.Output.{fitted};
 const MOST_IN_RUNS: usize = 64;
 
 // Eight bytes that are copied together.
-#[derive(Drop)]
+#[derive(Clone, Copy)]
 struct Run {
     a: u8,
     b: u8,
