@@ -1,4 +1,4 @@
-//! Links the static library that `rt staticlib culvertroost` writes.
+//! Links the static library that `tests/archive.sh` makes.
 
 use std::path::Path;
 

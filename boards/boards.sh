@@ -13,8 +13,7 @@ stop() {
 
 # The folder of the toolchain's programs for this machine.
 toolchain() {
-    kit=${RATTLE_HOME:-$(dirname "$(dirname "$(readlink -f "$(command -v rt)")")")}
-    echo "$kit/on/$(uname -m)/toolchain"
+    echo "$(dirname "$(dirname "$(readlink -f "$(command -v rt)")")")/toolchain"
 }
 
 # Debian's packages: of the compiler, and of the C library for whole programs.

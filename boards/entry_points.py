@@ -1,10 +1,12 @@
 """entry_points.py MODULE HEADER FOLDER: the proved module with entry points for any processor.
 
 The module's entry points (cvr_..) follow the calling convention of x86-64. The functions that they
-call (culvertroost::..::cvr_..) take addresses and plain numbers only: the address of the answer, of
-each struct and of each slice (a pointer at 0, a 64-bit length at 8). Written to FOLDER:
+call (culvertroost_c::..::cvr_..) take addresses and plain numbers only: a slice is an address and a
+64-bit length; a struct of one or two numbers is these numbers, and any other is its address. An answer
+of two numbers comes as the two, any other struct at an address that comes first. Written to FOLDER:
 
-  module.ll       the module without its entry points; the functions below them have C names
+  module.ll       the module without its entry points; the functions below them have C names, and one
+                  whose answer is two numbers has a function before it that puts them at an address
   entry_points.c  the header's functions over those, for the board's own C compiler
   functions       the names of the header's functions, one a line
 
@@ -47,12 +49,12 @@ NO_CALL = r"enum \w+ \{[^{}]*\};|static inline .*\}|CVR_LAYOUT\([^()]*\);"
 
 def functions_of(header):
     """The functions that the header declares: a name, and what goes in and comes out."""
-    structs, functions = set(), {}
+    structs, functions = {}, {}
     for text in declarations(header):
-        struct = re.fullmatch(r"typedef struct (cvr_\w+) \{[^{}]*\} \1;", text)
+        struct = re.fullmatch(r"typedef struct (cvr_\w+) \{([^{}]*)\} \1;", text)
         call = re.fullmatch(r"(\w+) (cvr_\w+)\(([^()]*)\);", text)
         if struct:
-            structs.add(struct[1])
+            structs[struct[1]] = [field for line in struct[2].split(";") if line.strip() for field in fields_of(line, structs)]
         elif call and not call[2] in functions:
             functions[call[2]] = Function(*call.groups(), structs)
         elif not re.fullmatch(NO_CALL, text):
@@ -62,6 +64,20 @@ def functions_of(header):
     return functions
 
 
+NUMBERS = {"uint8_t": "i8", "uint16_t": "i16", "uint32_t": "i32", "uint64_t": "i64"}
+
+
+def fields_of(line, structs):
+    """The numbers that a line of a struct declares: a type in the module, and how C names it. An array is no number."""
+    kind, names = line.split(None, 1)
+    for name in names.split(","):
+        name = name.strip()
+        if kind in structs and re.fullmatch(r"\w+", name):
+            yield from ((inner, f"{name}.{path}") for inner, path in structs[kind])
+        else:
+            yield NUMBERS.get(kind) if re.fullmatch(r"\w+", name) else None, name
+
+
 class Function:
     """A function of the header. Each of `passed` is what one value below the entry point is made of:
     its type in the module and in C, the expression, and the line that prepares it."""
@@ -69,6 +85,8 @@ class Function:
     def __init__(self, result, name, parameters, structs):
         self.result, self.name, self.parameters = result, name, parameters
         self.is_plain = result == "uint32_t"
+        self.pair = [kind for kind, _ in structs.get(result, [])]
+        self.pair = self.pair if len(self.pair) == 2 and all(self.pair) else None
         if not self.is_plain and result not in structs:
             fail(f"{name}: a result of type {result} is not understood")
         self.passed, self.slices = [], 0
@@ -81,17 +99,20 @@ class Function:
         text = rest.pop(0)
         kind, _, name = text.rpartition(" ")
         pointer = re.fullmatch(r"(?:const )?(\w+) \*(\w+)", text)
-        if pointer and pointer[1] in structs | {"uint8_t", "uint32_t"}:
+        if pointer and pointer[1] in {*structs, "uint8_t", "uint32_t"}:
             length = re.fullmatch(r"size_t (\w+)", rest.pop(0) if rest else "")
             if not length:
                 fail(f"{self.name}: the pointer {text} has no length after it")
             self.slices += 1
-            line = f"slice {pointer[2]}_slice = {{{pointer[2]}, {length[1]}}};"
-            self.passed.append(("ptr", "slice *", f"&{pointer[2]}_slice", line))
+            self.passed.append(("ptr", "const void *", f"AT({pointer[2]})", None))
+            self.passed.append(("i64", "uint64_t", length[1], None))
         elif re.fullmatch(r"(uint16_t|uint32_t) \w+", text):
             self.passed.append(("i" + kind[4:6], kind, name, None))
         elif re.fullmatch(r"size_t \w+", text):
             self.passed.append(("i64", "uint64_t", name, None))
+        elif kind in structs and len(structs[kind]) <= 2 and all(number for number, _ in structs[kind]):
+            for number, path in structs[kind]:
+                self.passed.append((number, f"uint{number[1:]}_t", f"{name}.{path}", None))
         elif kind in structs and re.fullmatch(r"\w+", name):
             self.passed.append(("ptr", kind + " *", "&" + name, None))
         else:
@@ -100,7 +121,28 @@ class Function:
     def signature(self):
         """Result and parameters of the function below the entry point, in the module."""
         types = [passed[0] for passed in self.passed]
+        if self.pair:
+            return f"{{ {', '.join(self.pair)} }}", types
         return ("i32", types) if self.is_plain else ("void", ["ptr"] + types)
+
+    def over_pair(self, callee):
+        """The function that puts the two numbers of an answer at an address, for C to call."""
+        at = {"i32": 4, "i64": 8}.get(self.pair[1])
+        if at is None or self.pair[0] not in ("i32", "i64"):
+            fail(f"{self.name}: an answer of {self.pair} is not understood")
+        types = [passed[0] for passed in self.passed]
+        given = ", ".join(f"{kind} %a{number}" for number, kind in enumerate(types))
+        form = self.signature()[0]
+        at = 8 if "i64" in self.pair else 4
+        return "\n".join([
+            f"define void @{BELOW}{self.name}(ptr noalias noundef %answer{', ' if given else ''}{given}) #0 {{",
+            f"  %pair = call {form} @\"{callee}\"({given})",
+            f"  %first = extractvalue {form} %pair, 0",
+            f"  %second = extractvalue {form} %pair, 1",
+            f"  store {self.pair[0]} %first, ptr %answer",
+            f"  %place = getelementptr i8, ptr %answer, i64 {at}",
+            f"  store {self.pair[1]} %second, ptr %place",
+            "  ret void", "}", ""])
 
     def in_c(self):
         """The entry point in C."""
@@ -122,13 +164,8 @@ class Function:
 C_HEAD = """/* The entry points of the library for this board. Made from the header by boards/entry_points.py. */
 #include "culvertroost.h"
 
-/* A range that is lent, as the module takes it. */
-typedef struct slice {
-    const void *at;
-    uint64_t length;
-} slice;
-typedef char slice_has_the_module_s_layout
-    [sizeof(slice) == 16 && offsetof(slice, at) == 0 && offsetof(slice, length) == 8 ? 1 : -1];
+/* The address of a range that is lent, as the module's own entry points pass it: never null. */
+#define AT(pointer) ((pointer) == NULL ? (const void *)(uintptr_t)4096 : (const void *)(pointer))
 """
 
 
@@ -139,10 +176,13 @@ DEFINED = re.compile(
     r"^define (internal )?(?:noundef )?(?:zeroext )?([^@\n]*?) @(\"[^\"\n]+\"|\w+)\((.*)\) #0 \{$"
 )
 OTHER = (
-    r"(; .*|source_filename = .*|declare .* @llvm\.(memmove|memcpy|memset|ctpop|trap)\b.*"
+    r"(; .*|source_filename = .*|@static\.\d+ = private unnamed_addr constant \[\d+ x i8\] c\"[^\"]*\", align \d+|declare .* @llvm\.(memmove|memcpy|memset|ctpop|trap|arithmetic\.fence)\b.*"
     r"|![\w.]+ = .*)?"
 )
 # What would depend on the processor below the entry points.
+NAME = re.compile(r'@"[^"]*"')
+# Two numbers together, or an address and a number. In memory they lie as in C, on each board: 64 bits at a multiple of 8.
+PASSED = re.compile(r"\b(?:call|ret|extractvalue|insertvalue|load|store)(?: noundef)? \{ (?:i\d+|ptr|float), (?:i\d+|float) \}")
 DEPENDS = re.compile(r"\b(ptrtoint|inttoptr|ptrtoaddr|asm|va_arg|addrspace)\b|\{|<")
 
 
@@ -182,7 +222,7 @@ class Module:
 
     def attributes_for_all(self, line):
         """The attributes without the processor's name."""
-        line = line.replace(' "target-cpu"="x86-64"', "")
+        line = re.sub(r' "target-cpu"="x86-64(-v2)?"', "", line)
         if "target-" in line or "tune-" in line:
             fail("the module has attributes of one processor: " + line)
         return line
@@ -195,7 +235,7 @@ def types_of(parameters):
 
 def below(module, function):
     """The name of the one function below an entry point; it has the form that the header asks for."""
-    pattern = r"culvertroost::\w+::" + function.name
+    pattern = r"culvertroost_c::\w+::" + function.name
     names = [name for name in module.functions if re.fullmatch(pattern, name)]
     if len(names) != 1:
         fail(f"the module has {len(names)} functions below {function.name}, not one")
@@ -214,10 +254,11 @@ def check_entry_point(module, function, callee):
         fail(f"the entry point {function.name} doesn't call {callee} alone")
     text = "\n".join(body)
     slices = re.findall(
-        r"store ptr %a(\d+), ptr (%r\d+), align 8\n  (%r\d+) = getelementptr i8, ptr \2, i64 8\n"
-        r"  store i64 %a(\d+), ptr \3, align 8", text
+        r"(%r\d+) = icmp eq ptr %a(\d+), null\n  (%r\d+) = zext i1 \1 to i64\n  (%r\d+) = mul i64 \3, 4096\n"
+        r"  (%r\d+) = getelementptr i8, ptr %a\2, i64 \4\n  store ptr \5, ptr (%r\d+), align 8\n"
+        r"  (%r\d+) = getelementptr i8, ptr \6, i64 8\n  store i64 %a(\d+), ptr \7, align 8", text
     )
-    if len(slices) != function.slices or any(int(s[3]) != int(s[0]) + 1 for s in slices):
+    if len(slices) != function.slices or any(int(s[7]) != int(s[1]) + 1 for s in slices):
         fail(f"the entry point {function.name} doesn't make {function.slices} slices")
 
 
@@ -233,30 +274,39 @@ def check_all(module, functions):
         check_entry_point(module, function, callee)
         found[callee] = name
     for name, (head, body) in module.functions.items():
-        wrong = [line for line in body if DEPENDS.search(line.split(", !")[0])]
+        wrong = [line for line in body if DEPENDS.search(PASSED.sub(" ", NAME.sub("", line.split(", !")[0])))]
         if head[1] and wrong:
             fail(f"{name} depends on the processor: {wrong[0].strip()}")
     return found
 
 
-def in_c_form(line):
+def in_c_form(line, function):
     """The first line of a function below an entry point, for C to call. A 32-bit result is extended as
-    callers on RISC-V expect it. Whatever comes after the answer's address is the entry point's own
-    memory, which nothing else points to: on x86-64 the compiler sees that by itself."""
+    callers on RISC-V expect it. A struct's address is that of the entry point's own memory, which nothing
+    else points to: on x86-64 the compiler sees that by itself."""
     line = line.replace("define internal ", "define ")
     line = line.replace("noundef i32 @", "noundef signext i32 @")
-    return re.sub(r"\bptr noundef (%a[1-9])", r"ptr noalias noundef \1", line)
+    first = 0 if function.pair or function.is_plain else 1
+    for number, passed in enumerate(function.passed, first):
+        if passed[0] == "ptr" and passed[2].startswith("&"):
+            line = re.sub(rf"\bptr noundef (%a{number})\b", r"ptr noalias noundef \1", line)
+    return line
 
 
-def without_entry_points(module, found):
+def without_entry_points(module, found, functions):
     """The module for any processor."""
     text = list(module.others)
     for name, (head, body) in module.functions.items():
+        function = functions.get(found.get(name))
+        if function and function.pair:
+            text.append(function.over_pair(name))
         if head[1]:
-            text += [in_c_form(head[0]) if name in found else head[0], *body, "}", ""]
+            is_called = function and not function.pair
+            text += [in_c_form(head[0], function) if is_called else head[0], *body, "}", ""]
     text = "\n".join(text)
     for name, short in found.items():
-        text = text.replace(f'@"{name}"', "@" + BELOW + short)
+        if not functions[short].pair:
+            text = text.replace(f'@"{name}"', "@" + BELOW + short)
     return text
 
 
@@ -267,7 +317,7 @@ def main():
     functions = functions_of(Path(sys.argv[2]).read_text())
     folder = Path(sys.argv[3])
     found = check_all(module, functions)
-    folder.joinpath("module.ll").write_text(without_entry_points(module, found))
+    folder.joinpath("module.ll").write_text(without_entry_points(module, found, functions))
     in_c = [C_HEAD] + [function.in_c() for function in functions.values()]
     folder.joinpath("entry_points.c").write_text("\n".join(in_c))
     folder.joinpath("functions").write_text("".join(name + "\n" for name in functions))

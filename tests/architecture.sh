@@ -19,6 +19,7 @@ awk '
     /:/ {
         split($0, side, ":")
         name = side[1]
+        sub(/ staticlib/, "", name)
         gsub(/ /, "", name)
         listed[name] = 1
         if (!(name in level)) { print "architecture: " name " is not in the picture"; bad = 1; next }

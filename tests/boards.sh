@@ -145,6 +145,7 @@ no_compiler() {
         ln -s "$(command -v $tool)" "$work/few/$tool"
     done
     (PATH=$PWD/$work/few && boards/build riscv64-linux-gnu) && return 1
+    rm -rf "$work/few" # `rt ci` takes no link below the repository
     grep -q 'package gcc-riscv64-linux-gnu$' "$work/log"
 }
 

@@ -9,6 +9,7 @@ work=target/refusals
 need gcc
 mkdir -p "$work"
 step archive tests/archive.sh
+step programs tests/programs.sh list replay
 compile -O2 "$work/refusals" tests/refusals.c
 page=docs/refusals.md
 

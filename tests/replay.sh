@@ -51,6 +51,7 @@ answered() {
     cmp "$work/rows" "$work/out" || { echo "$name: $1: not what is expected"; exit 1; }
 }
 
+step 'the program' tests/programs.sh replay
 step 'the second program' cargo build -q --offline --release --manifest-path second/Cargo.toml --bins
 
 "$generate" day >"$work/in"

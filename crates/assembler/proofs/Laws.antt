@@ -1,7 +1,7 @@
 -- What the judges of a piece tell of the bytes that it brings, and the stores of a delivery.
 -- Assumes nothing.
 use mathlib.Core.Path.{◌≡◌, refl, ap, ◌∙◌}
-use mathlib.Core.Bool.{Bool, true, false, cond, ◌&&◌}
+use mathlib.Core.Bool.{Bool, true, false, ◌&&◌}
 use mathlib.Core.List.{List, ◌++◌, append-nil}
 use Prim.Native.Nat.{ℕ, ◌+◌, ◌-◌, ◌≤◌, ◌<◌}
 use native.Mathlib.Omega.{arith}
@@ -17,11 +17,10 @@ use Rattle.protocol.specs.declared.Refusal.{Refusal}
 use Rattle.protocol.specs.declared.Verdict.{Verdict}
 use Rattle.protocol.specs.declared.Verdict.TheVariants.{Fits, Fault}
 use Rattle.protocol.proofs.Verdicts.{fits_kept}
-use Rattle.message.specs.Message.{most_information, header_at, fragment_of, first_length}
+use Rattle.message.specs.Message.{most_information, header_at, first_length}
 use Rattle.message.specs.declared.FragmentHeader.{FragmentHeader}
 use Rattle.message.specs.declared.FirstHeader.{FirstHeader}
 use Rattle.message.specs.declared.Fragment.{Fragment}
-use Rattle.message.specs.declared.Fragment.TheVariants as fragment
 use Rattle.message.proofs.Headers.{amount-right, Opened, FragmentView, refuses as no-fragment, opens, follows, fragment-view}
 use Rattle.assembler.specs.Assembly.{is_pending, begun_progress, continues, join_rules, join_of, judged_by, judged_of}
 use Rattle.assembler.specs.declared.Judged.{Judged}

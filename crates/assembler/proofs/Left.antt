@@ -16,13 +16,13 @@ use Rattle.protocol.specs.Verdict.{judge}
 use Rattle.protocol.specs.declared.Verdict.{Verdict}
 use Rattle.protocol.specs.declared.Verdict.TheVariants.{Fits, Fault}
 use Rattle.protocol.proofs.Verdicts.{fits_kept}
-use Rattle.message.specs.Message.{most_information, most_transfer, first_length, message_at, wrong_word, fragment_of}
+use Rattle.message.specs.Message.{most_information, most_transfer, first_length, message_at, wrong_word}
 use Rattle.message.specs.declared.MessageHeader.{MessageHeader}
 use Rattle.message.specs.declared.FragmentHeader.{FragmentHeader}
 use Rattle.message.specs.declared.FirstHeader.{FirstHeader}
 use Rattle.message.specs.declared.Fragment.{Fragment}
 use Rattle.message.proofs.Headers.{Accepted, Opened, FragmentView, refuses as no-fragment, opens, follows, fragment-view}
-use Rattle.assembler.specs.Assembly.{assembly_of, empty, is_pending, refused, waiting, completed, grown, gather_of, begun_progress, begun_bytes, continues, join_rules, join_of, judged_by, judged_of, step_by, step_of}
+use Rattle.assembler.specs.Assembly.{assembly_of, empty, refused, waiting, completed, grown, gather_of, begun_progress, begun_bytes, continues, join_rules, join_of, judged_by, judged_of, step_by, step_of}
 use Rattle.assembler.specs.declared.Progress.{Progress}
 use Rattle.assembler.specs.declared.Assembly.{Assembly}
 use Rattle.assembler.specs.declared.Judged.{Judged}

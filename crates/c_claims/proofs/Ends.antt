@@ -3,7 +3,7 @@
 use Prim.Native.Nat.{ℕ}
 use mathlib.Core.Path.{◌≡◌, refl}
 use mathlib.Core.Bool.{Bool, true, false, ◌&&◌}
-use mathlib.Core.List.{List, [], ◌∷◌}
+use mathlib.Core.List.{List}
 use lib.Dec.{ltb, eqb}
 use lib.ListN.{length}
 use Rattle.protocol.specs.Verdict.{judge}
@@ -35,15 +35,9 @@ use Rattle.host.specs.declared.Host.{Host}
 use Rattle.host.specs.declared.HostStage.{HostStage}
 use Rattle.host.specs.declared.HostStage.TheVariants as host_stage
 use Rattle.host.specs.declared.HostStep.{HostStep}
-use Rattle.host.specs.declared.HostMade.{HostMade}
-use Rattle.host.specs.declared.HostMade.TheVariants as host_made
-use Rattle.host.specs.declared.HostAnswer.{HostAnswer}
-use Rattle.host.specs.declared.Ask.{Ask}
 use Rattle.modem.specs.declared.Modem.{Modem}
 use Rattle.modem.specs.declared.ModemStage.{ModemStage}
 use Rattle.modem.specs.declared.ModemStage.TheVariants as modem_stage
-use Rattle.modem.specs.declared.ModemMade.{ModemMade}
-use Rattle.modem.specs.declared.ModemMade.TheVariants as modem_made
 use Rattle.modem.specs.declared.ModemAnswer.{ModemAnswer}
 use Rattle.modem.specs.declared.ModemAnswer.TheVariants as answer
 use Rattle.lent.specs.Stored.{Stored, stored}
@@ -54,7 +48,7 @@ use Rattle.c_structs.specs.Versions.{answer_of}
 use Rattle.c_structs.specs.Services.{listed_info, position_info}
 use Rattle.c_structs.specs.Ends.{host_info, ask_info, modem_info}
 use Rattle.c_claims.specs.NumberZero.{VerdictTells, WrittenTells, VersionTells, ListedTells, PositionTells, HostTells, AskTells, ModemTells}
-use Rattle.c_claims.proofs.Verdicts.{told-if, told-first, told-rules, by-test, told-number}
+use Rattle.c_claims.proofs.Verdicts.{told-rules, by-test, told-number}
 use Rattle.c_claims.proofs.Payloads.{version-read-told, version-write-told, listed-told, position-told}
 
 -- what is stored in memory, where there is room

@@ -2,7 +2,7 @@
 -- Assumes nothing.
 use Prim.Native.Nat.{ℕ, ◌+◌}
 use mathlib.Core.Path.{◌≡◌, refl}
-use mathlib.Core.Bool.{Bool, true, false}
+use mathlib.Core.Bool.{Bool, false}
 use mathlib.Core.List.{List, [], ◌∷◌}
 use lib.Dec.{ltb, eqb}
 use lib.ListN.{length}
@@ -32,13 +32,12 @@ use Rattle.assembler.specs.declared.Progress.{Progress}
 use Rattle.assembler.specs.declared.Assembly.{Assembly}
 use Rattle.assembler.specs.declared.Answer.{Answer}
 use Rattle.assembler.specs.declared.Answer.TheVariants as answer
-use Rattle.assembler.specs.declared.door.Received.{Received}
 use Rattle.lent_progress.specs.LentProgress.{pending_rules, progress_verdict}
 use Rattle.lent.specs.LentAssembly.{assembly_size, progress_in, buffer_in, emptied, kept_of, judged_in, feed_in, Receiving, receive_in}
 use Rattle.lent.specs.Stored.{Stored}
 use Rattle.c_structs.specs.Messages.{whole_info, cut_info, kind_info, receive_info}
 use Rattle.c_claims.specs.NumberZero.{VerdictTells, WrittenTells, WholeTells, CutTells, KindTells, ReceivedTells}
-use Rattle.c_claims.proofs.Verdicts.{told-if, told-first, told-rules, by-test, told-room, told-writing}
+use Rattle.c_claims.proofs.Verdicts.{told-rules, by-test, told-room, told-writing}
 
 -- ---- whole messages
 

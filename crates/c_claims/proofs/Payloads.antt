@@ -35,7 +35,6 @@ use Rattle.signal_state.specs.declared.RsrpSnr.{RsrpSnr}
 use Rattle.signal_state.specs.declared.SignalForm.{SignalForm}
 use Rattle.signal_state.specs.declared.SignalForm.TheVariants as signal-form
 use Rattle.signal_state.specs.declared.SignalState.{SignalState}
-use Rattle.signal_state.specs.declared.SignalStateShown.{SignalStateShown}
 use Rattle.signal_state.specs.SignalState as signal
 use Rattle.signal_quality.specs.declared.Reading.{Reading}
 use Rattle.signal_quality.specs.Decibels.{coded, rsrp_of, snr_of}

@@ -12,7 +12,6 @@ use Rattle.registration.specs.declared.RegistrationRead.{RegistrationRead}
 use Rattle.registration.specs.declared.RegistrationRead.TheVariants as registration
 use Rattle.signal_state.specs.declared.SignalStateRead.{SignalStateRead}
 use Rattle.signal_state.specs.declared.SignalStateRead.TheVariants as signal
-use Rattle.signal_state.specs.declared.SignalStateShown.{SignalStateShown}
 use Rattle.device_services.specs.declared.DeviceServicesRead.{DeviceServicesRead}
 use Rattle.device_services.specs.declared.DeviceServicesRead.TheVariants as services
 use Rattle.services_query.specs.declared.ElementAnswer.{ElementAnswer}

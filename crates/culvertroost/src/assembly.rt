@@ -10,16 +10,14 @@ use c_structs::refusal_of;
 use lent::assembly::{empty, receive};
 use protocol::Refusal;
 
-#[unsafe(no_mangle)]
-pub extern "C" fn cvr_assembly_empty(memory: &mut [u8]) -> Refusal
+pub fn cvr_assembly_empty(memory: &mut [u8]) -> Refusal
     ensures value { result ≡ refusal_of (emptied memory.old).verdict }
     ensures memory_after { memory.new ≡ (emptied memory.old).memory }
 {
     refusal_of(empty(memory))
 }
 
-#[unsafe(no_mangle)]
-pub extern "C" fn cvr_receive(memory: &mut [u8], piece: &[u8], out: &mut [u8]) -> ReceiveInfo
+pub fn cvr_receive(memory: &mut [u8], piece: &[u8], out: &mut [u8]) -> ReceiveInfo
     ensures value { result ≡ receive_info (receive_in memory.old piece.now (length out.old)).received }
     ensures memory_after { memory.new ≡ (receive_in memory.old piece.now (length out.old)).memory }
     ensures out_after { out.new ≡ over (receive_in memory.old piece.now (length out.old)).information out.old }

@@ -10,44 +10,35 @@ use lent_host::{close, make, next_command, open, receive};
 use message::MessageHeader;
 use protocol::Refusal;
 
-#[unsafe(no_mangle)]
-pub extern "C" fn cvr_host_make(memory: &mut [u8], native: u16) -> Refusal
+pub fn cvr_host_make(memory: &mut [u8], native: u16) -> Refusal
     ensures value { result ≡ refusal_of (make_in memory.old native).verdict }
     ensures memory_after { memory.new ≡ (make_in memory.old native).memory }
 {
     refusal_of(make(memory, native))
 }
 
-#[unsafe(no_mangle)]
-pub extern "C" fn cvr_host_open(memory: &mut [u8], advertised: u16) -> HostInfo
+pub fn cvr_host_open(memory: &mut [u8], advertised: u16) -> HostInfo
     ensures value { result ≡ host_info (open_in memory.old advertised).answer }
     ensures memory_after { memory.new ≡ (open_in memory.old advertised).memory }
 {
     host_info(open(memory, advertised))
 }
 
-#[unsafe(no_mangle)]
-pub extern "C" fn cvr_host_close(memory: &mut [u8]) -> HostInfo
+pub fn cvr_host_close(memory: &mut [u8]) -> HostInfo
     ensures value { result ≡ host_info (close_in memory.old).answer }
     ensures memory_after { memory.new ≡ (close_in memory.old).memory }
 {
     host_info(close(memory))
 }
 
-#[unsafe(no_mangle)]
-pub extern "C" fn cvr_host_next_command(memory: &[u8], out: &mut [u8]) -> AskInfo
+pub fn cvr_host_next_command(memory: &[u8], out: &mut [u8]) -> AskInfo
     ensures value { result ≡ ask_info (ask_in memory.now out.old).answer }
     ensures out_after { out.new ≡ (ask_in memory.now out.old).output }
 {
     ask_info(next_command(memory, out))
 }
 
-#[unsafe(no_mangle)]
-pub extern "C" fn cvr_host_receive(
-    memory: &mut [u8],
-    message: MessageHeader,
-    information: &[u8],
-) -> HostInfo
+pub fn cvr_host_receive(memory: &mut [u8], message: MessageHeader, information: &[u8]) -> HostInfo
     ensures value { result ≡ host_info (receive_in memory.old message information.now).answer }
     ensures memory_after { memory.new ≡ (receive_in memory.old message information.now).memory }
 {

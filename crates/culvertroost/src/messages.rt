@@ -13,15 +13,13 @@ use cutter::{cut, next_transaction};
 use message::{MessageHeader, judge_whole, write_whole};
 use payload::payload_of;
 
-#[unsafe(no_mangle)]
-pub extern "C" fn cvr_message_judge(message: &[u8]) -> WholeInfo
+pub fn cvr_message_judge(message: &[u8]) -> WholeInfo
     ensures { result ≡ whole_info (whole_of message.now) }
 {
     whole_info(judge_whole(message))
 }
 
-#[unsafe(no_mangle)]
-pub extern "C" fn cvr_message_write(
+pub fn cvr_message_write(
     message_type: u32,
     transaction: u32,
     word: u32,
@@ -33,8 +31,7 @@ pub extern "C" fn cvr_message_write(
     written_answer(write_whole(message_type, transaction, word, out))
 }
 
-#[unsafe(no_mangle)]
-pub extern "C" fn cvr_message_cut(
+pub fn cvr_message_cut(
     message: MessageHeader,
     size: usize,
     information: &[u8],
@@ -46,15 +43,13 @@ pub extern "C" fn cvr_message_cut(
     cut_info(cut(message, size, information, out))
 }
 
-#[unsafe(no_mangle)]
-pub extern "C" fn cvr_payload_kind(message: MessageHeader) -> KindInfo
+pub fn cvr_payload_kind(message: MessageHeader) -> KindInfo
     ensures { result ≡ kind_info (shown_of message) }
 {
     kind_info(payload_of(message))
 }
 
-#[unsafe(no_mangle)]
-pub extern "C" fn cvr_transaction_next(transaction: u32) -> u32
+pub fn cvr_transaction_next(transaction: u32) -> u32
     ensures { result ≡ next_transaction transaction }
 {
     next_transaction(transaction)

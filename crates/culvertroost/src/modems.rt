@@ -10,37 +10,28 @@ use lent_modem::{close, make, open, receive};
 use message::MessageHeader;
 use protocol::Refusal;
 
-#[unsafe(no_mangle)]
-pub extern "C" fn cvr_modem_make(
-    memory: &mut [u8],
-    native: u16,
-    advertised: u16,
-    services: &[u8],
-) -> Refusal
+pub fn cvr_modem_make(memory: &mut [u8], native: u16, advertised: u16, services: &[u8]) -> Refusal
     ensures value { result ≡ refusal_of (make_in memory.old native advertised services.now).verdict }
     ensures memory_after { memory.new ≡ (make_in memory.old native advertised services.now).memory }
 {
     refusal_of(make(memory, native, advertised, services))
 }
 
-#[unsafe(no_mangle)]
-pub extern "C" fn cvr_modem_open(memory: &mut [u8]) -> Refusal
+pub fn cvr_modem_open(memory: &mut [u8]) -> Refusal
     ensures value { result ≡ refusal_of (restart_in memory.old).verdict }
     ensures memory_after { memory.new ≡ (restart_in memory.old).memory }
 {
     refusal_of(open(memory))
 }
 
-#[unsafe(no_mangle)]
-pub extern "C" fn cvr_modem_close(memory: &mut [u8]) -> Refusal
+pub fn cvr_modem_close(memory: &mut [u8]) -> Refusal
     ensures value { result ≡ refusal_of (restart_in memory.old).verdict }
     ensures memory_after { memory.new ≡ (restart_in memory.old).memory }
 {
     refusal_of(close(memory))
 }
 
-#[unsafe(no_mangle)]
-pub extern "C" fn cvr_modem_receive(
+pub fn cvr_modem_receive(
     memory: &mut [u8],
     message: MessageHeader,
     information: &[u8],

@@ -10,8 +10,7 @@ use handshake::{Numbered, version_at};
 use packet_service::{PacketServiceRead, read, write};
 use protocol::Written;
 
-#[unsafe(no_mangle)]
-pub extern "C" fn cvr_packet_service_read(version: u16, payload: &[u8]) -> PacketServiceAnswer
+pub fn cvr_packet_service_read(version: u16, payload: &[u8]) -> PacketServiceAnswer
     ensures { result ≡ answer_of (read_at version payload.now) }
 {
     match version_at(version) {
@@ -20,8 +19,7 @@ pub extern "C" fn cvr_packet_service_read(version: u16, payload: &[u8]) -> Packe
     }
 }
 
-#[unsafe(no_mangle)]
-pub extern "C" fn cvr_packet_service_write(info: PacketServiceInfo, out: &mut [u8]) -> WrittenAnswer
+pub fn cvr_packet_service_write(info: PacketServiceInfo, out: &mut [u8]) -> WrittenAnswer
     ensures value { result ≡ written_answer (write_at info out.old).answer }
     ensures out_after { out.new ≡ (write_at info out.old).output }
 {

@@ -25,15 +25,13 @@ use pin::{pin_info, set_pin};
 use pin_entry::starts::PinStarts;
 use protocol::Refusal;
 
-#[unsafe(no_mangle)]
-pub extern "C" fn cvr_set_pin_read(payload: &[u8]) -> SetPinAnswer
+pub fn cvr_set_pin_read(payload: &[u8]) -> SetPinAnswer
     ensures { result ≡ set_pin_answer (set_pin.read_of payload.now) }
 {
     set_pin_answer(set_pin::read(payload))
 }
 
-#[unsafe(no_mangle)]
-pub extern "C" fn cvr_set_pin_read_with(zero_size: u32, payload: &[u8]) -> SetPinAnswer
+pub fn cvr_set_pin_read_with(zero_size: u32, payload: &[u8]) -> SetPinAnswer
     ensures { result ≡ set_pin_answer (read_chosen zero_size payload.now) }
 {
     match zero_size_at(zero_size) {
@@ -42,52 +40,41 @@ pub extern "C" fn cvr_set_pin_read_with(zero_size: u32, payload: &[u8]) -> SetPi
     }
 }
 
-#[unsafe(no_mangle)]
-pub extern "C" fn cvr_set_pin_write(
-    info: SetPin,
-    pin: &[u8],
-    new_pin: &[u8],
-    out: &mut [u8],
-) -> WrittenAnswer
+pub fn cvr_set_pin_write(info: SetPin, pin: &[u8], new_pin: &[u8], out: &mut [u8]) -> WrittenAnswer
     ensures value { result ≡ written_answer (set_pin.write_of info pin.now new_pin.now out.old).answer }
     ensures out_after { out.new ≡ (set_pin.write_of info pin.now new_pin.now out.old).output }
 {
     written_answer(set_pin::write(info, pin, new_pin, out))
 }
 
-#[unsafe(no_mangle)]
-pub extern "C" fn cvr_pin_info_read(payload: &[u8]) -> PinInfoAnswer
+pub fn cvr_pin_info_read(payload: &[u8]) -> PinInfoAnswer
     ensures { result ≡ pin_info_answer (pin_info.read_of payload.now) }
 {
     pin_info_answer(pin_info::read(payload))
 }
 
-#[unsafe(no_mangle)]
-pub extern "C" fn cvr_pin_info_write(info: PinInfo, out: &mut [u8]) -> WrittenAnswer
+pub fn cvr_pin_info_write(info: PinInfo, out: &mut [u8]) -> WrittenAnswer
     ensures value { result ≡ written_answer (pin_info.write_of info out.old).answer }
     ensures out_after { out.new ≡ (pin_info.write_of info out.old).output }
 {
     written_answer(pin_info::write(info, out))
 }
 
-#[unsafe(no_mangle)]
-pub extern "C" fn cvr_pin_make(memory: &mut [u8], pins: PinStarts) -> Refusal
+pub fn cvr_pin_make(memory: &mut [u8], pins: PinStarts) -> Refusal
     ensures value { result ≡ refusal_of (make_in memory.old pins.rows).verdict }
     ensures memory_after { memory.new ≡ (make_in memory.old pins.rows).memory }
 {
     refusal_of(make(memory, pins))
 }
 
-#[unsafe(no_mangle)]
-pub extern "C" fn cvr_pin_enter(memory: &mut [u8], payload: &[u8]) -> EntryAnswer
+pub fn cvr_pin_enter(memory: &mut [u8], payload: &[u8]) -> EntryAnswer
     ensures value { result ≡ entry_answer (enter_in memory.old payload.now).answer }
     ensures memory_after { memory.new ≡ (enter_in memory.old payload.now).memory }
 {
     entry_answer(enter(memory, payload))
 }
 
-#[unsafe(no_mangle)]
-pub extern "C" fn cvr_pin_receive(
+pub fn cvr_pin_receive(
     modem: &mut [u8],
     pins: &mut [u8],
     message: MessageHeader,

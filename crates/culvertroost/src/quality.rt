@@ -7,22 +7,19 @@ ghost use Rattle.c_structs.specs.Quality.{reading_info, bars_info};
 use c_structs::quality::{BarsInfo, ReadingInfo, bars_info, reading_info};
 use signal_quality::{bars_of, rsrp_of, snr_of};
 
-#[unsafe(no_mangle)]
-pub extern "C" fn cvr_rsrp(code: u32) -> ReadingInfo
+pub fn cvr_rsrp(code: u32) -> ReadingInfo
     ensures { result ≡ reading_info (rsrp_of code) }
 {
     reading_info(rsrp_of(code))
 }
 
-#[unsafe(no_mangle)]
-pub extern "C" fn cvr_snr(code: u32) -> ReadingInfo
+pub fn cvr_snr(code: u32) -> ReadingInfo
     ensures { result ≡ reading_info (snr_of code) }
 {
     reading_info(snr_of(code))
 }
 
-#[unsafe(no_mangle)]
-pub extern "C" fn cvr_bars(rssi: u32) -> BarsInfo
+pub fn cvr_bars(rssi: u32) -> BarsInfo
     ensures { result ≡ bars_info (bars_of rssi) }
 {
     bars_info(bars_of(rssi))

@@ -16,8 +16,7 @@ use protocol::{Verdict, Written};
 use registration::{RegistrationRead, judge_choice, read};
 use registration_writer::write;
 
-#[unsafe(no_mangle)]
-pub extern "C" fn cvr_registration_read(version: u16, payload: &[u8]) -> RegistrationAnswer
+pub fn cvr_registration_read(version: u16, payload: &[u8]) -> RegistrationAnswer
     ensures { result ≡ answer_of (read_at version payload.now) }
 {
     match version_at(version) {
@@ -27,8 +26,7 @@ pub extern "C" fn cvr_registration_read(version: u16, payload: &[u8]) -> Registr
 }
 
 // Where the choice finds no fault, the answer is the plain one.
-#[unsafe(no_mangle)]
-pub extern "C" fn cvr_registration_read_with(
+pub fn cvr_registration_read_with(
     version: u16,
     zero_size: u32,
     payload: &[u8],
@@ -50,8 +48,7 @@ fn judge_chosen(version: u16, zero_size: u32, payload: &[u8]) -> Verdict
     }
 }
 
-#[unsafe(no_mangle)]
-pub extern "C" fn cvr_registration_write(
+pub fn cvr_registration_write(
     info: RegistrationInfo,
     provider_id: &[u8],
     provider_name: &[u8],

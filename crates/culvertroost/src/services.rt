@@ -27,18 +27,13 @@ use services_query::{
 };
 use services_writer::{ServiceList, write};
 
-#[unsafe(no_mangle)]
-pub extern "C" fn cvr_device_services_read(payload: &[u8]) -> DeviceServicesAnswer
+pub fn cvr_device_services_read(payload: &[u8]) -> DeviceServicesAnswer
     ensures { result ≡ answer_of (read_of payload.now) }
 {
     read_by(ZeroSize::Absent, payload)
 }
 
-#[unsafe(no_mangle)]
-pub extern "C" fn cvr_device_services_read_with(
-    zero_size: u32,
-    payload: &[u8],
-) -> DeviceServicesAnswer
+pub fn cvr_device_services_read_with(zero_size: u32, payload: &[u8]) -> DeviceServicesAnswer
     ensures { result ≡ answer_of (read_chosen zero_size payload.now) }
 {
     match zero_size_at(zero_size) {
@@ -48,20 +43,14 @@ pub extern "C" fn cvr_device_services_read_with(
 }
 
 // The element with a number, from 0; its CIDs go to the front of the list.
-#[unsafe(no_mangle)]
-pub extern "C" fn cvr_device_services_element(
-    payload: &[u8],
-    number: u32,
-    cids: &mut [u32],
-) -> ElementInfo
+pub fn cvr_device_services_element(payload: &[u8], number: u32, cids: &mut [u32]) -> ElementInfo
     ensures value { result ≡ element_info (element_of payload.now number cids.old).answer }
     ensures cids_after { cids.new ≡ (element_of payload.now number cids.old).output }
 {
     element_by(ZeroSize::Absent, payload, number, cids)
 }
 
-#[unsafe(no_mangle)]
-pub extern "C" fn cvr_device_services_element_with(
+pub fn cvr_device_services_element_with(
     zero_size: u32,
     payload: &[u8],
     number: u32,
@@ -77,20 +66,14 @@ pub extern "C" fn cvr_device_services_element_with(
 }
 
 // The first element of a service; its CIDs go to the front of the list.
-#[unsafe(no_mangle)]
-pub extern "C" fn cvr_device_services_cids(
-    payload: &[u8],
-    service: ServiceId,
-    cids: &mut [u32],
-) -> ElementInfo
+pub fn cvr_device_services_cids(payload: &[u8], service: ServiceId, cids: &mut [u32]) -> ElementInfo
     ensures value { result ≡ element_info (cids_of payload.now service cids.old).answer }
     ensures cids_after { cids.new ≡ (cids_of payload.now service cids.old).output }
 {
     element_info(cids_of(payload, service, cids))
 }
 
-#[unsafe(no_mangle)]
-pub extern "C" fn cvr_device_services_cids_with(
+pub fn cvr_device_services_cids_with(
     zero_size: u32,
     payload: &[u8],
     service: ServiceId,
@@ -106,12 +89,7 @@ pub extern "C" fn cvr_device_services_cids_with(
 }
 
 // All elements, each as seven numbers, and all CIDs, element by element, at the fronts of the lists.
-#[unsafe(no_mangle)]
-pub extern "C" fn cvr_device_services_all(
-    payload: &[u8],
-    fields: &mut [u32],
-    cids: &mut [u32],
-) -> AllInfo
+pub fn cvr_device_services_all(payload: &[u8], fields: &mut [u32], cids: &mut [u32]) -> AllInfo
     ensures value { result ≡ all_info (all_of payload.now fields.old cids.old).answer }
     ensures fields_after { fields.new ≡ (all_of payload.now fields.old cids.old).fields }
     ensures cids_after { cids.new ≡ (all_of payload.now fields.old cids.old).cids }
@@ -119,8 +97,7 @@ pub extern "C" fn cvr_device_services_all(
     all_by(ZeroSize::Absent, payload, fields, cids)
 }
 
-#[unsafe(no_mangle)]
-pub extern "C" fn cvr_device_services_all_with(
+pub fn cvr_device_services_all_with(
     zero_size: u32,
     payload: &[u8],
     fields: &mut [u32],
@@ -137,19 +114,13 @@ pub extern "C" fn cvr_device_services_all_with(
 }
 
 // Whether any element is of the service and holds the CID.
-#[unsafe(no_mangle)]
-pub extern "C" fn cvr_device_services_listed(
-    payload: &[u8],
-    service: ServiceId,
-    cid: u32,
-) -> ListedInfo
+pub fn cvr_device_services_listed(payload: &[u8], service: ServiceId, cid: u32) -> ListedInfo
     ensures { result ≡ listed_info (listed_of payload.now service cid) }
 {
     listed_by(ZeroSize::Absent, payload, service, cid)
 }
 
-#[unsafe(no_mangle)]
-pub extern "C" fn cvr_device_services_listed_with(
+pub fn cvr_device_services_listed_with(
     zero_size: u32,
     payload: &[u8],
     service: ServiceId,
@@ -164,19 +135,13 @@ pub extern "C" fn cvr_device_services_listed_with(
 }
 
 // The same, judged no further than the answer needs, and where.
-#[unsafe(no_mangle)]
-pub extern "C" fn cvr_device_services_ask(
-    payload: &[u8],
-    service: ServiceId,
-    cid: u32,
-) -> PositionInfo
+pub fn cvr_device_services_ask(payload: &[u8], service: ServiceId, cid: u32) -> PositionInfo
     ensures { result ≡ position_info (position_of payload.now service cid) }
 {
     ask_by(ZeroSize::Absent, payload, service, cid)
 }
 
-#[unsafe(no_mangle)]
-pub extern "C" fn cvr_device_services_ask_with(
+pub fn cvr_device_services_ask_with(
     zero_size: u32,
     payload: &[u8],
     service: ServiceId,
@@ -190,8 +155,7 @@ pub extern "C" fn cvr_device_services_ask_with(
     }
 }
 
-#[unsafe(no_mangle)]
-pub extern "C" fn cvr_device_services_write(list: ServiceList, out: &mut [u8]) -> WrittenAnswer
+pub fn cvr_device_services_write(list: ServiceList, out: &mut [u8]) -> WrittenAnswer
     ensures value { result ≡ written_answer (write_of list out.old).answer }
     ensures out_after { out.new ≡ (write_of list out.old).output }
 {
@@ -199,8 +163,7 @@ pub extern "C" fn cvr_device_services_write(list: ServiceList, out: &mut [u8]) -
 }
 
 // Each element as seven numbers, and all CIDs, element by element: the writer with no record.
-#[unsafe(no_mangle)]
-pub extern "C" fn cvr_device_services_write_all(
+pub fn cvr_device_services_write_all(
     max_dss_sessions: u32,
     fields: &[u32],
     cids: &[u32],
@@ -213,8 +176,7 @@ pub extern "C" fn cvr_device_services_write_all(
 }
 
 // The id whose printed bytes come first, zero where there are none.
-#[unsafe(no_mangle)]
-pub extern "C" fn cvr_service_id(bytes: &[u8]) -> ServiceId
+pub fn cvr_service_id(bytes: &[u8]) -> ServiceId
     ensures { result ≡ id_at bytes.now 0 }
 {
     id_at(bytes, 0)

@@ -16,8 +16,7 @@ use protocol::{Verdict, Written};
 use signal_state::{judge_choice, read};
 use signal_writer::write;
 
-#[unsafe(no_mangle)]
-pub extern "C" fn cvr_signal_state_read(version: u16, payload: &[u8]) -> SignalStateAnswer
+pub fn cvr_signal_state_read(version: u16, payload: &[u8]) -> SignalStateAnswer
     ensures { result ≡ answer_of (read_at version payload.now) }
 {
     answer_at(version, payload)
@@ -34,12 +33,7 @@ fn answer_at(version: u16, payload: &[u8]) -> SignalStateAnswer
 }
 
 // Where the choice finds no fault, the answer is the plain one.
-#[unsafe(no_mangle)]
-pub extern "C" fn cvr_signal_state_read_with(
-    version: u16,
-    zero_size: u32,
-    payload: &[u8],
-) -> SignalStateAnswer
+pub fn cvr_signal_state_read_with(version: u16, zero_size: u32, payload: &[u8]) -> SignalStateAnswer
     ensures { result ≡ answer_of (read_chosen version zero_size payload.now) }
 {
     match judge_chosen(version, zero_size, payload) {
@@ -57,8 +51,7 @@ fn judge_chosen(version: u16, zero_size: u32, payload: &[u8]) -> Verdict
     }
 }
 
-#[unsafe(no_mangle)]
-pub extern "C" fn cvr_signal_state_write(info: SignalStateInfo, out: &mut [u8]) -> WrittenAnswer
+pub fn cvr_signal_state_write(info: SignalStateInfo, out: &mut [u8]) -> WrittenAnswer
     ensures value { result ≡ written_answer (write_at info out.old).answer }
     ensures out_after { out.new ≡ (write_at info out.old).output }
 {

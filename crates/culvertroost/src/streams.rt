@@ -10,8 +10,7 @@ use c_structs::streams::{StreamInfo, stream_info};
 use lent_stream::{feed, reset};
 use protocol::Refusal;
 
-#[unsafe(no_mangle)]
-pub extern "C" fn cvr_stream_reset(stream: &mut [u8], assembly: &mut [u8]) -> Refusal
+pub fn cvr_stream_reset(stream: &mut [u8], assembly: &mut [u8]) -> Refusal
     ensures value { result ≡ refusal_of (reset_in stream.old assembly.old).verdict }
     ensures stream_after { stream.new ≡ (reset_in stream.old assembly.old).memory }
     ensures assembly_after { assembly.new ≡ (reset_in stream.old assembly.old).assembly }
@@ -19,8 +18,7 @@ pub extern "C" fn cvr_stream_reset(stream: &mut [u8], assembly: &mut [u8]) -> Re
     refusal_of(reset(stream, assembly))
 }
 
-#[unsafe(no_mangle)]
-pub extern "C" fn cvr_stream_feed(
+pub fn cvr_stream_feed(
     stream: &mut [u8],
     assembly: &mut [u8],
     chunk: &[u8],

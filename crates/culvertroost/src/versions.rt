@@ -8,15 +8,13 @@ use c_structs::versions::{VersionInfoAnswer, answer_of};
 use c_structs::{WrittenAnswer, written_answer};
 use version_info::{VersionInfo, read, write};
 
-#[unsafe(no_mangle)]
-pub extern "C" fn cvr_version_info_read(payload: &[u8]) -> VersionInfoAnswer
+pub fn cvr_version_info_read(payload: &[u8]) -> VersionInfoAnswer
     ensures { result ≡ answer_of (read_of payload.now) }
 {
     answer_of(read(payload))
 }
 
-#[unsafe(no_mangle)]
-pub extern "C" fn cvr_version_info_write(info: VersionInfo, out: &mut [u8]) -> WrittenAnswer
+pub fn cvr_version_info_write(info: VersionInfo, out: &mut [u8]) -> WrittenAnswer
     ensures value { result ≡ written_answer (write_of info out.old).answer }
     ensures out_after { out.new ≡ (write_of info out.old).output }
 {

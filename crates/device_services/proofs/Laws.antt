@@ -7,14 +7,12 @@ use native.Mathlib.Nat.{zero-add, min-eq_right}
 use native.Mathlib.Omega.{arith}
 use borrow.Author.Tests.{ltb-false}
 use lib.ListN.{length}
-use Rattle.protocol.specs.Refusal.{refusal, wrong_size}
 use Rattle.protocol.specs.Verdict.{judge_from, fault_if, first_of, open_length}
 use Rattle.protocol.specs.declared.Verdict.{Verdict}
 use Rattle.protocol.specs.declared.Verdict.TheVariants.{Fits, Fault}
 use Rattle.protocol.proofs.Verdicts.{left-fits, fits_kept}
 use Rattle.folds.specs.Folds.{first_fault}
 use Rattle.folds.proofs.Laws.{fault-same}
-use Rattle.pairs.specs.Pair.{range}
 use Rattle.pairs.specs.declared.PairKind.TheVariants.{List as ListKind}
 use Rattle.pairs.specs.declared.ZeroSize.{ZeroSize}
 use Rattle.pairs.specs.declared.ZeroSize.TheVariants.{Strict}

@@ -1,6 +1,6 @@
 -- An accepted list has at most 32 elements, each of at most 128 CIDs.
 -- Assumes nothing.
-use mathlib.Core.Path.{◌≡◌, sym}
+use mathlib.Core.Path.{◌≡◌}
 use mathlib.Core.List.{List}
 use Prim.Native.Nat.{ℕ, ◌≤◌}
 use Rattle.pairs.specs.Pair.{range_at}

@@ -1,15 +1,13 @@
 -- An accepted payload has at most 16 entries, and the rows of entries are put one behind the other.
 -- Assumes nothing.
-use mathlib.Core.Path.{◌≡◌, refl, sym, ap, ◌∙◌}
+use mathlib.Core.Path.{◌≡◌}
 use mathlib.Core.Logic.{◌⊎◌, inl, inr}
-use mathlib.Core.Bool.{cond}
 use mathlib.Core.List.{List}
 use Prim.Native.Nat.{ℕ, ◌≤◌}
 use native.Mathlib.Omega.{arith}
 use borrow.Author.Tests.{eq-eqb}
 use Rattle.protocol.specs.declared.Version.{Version}
 use Rattle.protocol.specs.declared.Version.TheVariants.{V1, V2}
-use Rattle.wire.specs.Numbers.{u32_at}
 use Rattle.pairs.specs.Pair.{range_at}
 use Rattle.signal_state.specs.SignalState.{count_at, state_at, record_at, read_with}
 use Rattle.pairs.specs.declared.ZeroSize.{ZeroSize}

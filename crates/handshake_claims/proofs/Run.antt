@@ -3,10 +3,9 @@
 use Prim.Native.Nat.{ℕ, ◌≤◌, ◌<◌}
 use mathlib.Core.Path.{◌≡◌, refl}
 use mathlib.Core.Bool.{Bool, true, false}
-use mathlib.Core.List.{List, [], ◌∷◌}
+use mathlib.Core.List.{List, []}
 use native.Mathlib.Omega.{arith}
 use borrow.Author.Tests.{ne_eqb}
-use lib.Dec.{eqb}
 use lib.ListN.{length, take}
 use Rattle.wire.specs.Numbers.{u32_at}
 use Rattle.protocol.specs.Service.{basic_connect, extensions, id_at, same_id, among, kind_of}
@@ -23,20 +22,18 @@ use Rattle.protocol.proofs.Verdicts.{both-written, written-front, kept-fits}
 use Rattle.version_info.specs.VersionInfo.{rules, verdict_of, read_of, bytes_of, write_of}
 use Rattle.version_info.specs.declared.VersionInfoRead.TheVariants.{Info}
 use Rattle.version_info.proofs.RoundTrip.{bytes_read}
-use Rattle.handshake.specs.Versions.{number_of, number_verdict, version_of, info_of, larger, lower, above}
+use Rattle.handshake.specs.Versions.{number_of, number_verdict, version_of, info_of, larger, lower}
 use Rattle.message.specs.declared.MessageHeader.{MessageHeader}
 use Rattle.handshake.specs.Commands.{services_cid, version_cid, role_of_kind, role_of, version_listed}
 use Rattle.host.specs.Host.{end, unchanged, settled_at, made_of, opened_of, ask_of, list_rules, list_at, answered_at, answered_by, services_reply_of, version_reply_of, reply_role, receive_by, receive_of}
 use Rattle.protocol.specs.Status.{no_device_support}
-use Rattle.modem.specs.Modem.{end as modem_end, made_rules, made_of as modem_made_of, start_of, served_as, services_of, gave, give_of, answer_by, can_answer, version_of_command, other_at, command_by, command_of, command_rules, receive_by as commanded_by, receive_of as modem_receives}
-use Rattle.handshake_claims.specs.Run.{Message, headed, asks_services, asks_version, sends, reply_to, reply_by, Line, reaches, Passes, both, after_reply, answered, taken, command_over, Rooms, turn, run, expected, Outcome, listed_as, OtherCommand, Ready}
+use Rattle.modem.specs.Modem.{end as modem_end, made_rules, made_of as modem_made_of, served_as, services_of, gave, give_of, answer_by, can_answer, version_of_command, other_at, command_by, command_of, command_rules, receive_by as commanded_by, receive_of as modem_receives}
+use Rattle.handshake_claims.specs.Run.{Message, headed, asks_services, asks_version, sends, reply_by, Line, reaches, Passes, both, after_reply, answered, taken, command_over, Rooms, turn, run, expected, Outcome, listed_as, OtherCommand, Ready}
 use Rattle.host.specs.declared.HostStage.{HostStage}
 use Rattle.host.specs.declared.HostStage.TheVariants as host
 use Rattle.host.specs.declared.Host.{Host}
 use Rattle.host.specs.declared.HostMade.TheVariants as host_made
-use Rattle.modem.specs.declared.ModemMade.TheVariants as modem_made
 use Rattle.host.specs.declared.HostAnswer.TheVariants as answer
-use Rattle.modem.specs.declared.ModemStage.{ModemStage}
 use Rattle.modem.specs.declared.ModemStage.TheVariants as modem
 use Rattle.handshake.specs.declared.Role.TheVariants as role
 use Rattle.handshake_claims.proofs.Refusing.{accepted-list}

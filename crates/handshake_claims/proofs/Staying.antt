@@ -20,7 +20,7 @@ use Rattle.services_query.specs.declared.ListedAnswer.TheVariants as list
 use Rattle.handshake.specs.Commands.{role_of}
 use Rattle.host.specs.Host.{list_at, list_reply, version_asked, services_reply_of, answered_at, failed_at, answered_by, version_reply_of, reply_role, receive_by, receive_of}
 use Rattle.modem.specs.Modem.{at, listed_stage, services_of, can_answer, version_of_command, other_at, command_by, command_of, command_rules, receive_by as commanded_by, receive_of as modem_receives}
-use Rattle.handshake_claims.specs.Calls.{HostCall, host-opens, host-closes, host-receives, host-asks, host_after, host_after_all, HostQuiet, ModemCall, modem-opens, modem-closes, modem-receives, modem_after, modem_after_all, ModemQuiet}
+use Rattle.handshake_claims.specs.Calls.{host-opens, host-closes, host-receives, host-asks, host_after, host_after_all, modem-opens, modem-closes, modem-receives, modem_after, modem_after_all}
 use Rattle.host.specs.declared.HostStage.TheVariants as host
 use Rattle.host.specs.declared.Host.{Host}
 use Rattle.host.specs.declared.HostStep.{HostStep}

@@ -2,7 +2,7 @@
 -- Assumes nothing.
 use mathlib.Core.Path.{◌≡◌, refl, sym, ap, ◌∙◌}
 use mathlib.Core.Logic.{inl, inr, ⊎_elim}
-use mathlib.Core.Bool.{Bool, true, false, not, ◌&&◌}
+use mathlib.Core.Bool.{Bool, true, false, not}
 use mathlib.Core.List.{List, ◌++◌}
 use Prim.Native.Nat.{ℕ, ◌+◌, ◌-◌, ◌≤◌, ◌<◌}
 use native.Mathlib.Omega.{arith}
@@ -18,13 +18,13 @@ use Rattle.protocol.specs.declared.Verdict.TheVariants.{Fits}
 use Rattle.protocol.proofs.Tests.{or_cases, cases-and}
 use Rattle.protocol.proofs.Verdicts.{kept-fits}
 use Rattle.protocol.specs.MessageType.{is_whole, is_fragmented}
-use Rattle.message.specs.Message.{is_whole_piece, header_at, wrong_amount, fragment_of}
+use Rattle.message.specs.Message.{is_whole_piece, header_at, fragment_of}
 use Rattle.message.specs.declared.Fragment.TheVariants as fragment
 use Rattle.message.proofs.Headers.{accepted-later, right-less}
-use Rattle.assembler.specs.Assembly.{Step, assembly_of, waiting, grown_progress, grown, gather_of, continues, join_rules, join_of, judged_by, judged_of, begun_bytes, step_by, step_of}
+use Rattle.assembler.specs.Assembly.{assembly_of, waiting, grown_progress, grown, gather_of, continues, join_rules, join_of, judged_by, judged_of, begun_bytes, step_by, step_of}
 use Rattle.assembler.specs.declared.Progress.{Progress}
 use Rattle.lent_progress.specs.LentProgress.{above_carried, pending_rules, progress_verdict}
-use Rattle.lent.specs.LentAssembly.{assembly_size, buffer_in, message_bytes, count_bytes, progress_bytes, changed_in, held, NextPiece, Amid, GoesOn}
+use Rattle.lent.specs.LentAssembly.{assembly_size, buffer_in, message_bytes, count_bytes, progress_bytes, changed_in, held, GoesOn}
 use Rattle.lent.proofs.Memory.{length-progress, length-buffer, put_back, changed-all}
 
 -- what is false is not true

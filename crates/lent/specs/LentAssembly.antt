@@ -1,17 +1,16 @@
 -- The assembly in lent memory (document 01: "the assembly holds 4,096 bytes, all zero when empty"): 48 bytes of numbers, then the 4,096.
 -- In this order: places; emptying; feeding; any received piece. Which numbers feeding from empty can have left stands in crate lent_progress.
-use Rattle.std.specs.Prelude.{ℕ, ◌+◌, ◌-◌, ◌≤◌, ◌≡◌, Bool, true, false, not, cond, ◌&&◌, List, [], ◌∷◌, ◌++◌, ltb, leb, eqb, length, take, drop, replicate}
+use Rattle.std.specs.Prelude.{ℕ, ◌+◌, ◌-◌, ◌≤◌, ◌≡◌, true, false, cond, List, [], ◌++◌, ltb, length, take, drop, replicate}
 use Rattle.std.proofs.lemmas.List.Edits.{sets}
 use Rattle.wire.specs.Numbers.{u32_at, digits}
 use Rattle.wire.specs.Output.{over}
-use Rattle.protocol.specs.Refusal.{refusal, contradiction, output_too_small}
-use Rattle.protocol.specs.Verdict.{Rule, rule, judge}
+use Rattle.protocol.specs.Refusal.{refusal, output_too_small}
 use Rattle.protocol.specs.Service.{id_at, id_bytes}
-use Rattle.protocol.specs.MessageType.{INDICATE-STATUS, is_fragmented}
+use Rattle.protocol.specs.MessageType.{is_fragmented}
 use Rattle.protocol.specs.declared.Refusal.{Refusal}
 use Rattle.protocol.specs.declared.Verdict.{Verdict}
 use Rattle.protocol.specs.declared.Verdict.TheVariants.{Fits, Fault}
-use Rattle.message.specs.Message.{most_information, most_transfer, most_fragments, first_length, wrong_word, is_whole_piece}
+use Rattle.message.specs.Message.{most_information, most_transfer, most_fragments, is_whole_piece}
 use Rattle.message.specs.declared.MessageHeader.{MessageHeader}
 use Rattle.assembler.specs.Assembly.{assembly_of, Step, step_of}
 use Rattle.assembler.specs.declared.Progress.{Progress}

@@ -19,7 +19,7 @@ use Rattle.protocol.proofs.Tests.{not-kept, equal-kept, and_cases}
 use Rattle.protocol.proofs.Verdicts.{fits_kept, kept-fits}
 use Rattle.version_info.specs.VersionInfo.{is_extension}
 use Rattle.handshake.specs.Versions.{number_of, version_of, is_later}
-use Rattle.modem.specs.Modem.{end, settled_number, made_of, start_of, receive_of}
+use Rattle.modem.specs.Modem.{settled_number, made_of, start_of, receive_of}
 use Rattle.handshake_claims.specs.Calls.{ModemCall, modem-opens, modem-closes, modem-receives, modem_after, ModemSound, ModemSoundAt}
 use Rattle.modem.specs.declared.Modem.{Modem}
 use Rattle.modem.specs.declared.ModemMade.TheVariants as made

@@ -1,6 +1,6 @@
 -- The numbers of an assembly in lent memory: which of them feeding from empty can have left: no message, every number 0, or a pending one;
 -- else 10 at the field's place. The bytes of the buffer are not looked at: those past the gathered ones are never shown.
-use Rattle.std.specs.Prelude.{ℕ, ◌+◌, Bool, not, cond, ◌&&◌, List, [], ◌∷◌, ltb, leb, eqb}
+use Rattle.std.specs.Prelude.{◌+◌, Bool, not, cond, ◌&&◌, List, [], ◌∷◌, ltb, leb, eqb}
 use Rattle.protocol.specs.Refusal.{contradiction}
 use Rattle.protocol.specs.Verdict.{Rule, rule, judge}
 use Rattle.protocol.specs.MessageType.{INDICATE-STATUS, is_fragmented}

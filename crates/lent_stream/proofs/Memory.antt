@@ -115,7 +115,7 @@ zero-head m own e f =
 -- what is returned, the two memories and the output
 abbrev Gives : FeedingIn → FedLent → List ℕ → List ℕ → List ℕ → List ℕ → Type 0
 Gives f r memory assembly before out =
-    (r ≡ f.fed) × ((memory ≡ f.memory) × ((assembly ≡ f.assembly) × (out ≡ over f.information before)))
+    record { value : r ≡ f.fed; memory_after : memory ≡ f.memory; assembly_after : assembly ≡ f.assembly; out_after : out ≡ over f.information before }
 
 module _ (m a c out : List ℕ) (T : Taken m (length a) (length out)) (going : eqb (u32_at m 4) 1 ≡ false) {held : ℕ} (is : held ≡ u32_at m 0) {x : Ready} {q : List ℕ}
     (ready : x ≡ (prepared_of (state_of held false) (piece_in m) c (length out)).ready)
@@ -164,11 +164,11 @@ module _ (m a c out : List ℕ) (T : Taken m (length a) (length out)) (going : e
   unfolding finished_by stored_in stream_bytes state_bytes over
   done-gives t y n e es =
       let o = done-open (u32_at m 0) (piece_in m) c (length out) T.output (omega (arith, length-piece m T.own)) made e in
-      rw (← is-fed (Done t y n) e, o.1) (refl, (put_front 8 4096 m q (state_bytes t.held 0) T.own whole refl es, (refl, refl)))
+      rw (← is-fed (Done t y n) e, o.1) (record { value = refl; memory_after = put_front 8 4096 m q (state_bytes t.held 0) T.own whole refl es; assembly_after = refl; out_after = refl })
 
   pub end-gives : (t n : ℕ) {s b : List ℕ} {r : FedLent} → x ≡ Ends t n → s ≡ sets mid 0 (state_bytes 0 1) → b ≡ ended_on memory_door a t → r ≡ ended_fed n → Gives (fed_in m a c (length out)) r s b out out
   unfolding finished_by stored_in stream_bytes state_bytes over
-  end-gives t n e es eb er = rw (← is-fed (Ends t n) e) (er, (put_front 8 4096 m q (state_bytes 0 1) T.own whole refl es, (eb, refl)))
+  end-gives t n e es eb er = rw (← is-fed (Ends t n) e) (record { value = er; memory_after = put_front 8 4096 m q (state_bytes 0 1) T.own whole refl es; assembly_after = eb; out_after = refl })
 
   -- the piece y went through the door
   module _ (y : List ℕ) {z : Received} {b o : List ℕ} (ez : z ≡ (receive_in a y (length out)).received) (eb : b ≡ (receive_in a y (length out)).memory)
@@ -194,7 +194,7 @@ module _ (m a c out : List ℕ) (T : Taken m (length a) (length out)) (going : e
       let head = zero-head m T.own zero idle in
       let t = through (take n c) ez eb eo n in
       rw (← is-fed (InChunk n) e)
-      (t.0, (ap (λ (xs : List ℕ). xs ++ (q ++ drop 4096 (drop 8 m))) head ∙ sym (over-parts m T.own (state_bytes 0 0) q refl whole), (t.1, t.2)))
+      (record { value = t.0; memory_after = ap (λ (xs : List ℕ). xs ++ (q ++ drop 4096 (drop 8 m))) head ∙ sym (over-parts m T.own (state_bytes 0 0) q refl whole); assembly_after = t.1; out_after = t.2 })
 
   -- where the piece lies in the buffer
   buffer-piece : (n : ℕ) → n ≤ 4096 → take (8 + n - 8) (drop 8 mid) ≡ take n q
@@ -232,7 +232,7 @@ module _ (m a c out : List ℕ) (T : Taken m (length a) (length out)) (going : e
       let l = buffer-there e in
       let t = through (take (8 + n - 8) (drop 8 mid)) ez eb eo k in
       let p = buffer-piece n l in
-      rw (← is-fed (InBuffer n k) e, ← p) (t.0, (cleared n l es ∙ refl, (t.1, t.2)))
+      rw (← is-fed (InBuffer n k) e, ← p) (record { value = t.0; memory_after = cleared n l es ∙ refl; assembly_after = t.1; out_after = t.2 })
 
 -- ---- the bytes held, judged
 

@@ -2,11 +2,11 @@
 // every byte of a listing is the library's.
 #![tactic(auto)]
 
-ghost use Rattle.std.specs.Prelude.{◌≤◌};
+ghost use Rattle.std.specs.Prelude.{◌≤◌, IfOk};
 
-use libc::{STDIN_FILENO, STDOUT_FILENO};
 use listing::lines::collect;
 use listing::list_line;
+use std::io::{self, Read, Write};
 
 // How many bytes of an unfinished line are kept, and whether there may be more to answer.
 #[derive(Clone, Copy)]
@@ -15,65 +15,65 @@ struct Answered {
     goes_on: bool,
 }
 
-fn main() {
+fn main(rt: HostRuntime) -> io::Result<()> {
     let mut line = [0u8; 16640];
     let mut out = [0u8; 524288];
-    let have = answer_all(&mut line, &mut out);
+    let have = answer_all(rt, &mut line, &mut out)?;
     if 0 < have {
-        answer(&line, have, &mut out);
+        answer(rt, &line, have, &mut out)?;
     }
+    Ok(())
 }
 
-// A proved loop has to end, and nothing says that an input does: the loop counts its turns down
-// from a number that no run uses up.
-fn answer_all(line: &mut [u8; 16640], out: &mut [u8; 524288]) -> usize
-    ensures { result ≤ 16640 }
+// A proved loop has to end, and nothing says that an input does: the loop takes no more turns than a
+// number that no run uses up.
+fn answer_all(rt: HostRuntime, line: &mut [u8; 16640], out: &mut [u8; 524288]) -> io::Result<usize>
+    ensures { IfOk result (λ have. have ≤ 16640) }
 {
-    let mut chunk = io::large_buffer();
+    let mut chunk = [0u8; 65536];
     let mut have: usize = 0;
-    let mut turns = u64::MAX;
-    while turns > 0 {
-        let answered = answer_some(&mut chunk, line, have, out);
+    for _ in 0..u64::MAX {
+        let answered = answer_some(rt, &mut chunk, line, have, out)?;
         have = answered.have;
         if !answered.goes_on {
-            return have;
+            return Ok(have);
         }
-        turns -= 1;
     }
-    have
+    Ok(have)
 }
 
 // Reads once, and answers what came.
 fn answer_some(
+    rt: HostRuntime,
     chunk: &mut [u8; 65536],
     line: &mut [u8; 16640],
     kept: usize,
     out: &mut [u8; 524288],
-) -> Answered
+) -> io::Result<Answered>
     requires { kept ≤ 16640 }
-    ensures { result.have ≤ 16640 }
+    ensures { IfOk result (λ answered. answered.have ≤ 16640) }
 {
-    let got = libc::read(STDIN_FILENO, &mut chunk[..]);
-    if got <= 0 {
-        return Answered {
+    let n = rt.stdin().read(&mut chunk[..])?;
+    if n == 0 {
+        return Ok(Answered {
             have: kept,
             goes_on: false,
-        };
+        });
     }
     let all = &chunk[..];
-    let n = io::count(got, all);
-    answer_chunk(&all[..n], line, kept, out)
+    answer_chunk(rt, &all[..n], line, kept, out)
 }
 
 // Answers every line that ends in the chunk.
 fn answer_chunk(
+    rt: HostRuntime,
     chunk: &[u8],
     line: &mut [u8; 16640],
     kept: usize,
     out: &mut [u8; 524288],
-) -> Answered
+) -> io::Result<Answered>
     requires { kept ≤ 16640 }
-    ensures { result.have ≤ 16640 }
+    ensures { IfOk result (λ answered. answered.have ≤ 16640) }
 {
     let mut have = kept;
     let mut from: usize = 0;
@@ -82,26 +82,26 @@ fn answer_chunk(
         from = part.next;
         have = part.have;
         if part.is_ended {
-            if !answer(line, have, out) {
-                return Answered {
-                    have: 0,
-                    goes_on: false,
-                };
-            }
+            answer(rt, line, have, out)?;
             have = 0;
         }
     }
-    Answered {
+    Ok(Answered {
         have,
         goes_on: true,
-    }
+    })
 }
 
-fn answer(line: &[u8; 16640], have: usize, out: &mut [u8; 524288]) -> bool
+fn answer(
+    rt: HostRuntime,
+    line: &[u8; 16640],
+    have: usize,
+    out: &mut [u8; 524288],
+) -> io::Result<()>
     requires { have ≤ 16640 }
 {
     let all = &line[..];
     let n = list_line(&all[..have], out);
     let text = &out[..];
-    io::write_all(STDOUT_FILENO, &text[..n])
+    rt.stdout().write_all(&text[..n])
 }

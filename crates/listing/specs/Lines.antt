@@ -1,5 +1,5 @@
 -- Lines out of chunks: a line goes up to its line feed, and its first 16,640 bytes are kept; no good line is longer.
-use Rattle.std.specs.Prelude.{ℕ, ◌+◌, ◌-◌, min, Bool, cond, false, List, leb, eqb, length, get_or, take, drop}
+use Rattle.std.specs.Prelude.{ℕ, ◌+◌, ◌-◌, min, cond, false, List, leb, eqb, length, get_or, take, drop}
 use Rattle.ascii.specs.Ascii.{line_feed, through}
 use Rattle.listing.specs.declared.lines.Collected.{Collected}
 

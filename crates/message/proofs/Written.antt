@@ -1,18 +1,17 @@
 -- A whole message that is written is judged good, and is what was written.
 -- Assumes nothing.
 use Prim.Native.Nat.{ℕ, ◌^◌, ◌≤◌, ◌<◌}
-use mathlib.Core.Path.{◌≡◌, refl, ◌∙◌, ap}
-use mathlib.Core.Bool.{Bool, true, false, not, cond}
-use mathlib.Core.List.{List, [], ◌++◌}
+use mathlib.Core.Path.{◌≡◌, refl}
+use mathlib.Core.Bool.{Bool, true, false, cond}
+use mathlib.Core.List.{[], ◌++◌}
 use native.Mathlib.Omega.{arith}
 use borrow.Author.Tests.{eq-eqb, le-ltb}
 use lib.Dec.{eqb}
-use lib.ListN.{length, take}
+use lib.ListN.{length}
 use Rattle.wire.specs.Numbers.{u32_at, digits}
 use Rattle.wire.proofs.Laws.{num-digits}
 use Rattle.protocol.specs.MessageType.{CLOSE, is_whole}
 use Rattle.protocol.specs.Verdict.{Kept}
-use Rattle.protocol.specs.declared.Written.TheVariants.{Length}
 use Rattle.protocol.proofs.Tests.{not-kept}
 use Rattle.protocol.proofs.Verdicts.{fits_kept, kept-fits, written-fits, written-front}
 use Rattle.message.specs.Message.{whole_length, whole_rules, whole_word_at, whole_by, whole_of, head_bytes, whole_bytes, write_whole_of}

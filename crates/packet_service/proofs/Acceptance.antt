@@ -2,10 +2,10 @@
 -- exactly when its fields meet them.
 -- Assumes nothing.
 use mathlib.Core.Path.{◌≡◌, refl, sym}
-use mathlib.Core.Logic.{◌↔◌, ⊎_map}
+use mathlib.Core.Logic.{⊎_map}
 use mathlib.Core.Bool.{false, not, ◌||◌}
 use mathlib.Core.List.{List}
-use Prim.Native.Nat.{ℕ, ◌≤◌}
+use Prim.Native.Nat.{ℕ}
 use native.Mathlib.Omega.{arith}
 use borrow.Author.Tests.{ltb-false, le-ltb, eqb-true, eq-eqb}
 use lib.Dec.{eqb}
@@ -18,13 +18,12 @@ use Rattle.protocol.specs.declared.Version.{Version}
 use Rattle.protocol.specs.declared.Version.TheVariants.{V1, V2}
 use Rattle.protocol.proofs.Tests.{or_cases, cases-or, and_cases, cases-and, not-kept, kept-not, equal-kept, kept-equal}
 use Rattle.protocol.proofs.Verdicts.{fits_kept, kept-fits, then-kept, kept_then, exact-length, length-exact, written_both, both-written}
-use Rattle.protocol.specs.declared.Written.TheVariants.{Length}
 use Rattle.packet_service.specs.declared.PacketForm.{PacketForm}
 use Rattle.packet_service.specs.declared.PacketForm.TheVariants.{V1 as Form1, V2 as Form2}
 use Rattle.packet_service.specs.declared.PacketService.{PacketService}
 use Rattle.packet_service.specs.declared.PacketServiceRead.TheVariants.{Info}
 use Rattle.packet_service.specs.PacketService.{length_of, record_at, packet_class, later_rules, form_rules, rules, verdict_of, shown, read_of, bytes_of, write_of}
-use Rattle.packet_service.specs.Claims.{PacketClass, LaterFits, FormFits, Acceptable, FormWritable, Writable, Accepted, AcceptedExactly, WrittenExactly}
+use Rattle.packet_service.specs.Claims.{PacketClass, LaterFits, Acceptable, FormWritable, Writable, Accepted, AcceptedExactly, WrittenExactly}
 use Rattle.packet_service.proofs.Hspa.{class-exactly}
 
 -- ---- each rule as a fact

@@ -1,15 +1,9 @@
 -- The bytes of one form, read at the other version, are refused at their length: those of 2.00 are too long, those of 1.00 too short.
 -- Assumes nothing.
-use mathlib.Core.Path.{◌≡◌, refl}
 use native.Mathlib.Omega.{arith}
-use lib.ListN.{length}
-use Rattle.protocol.specs.Refusal.{refusal, too_short, wrong_length}
 use Rattle.protocol.specs.Verdict.{first_of}
-use Rattle.protocol.specs.declared.Version.TheVariants.{V1, V2}
 use Rattle.protocol.proofs.Verdicts.{length-short, length-long}
-use Rattle.packet_service.specs.declared.PacketService.{PacketService}
-use Rattle.packet_service.specs.declared.PacketServiceRead.TheVariants.{Refused}
-use Rattle.packet_service.specs.PacketService.{read_of, version_of, bytes_of}
+use Rattle.packet_service.specs.PacketService.{read_of}
 use Rattle.packet_service.proofs.Laws.{length-bytes}
 use Rattle.packet_service.specs.Claims.{LaterReadEarlier, EarlierReadLater}
 

@@ -1,14 +1,12 @@
 -- Reading what the writer gives returns the record.
 -- Assumes nothing.
 use mathlib.Core.Path.{◌≡◌, ap}
-use mathlib.Core.List.{List, [], ◌++◌}
-use Prim.Native.Nat.{ℕ}
-use lib.ListN.{length, take}
+use mathlib.Core.List.{[], ◌++◌}
+use lib.ListN.{length}
 use Rattle.wire.specs.Numbers.{u32_at, u64_at}
 use Rattle.wire.proofs.Laws.{num-digits}
 use Rattle.protocol.specs.Verdict.{first_of}
 use Rattle.protocol.specs.declared.Verdict.TheVariants.{Fits}
-use Rattle.protocol.specs.declared.Written.TheVariants.{Length}
 use Rattle.protocol.proofs.Verdicts.{length-exact, written-fits, written-front}
 use Rattle.packet_service.specs.declared.PacketForm.{PacketForm}
 use Rattle.packet_service.specs.declared.PacketForm.TheVariants.{V1 as Form1, V2 as Form2}

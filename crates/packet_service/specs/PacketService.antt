@@ -1,7 +1,7 @@
 -- The PACKET_SERVICE payload (document 01, "Packet service"; document 02, order 4; source 000, MBIM_PACKET_SERVICE_INFO_V2).
 -- In this order: the fields and their places; the table of the class; the rules, in the order in which they are judged; what a reader answers;
 -- what a writer gives.
-use Rattle.std.specs.Prelude.{ℕ, Bool, true, false, not, ◌&&◌, ◌||◌, List, [], ◌∷◌, ◌++◌, ltb, eqb, length}
+use Rattle.std.specs.Prelude.{ℕ, Bool, not, ◌&&◌, ◌||◌, List, [], ◌∷◌, ◌++◌, ltb, eqb, length}
 use Rattle.wire.specs.Numbers.{u32_at, u64_at, digits}
 use Rattle.protocol.specs.Refusal.{outside_table, contradiction}
 use Rattle.protocol.specs.Verdict.{Rule, rule, judge, first_of, exact_length, Writing, writing}

@@ -8,7 +8,6 @@ use Rattle.protocol.specs.declared.Version.{Version}
 use Rattle.pairs.specs.Pair.{range_at}
 use Rattle.pairs.specs.declared.ZeroSize.{ZeroSize}
 use Rattle.registration.specs.Registration.{read_with, pairs_at, texts_at, fixed_part}
-use Rattle.registration.specs.Claims.{Acceptable}
 use Rattle.registration.specs.declared.Registration.{Registration}
 use Rattle.registration.specs.declared.RegistrationTexts.{RegistrationTexts}
 use Rattle.registration.specs.declared.RegistrationRead.TheVariants.{Info}

@@ -1,7 +1,6 @@
 -- The rows of a PIN_INFO payload.
 use Rattle.std.specs.Prelude.{ℕ, List, ◌++◌}
 use Rattle.ascii.specs.Ascii.{ascii}
-use Rattle.pin.specs.declared.pin_info.PinInfo.{PinInfo}
 use Rattle.pin.specs.declared.pin_info.PinInfoRead.{PinInfoRead}
 use Rattle.pin.specs.declared.pin_info.PinInfoRead.TheVariants.{Info, Refused}
 use Rattle.rows.specs.Rows.{header, row, refused_line}

@@ -1,7 +1,6 @@
 -- The rows of a VERSION payload.
 use Rattle.std.specs.Prelude.{ℕ, List, ◌++◌}
 use Rattle.ascii.specs.Ascii.{ascii}
-use Rattle.version_info.specs.declared.VersionInfo.{VersionInfo}
 use Rattle.version_info.specs.declared.VersionInfoRead.{VersionInfoRead}
 use Rattle.version_info.specs.declared.VersionInfoRead.TheVariants.{Info, Refused}
 use Rattle.rows.specs.Rows.{header, row, refused_line}

@@ -3,21 +3,17 @@
 use Prim.Native.Nat.{ℕ, zero, suc, ◌+◌, ◌-◌, ◌≤◌, ◌<◌}
 use mathlib.Core.Path.{◌≡◌, refl, sym, ap, ◌∙◌, fun_ext}
 use mathlib.Core.Bool.{Bool, true, false, cond, ◌&&◌, ◌||◌}
-use mathlib.Core.List.{List, [], ◌∷◌, map}
+use mathlib.Core.List.{List, [], ◌∷◌}
 use native.Mathlib.Omega.{arith}
 use native.Mathlib.Numerals.{add-one}
 use borrow.Author.Tests.{eqb-true, eqb-false, leb-true, leb-false, lt-ltb}
 use lib.Dec.{eqb, leb}
-use lib.ListN.{length, get_or, set, replicate, length-map, get_or-eq_default}
+use lib.ListN.{length, get_or, set, replicate, get_or-eq_default}
 use lib.Seq.{get_or-set_same, get_or-set_other}
 use Rattle.pin_entry.specs.PinTable.{Row, Table, absent, empty, put, filled, puks, pins, puk_of, pin_of}
 use Rattle.pin_entry.specs.Claims.{PairsAgree}
 use Rattle.pin_entry.specs.Meaning.{row_of, no_row, row_from, put_at}
 use Rattle.pin_entry.specs.declared.PinRow.{PinRow}
-use Rattle.pin_entry.specs.contracts.PinRow as row
-
-pub rows_long : (rows : List PinRow) (n : ℕ) → length (map (row.the_type).to rows) ≡ n → length rows ≡ n
-rows_long rows n e = sym (length-map rows (row.the_type).to) ∙ e
 
 pub row_at : (rows : List PinRow) (k : ℕ) → 0 < k → row_of (get_or rows (k - 1) no_row) ≡ row_from rows k
 row_at rows zero h = absurd (omega arith)

@@ -42,7 +42,6 @@ use Rattle.pin.specs.declared.set_pin.SetPinRead.{SetPinRead}
 use Rattle.pin.specs.declared.set_pin.SetPinRead.TheVariants as read
 use Rattle.pin.proofs.PinInfoLaws.{said-verdict}
 use Rattle.pin.proofs.SetPinLaws.{accepted}
-use Rattle.pin.specs.declared.pin_info.PinInfo.{PinInfo}
 use Rattle.pin_entry.specs.PinTable.{Table, puk_of, info, locked, step, table_after}
 use Rattle.pin_entry.specs.Meaning.{asked_by, asked_of, enter_of}
 use Rattle.pin_entry.specs.declared.PinAnswer.{PinAnswer}

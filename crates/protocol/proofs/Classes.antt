@@ -4,10 +4,10 @@ use mathlib.Core.Path.{◌≡◌, refl, sym, ap, ◌∙◌, subst}
 use mathlib.Core.Logic.{◌⊎◌, inl, inr, ⊎_elim}
 use mathlib.Core.Bool.{Bool, true, false, ◌&&◌, ◌||◌}
 use mathlib.Core.List.{List, [], ◌∷◌, Memᴰ}
-use Prim.Native.Nat.{ℕ, zero, suc, ◌+◌, ◌-◌, ◌*◌, ◌/◌, ◌%◌, ◌^◌, ◌≤◌, ◌<◌}
+use Prim.Native.Nat.{ℕ, zero, suc, ◌*◌, ◌/◌, ◌%◌, ◌^◌, ◌≤◌, ◌<◌}
 use native.Mathlib.Nat.{one-mul, zero-mul}
 use native.Mathlib.Omega.{arith}
-use borrow.Author.Tests.{eqb-true, eqb-false, eq-eqb, ne_eqb, leb-true, leb-false, le-leb, lt-leb}
+use borrow.Author.Tests.{eqb-true, eqb-false, eq-eqb, ne_eqb, leb-true, leb-false, lt-leb}
 use lib.Dec.{T, eqb, leb, eqb→eq}
 use lib.Pow.{pow_pos}
 use lib.Bits.{bit_and, and_step, and_zero_l, and_le_r}
@@ -184,6 +184,7 @@ bit_in (k ∷ ks) c e =
 
 in-bit : (ks : List ℕ) (c k : ℕ) → Memᴰ k ks → c ≡ 2 ^ k → is_bit ks c ≡ true
 unfolding is_bit
+in-bit [] c k x e = elim x [ ]
 in-bit (x ∷ ks) c k (Memᴰ.head p) e = cases-or (eqb c (2 ^ x)) (is_bit ks c) (inl (eq-eqb c (2 ^ x) (e ∙ ap (λ (j : ℕ). 2 ^ j) p)))
 in-bit (x ∷ ks) c k (Memᴰ.tail m) e = cases-or (eqb c (2 ^ x)) (is_bit ks c) (inr (in-bit ks c k m e))
 

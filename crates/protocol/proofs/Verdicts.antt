@@ -163,19 +163,19 @@ room v b s n e = rw e
 
 -- a writer that judges the room and then stores the bytes does what `writing` says
 pub wrote : (v : Verdict) (b s : List ℕ) (n : ℕ) {t : List ℕ} → length b ≡ n → first_of v (fault_if (ltb (length s) n) output_too_small n) ≡ Fits
-    → t ≡ sets s 0 b → (Length n ≡ (writing v b s).answer) × (t ≡ (writing v b s).output)
+    → t ≡ sets s 0 b → record { value : Length n ≡ (writing v b s).answer; out_after : t ≡ (writing v b s).output }
 unfolding writing given
 wrote v b s n e f p =
     let w : with_room v b s ≡ Fits = sym (room v b s n e) ∙ f in
-    (rw (w, e), rw w (p ∙ sets_over b s (has_room v b s w)))
+    record { value = rw (w, e); out_after = rw w (p ∙ sets_over b s (has_room v b s w)) }
 
 pub refused : (v : Verdict) (b s : List ℕ) (n : ℕ) (r : Refusal) → length b ≡ n
     → first_of v (fault_if (ltb (length s) n) output_too_small n) ≡ Fault r
-    → (Refused r ≡ (writing v b s).answer) × (s ≡ (writing v b s).output)
+    → record { value : Refused r ≡ (writing v b s).answer; out_after : s ≡ (writing v b s).output }
 unfolding writing given
 refused v b s n r e f =
     let w : with_room v b s ≡ Fault r = sym (room v b s n e) ∙ f in
-    (rw w, rw w)
+    record { value = rw w; out_after = rw w }
 
 -- the answer tells the judgement: a length is that of the bytes, which stand at the front
 pub told-length : (d : Verdict) (b s : List ℕ) (n : ℕ) → (given d b s).answer ≡ Length n → (d ≡ Fits) × (length b ≡ n)

@@ -2,7 +2,7 @@
 -- places; no text shown lies outside the payload or inside the fixed part. The reader's choice is a parameter.
 -- Assumes nothing.
 use mathlib.Core.Path.{◌≡◌, refl, sym}
-use mathlib.Core.Logic.{◌↔◌, ◌⊎◌, ⊎_map}
+use mathlib.Core.Logic.{◌⊎◌, ⊎_map}
 use mathlib.Core.Bool.{Bool, false, not, ◌||◌}
 use mathlib.Core.List.{List, [], ◌∷◌}
 use Prim.Native.Nat.{ℕ, ◌≤◌}
@@ -18,7 +18,6 @@ use Rattle.protocol.specs.declared.Verdict.{Verdict}
 use Rattle.protocol.specs.declared.Verdict.TheVariants.{Fits, Fault}
 use Rattle.protocol.specs.declared.Version.{Version}
 use Rattle.protocol.specs.declared.Version.TheVariants.{V2}
-use Rattle.protocol.specs.declared.Written.TheVariants.{Length}
 use Rattle.protocol.proofs.Tests.{and_cases, cases-and, or-none, none_or, equal-kept, kept-equal}
 use Rattle.protocol.proofs.Verdicts.{left-fits, right-fits, fits_kept, kept-fits, open-length, length-open, written_both, both-written}
 use Rattle.texts.specs.Claims.{TextsFit}
@@ -33,7 +32,7 @@ use Rattle.registration.specs.declared.RegistrationTexts.{RegistrationTexts}
 use Rattle.registration.specs.declared.RegistrationRead.TheVariants.{Info}
 use Rattle.registration.specs.Registration.{fixed_part, record_at, text_rows, pairs_at, texts_at, front_rules, texts_verdict, unregistered, preferred_rules, back_rules, shown, verdict_with, read_with, version_of, three, size_rules, written_verdict, bytes_of, write_of}
 use Rattle.registration.proofs.Laws.{parts, small}
-use Rattle.registration.specs.Claims.{FormFits, NumbersFit, Acceptable, Writable, TextsSafe, Accepted, AcceptedExactly, EveryTextSafe, WrittenExactly}
+use Rattle.registration.specs.Claims.{FormFits, NumbersFit, Acceptable, Writable, Accepted, AcceptedExactly, EveryTextSafe, WrittenExactly}
 
 -- ---- each rule as a fact
 

@@ -22,7 +22,6 @@ use Rattle.pairs.specs.Pair.{range_at, offset_without_size}
 use Rattle.pairs.proofs.Laws.{stray-said, said-stray, fits-by-default, strict-shown, reached-same, reached-fault}
 use Rattle.texts.specs.Claims.{stray_rules}
 use Rattle.texts.proofs.Rows.{texts-said, said-texts, strict-of-texts}
-use Rattle.registration.specs.declared.Registration.{Registration}
 use Rattle.registration.specs.declared.RegistrationRead.TheVariants.{Refused}
 use Rattle.registration.specs.Registration.{fixed_part, record_at, text_rows, pairs_at, texts_at, front_rules, texts_verdict, back_rules, shown, head_verdict, verdict_with, choice_verdict, read_with}
 use Rattle.registration.specs.Claims.{Acceptable, StrayOffset, OnlyByDefault, StrictTexts, StrictOfAccepted, BetweenChoices, StrictWithin}

@@ -4,13 +4,12 @@ use mathlib.Core.Path.{◌≡◌, refl, ap, ◌∙◌}
 use mathlib.Core.List.{List, [], ◌++◌, append_assoc, append-nil}
 use Prim.Native.Nat.{ℕ, ◌≤◌}
 use native.Mathlib.Omega.{arith}
-use lib.ListN.{length, take}
+use lib.ListN.{length}
 use Rattle.wire.specs.Numbers.{u32_at, digits}
 use Rattle.wire.proofs.Laws.{num-digits}
 use Rattle.protocol.specs.Verdict.{judge, first_of, open_length}
 use Rattle.protocol.specs.declared.Verdict.TheVariants.{Fits}
 use Rattle.protocol.specs.declared.Version.{Version}
-use Rattle.protocol.specs.declared.Written.TheVariants.{Length}
 use Rattle.protocol.proofs.Verdicts.{length-open, written-fits, written-front}
 use Rattle.pairs.specs.Pair.{range_bytes}
 use Rattle.pairs.specs.declared.Range.{Range}
@@ -25,7 +24,7 @@ use Rattle.registration.specs.declared.Registration.{Registration}
 use Rattle.registration.specs.declared.RegistrationTexts.{RegistrationTexts}
 use Rattle.registration.specs.declared.RegistrationRead.TheVariants.{Info}
 use Rattle.registration.specs.Registration.{fixed_part, form_at, record_at, text_rows, texts_of, pairs_at, texts_at, front_rules, texts_verdict, back_rules, shown, verdict_with, read_with, version_in, version_of, three, size_rules, written_verdict, laid_texts, laid_for, length_of, front_bytes, texts_bytes, preferred_bytes, back_bytes, fixed_bytes, fixed_with, bytes_of, write_of}
-use Rattle.registration.specs.Claims.{Returned, in_form, FormOfWidth, OfWidth, RoundTrip}
+use Rattle.registration.specs.Claims.{in_form, FormOfWidth, OfWidth, RoundTrip}
 use Rattle.registration.proofs.Laws.{fixed-four, length-fixed, length-bytes, parts, end-most}
 
 -- ---- the fixed part, whatever follows

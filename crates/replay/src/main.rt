@@ -2,10 +2,10 @@
 // and writes; every byte of the output is the library's.
 #![tactic(auto)]
 
-ghost use Rattle.std.specs.Prelude.{◌≡◌, ◌≤◌};
+ghost use Rattle.std.specs.Prelude.{◌≡◌, ◌≤◌, IfOk};
 
-use libc::{STDIN_FILENO, STDOUT_FILENO};
 use listing::lines::collect;
+use std::io::{self, Read, Write};
 use trace::{put_columns, put_line};
 use trace_step::Replay;
 
@@ -23,26 +23,27 @@ struct Session {
 // No line's text is longer than what the output has behind this.
 const FULL: usize = 262144;
 
-fn main() {
+fn main(rt: HostRuntime) -> io::Result<()> {
     let mut line = [0u8; 16640];
     let mut host = [0u8; 4096];
     let mut device = [0u8; 4096];
     let mut rows = [0u8; 525312];
     let mut out = [0u8; 1048576];
-    let session = begun(&mut out);
+    let session = begun(rt, &mut out)?;
     replay_all(
+        rt,
         session,
         &mut line,
         &mut host,
         &mut device,
         &mut rows,
         &mut out,
-    );
+    )
 }
 
 // Before the first line; the names of the columns are written.
-fn begun(out: &mut [u8; 1048576]) -> Session
-    ensures { (result.have ≡ 0) × (result.at ≡ 0) }
+fn begun(rt: HostRuntime, out: &mut [u8; 1048576]) -> io::Result<Session>
+    ensures { IfOk result (λ session. (session.have ≡ 0) × (session.at ≡ 0)) }
 {
     let at = put_columns(&mut out[..], 0);
     let replay = Replay::start();
@@ -53,36 +54,37 @@ fn begun(out: &mut [u8; 1048576]) -> Session
         at,
         goes_on: true,
     };
-    written(session, out)
+    written(rt, session, out)
 }
 
-// A proved loop has to end, and nothing says that an input does: the loop counts its turns down
-// from a number that no run uses up.
+// A proved loop has to end, and nothing says that an input does: the loop takes no more
+// turns than a number that no run uses up.
 fn replay_all(
+    rt: HostRuntime,
     session: Session,
     line: &mut [u8; 16640],
     host: &mut [u8; 4096],
     device: &mut [u8; 4096],
     rows: &mut [u8; 525312],
     out: &mut [u8; 1048576],
-)
+) -> io::Result<()>
     requires { (session.have ≤ 16640) × (session.at ≤ 262144) }
 {
-    let mut chunk = io::large_buffer();
+    let mut chunk = [0u8; 65536];
     let mut here = session;
-    let mut turns = u64::MAX;
-    while turns > 0 {
-        here = replay_some(here, &mut chunk, line, host, device, rows, out);
+    for _ in 0..u64::MAX {
+        here = replay_some(rt, here, &mut chunk, line, host, device, rows, out)?;
         if !here.goes_on {
-            return;
+            return Ok(());
         }
-        turns -= 1;
     }
+    Ok(())
 }
 
 // Reads once, and replays what came. Behind the end of the input, a last line without its line feed
 // is a line too.
 fn replay_some(
+    rt: HostRuntime,
     session: Session,
     chunk: &mut [u8; 65536],
     line: &mut [u8; 16640],
@@ -90,36 +92,37 @@ fn replay_some(
     device: &mut [u8; 4096],
     rows: &mut [u8; 525312],
     out: &mut [u8; 1048576],
-) -> Session
+) -> io::Result<Session>
     requires { (session.have ≤ 16640) × (session.at ≤ 262144) }
-    ensures { (result.have ≤ 16640) × (result.at ≤ 262144) }
+    ensures { IfOk result (λ behind. (behind.have ≤ 16640) × (behind.at ≤ 262144)) }
 {
-    let got = libc::read(STDIN_FILENO, &mut chunk[..]);
-    if got <= 0 {
-        return replay_last(session, line, host, device, rows, out);
+    let n = rt.stdin().read(&mut chunk[..])?;
+    if n == 0 {
+        return replay_last(rt, session, line, host, device, rows, out);
     }
     let all = &chunk[..];
-    let n = io::count(got, all);
-    let behind = replay_chunk(session, &all[..n], line, host, device, rows, out);
-    written(behind, out)
+    let behind = replay_chunk(rt, session, &all[..n], line, host, device, rows, out)?;
+    written(rt, behind, out)
 }
 
 fn replay_last(
+    rt: HostRuntime,
     session: Session,
     line: &[u8; 16640],
     host: &mut [u8; 4096],
     device: &mut [u8; 4096],
     rows: &mut [u8; 525312],
     out: &mut [u8; 1048576],
-) -> Session
+) -> io::Result<Session>
     requires { (session.have ≤ 16640) × (session.at ≤ 262144) }
-    ensures { (result.have ≤ 16640) × (result.at ≤ 262144) }
+    ensures { IfOk result (λ behind. (behind.have ≤ 16640) × (behind.at ≤ 262144)) }
 {
     if session.have == 0 {
-        return ended(session);
+        return Ok(ended(session));
     }
-    let last = replay_line(session, line, host, device, rows, out);
-    ended(written(last, out))
+    let last = replay_line(rt, session, line, host, device, rows, out)?;
+    let behind = written(rt, last, out)?;
+    Ok(ended(behind))
 }
 
 fn ended(session: Session) -> Session
@@ -137,6 +140,7 @@ fn ended(session: Session) -> Session
 
 // Replays every line that ends in the chunk.
 fn replay_chunk(
+    rt: HostRuntime,
     session: Session,
     chunk: &[u8],
     line: &mut [u8; 16640],
@@ -144,9 +148,9 @@ fn replay_chunk(
     device: &mut [u8; 4096],
     rows: &mut [u8; 525312],
     out: &mut [u8; 1048576],
-) -> Session
+) -> io::Result<Session>
     requires { (session.have ≤ 16640) × (session.at ≤ 262144) }
-    ensures { (result.have ≤ 16640) × (result.at ≤ 262144) }
+    ensures { IfOk result (λ behind. (behind.have ≤ 16640) × (behind.at ≤ 262144)) }
 {
     let mut here = session;
     let mut from: usize = 0;
@@ -155,13 +159,10 @@ fn replay_chunk(
         from = part.next;
         here = with_bytes(here, part.have);
         if part.is_ended {
-            here = replay_line(here, line, host, device, rows, out);
-            if !here.goes_on {
-                return here;
-            }
+            here = replay_line(rt, here, line, host, device, rows, out)?;
         }
     }
-    here
+    Ok(here)
 }
 
 // With so many bytes of a line.
@@ -180,15 +181,16 @@ fn with_bytes(session: Session, have: usize) -> Session
 
 // Replays the line, and writes where the output is full.
 fn replay_line(
+    rt: HostRuntime,
     session: Session,
     line: &[u8; 16640],
     host: &mut [u8; 4096],
     device: &mut [u8; 4096],
     rows: &mut [u8; 525312],
     out: &mut [u8; 1048576],
-) -> Session
+) -> io::Result<Session>
     requires { (session.have ≤ 16640) × (session.at ≤ 262144) }
-    ensures { (result.have ≤ 16640) × (result.at ≤ 262144) }
+    ensures { IfOk result (λ behind. (behind.have ≤ 16640) × (behind.at ≤ 262144)) }
 {
     let all = &line[..];
     let have = session.have;
@@ -213,25 +215,25 @@ fn replay_line(
         goes_on: true,
     };
     if listed.next < FULL {
-        return behind;
+        return Ok(behind);
     }
-    written(behind, out)
+    written(rt, behind, out)
 }
 
 // Writes what waits.
-fn written(session: Session, out: &[u8; 1048576]) -> Session
+fn written(rt: HostRuntime, session: Session, out: &[u8; 1048576]) -> io::Result<Session>
     requires { session.at ≤ 1048576 }
-    ensures { (result.have ≡ session.have) × (result.at ≡ 0) }
+    ensures { IfOk result (λ behind. (behind.have ≡ session.have) × (behind.at ≡ 0)) }
 {
     let at = session.at;
     let text = &out[..];
-    let goes_on = io::write_all(STDOUT_FILENO, &text[..at]);
+    rt.stdout().write_all(&text[..at])?;
     let replay = session.replay;
-    Session {
+    Ok(Session {
         replay,
         number: session.number,
         have: session.have,
         at: 0,
-        goes_on,
-    }
+        goes_on: session.goes_on,
+    })
 }

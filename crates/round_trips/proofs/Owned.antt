@@ -1,6 +1,6 @@
 -- A record that a program holds has numbers of their width: laws of the types' own values.
 -- Assumes nothing.
-use Prim.Native.Nat.{ℕ, zero, suc}
+use Prim.Native.Nat.{zero, suc}
 use mathlib.Core.List.{List, [], ◌∷◌}
 use native.Mathlib.Omega.{arith}
 use mir.Val.{Val}
@@ -26,7 +26,6 @@ use Rattle.signal_state.proofs.RsrpSnr.TheLaws.{the_laws, the_copy}
 use Rattle.signal_state.specs.contracts.SignalState as Signals
 use Rattle.signal_state.specs.declared.RsrpSnr.{RsrpSnr}
 use Rattle.signal_state.specs.declared.SignalState.{SignalState}
-use Rattle.signal_state.specs.SignalState.{entry_in}
 use Rattle.signal_state.specs.Claims.{OfWidth as SignalOfWidth, EntryOfWidth, EntriesOfWidth}
 use Rattle.pin.specs.contracts.set_pin.SetPin as SetPins
 use Rattle.pin.specs.declared.set_pin.SetPin.{SetPin}
@@ -84,7 +83,7 @@ entry-of-width e vs w = record {
 
 -- of an array, whatever its length: there is no entry past its end, and zeros stand for it
 pub entries-of-width : (es : List RsrpSnr) (us : List Val)
-    → shadow (each (e_struct Entries.the_type the_laws the_copy).ty.Denot (e_struct Entries.the_type the_laws the_copy).ty.own es us) → EntriesOfWidth es
+    → shadow (each (e_struct Entries.the_type the_laws the_copy).ty.Denot (e_struct Entries.the_type the_laws the_copy).ty.own_val es us) → EntriesOfWidth es
 entries-of-width [] us w i = record { rsrp = omega arith; snr = omega arith; strength = omega arith; ratio = omega arith; system = omega arith }
 entries-of-width (e ∷ es) [] w i = absurd w
 entries-of-width (e ∷ es) (u ∷ us) w zero = entry-of-width e (u ∷ []) w.0

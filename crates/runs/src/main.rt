@@ -10,7 +10,6 @@ use assembler::Assembly;
 use assembler::door::Received;
 use cutter::Cutting;
 use host::{Ask, Host, HostAnswer, HostMade, HostStage};
-use libc::STDOUT_FILENO;
 use message::MessageHeader;
 use modem::{Modem, ModemAnswer, ModemMade, ModemStage};
 use packet_service::{PacketForm, PacketService, PacketServiceRead};
@@ -21,6 +20,7 @@ use protocol::service::{
     extensions_id,
 };
 use protocol::status::NO_DEVICE_SUPPORT;
+use std::io::{self, Write};
 
 // Both ends, and the number of the host's refusal, 0 for none.
 #[derive(Clone, Copy)]
@@ -40,20 +40,23 @@ enum Arrived {
     Nothing,
 }
 
-fn main() {
-    print(b"host\tmodem\tadvertised\tVERSION\thost's end\tmodem's end\n");
-    print_host(0x0100);
-    print_host(0x0200);
-    print(b"\nversion read at\tUplinkSpeed\tDownlinkSpeed\n");
-    print_carried();
-    mixture::print_mixture();
+fn main(rt: HostRuntime) -> io::Result<()> {
+    print(
+        rt,
+        b"host\tmodem\tadvertised\tVERSION\thost's end\tmodem's end\n",
+    )?;
+    print_host(rt, 0x0100)?;
+    print_host(rt, 0x0200)?;
+    print(rt, b"\nversion read at\tUplinkSpeed\tDownlinkSpeed\n")?;
+    print_carried(rt)?;
+    mixture::print_mixture(rt)
 }
 
 // A packet service record written, cut at 64 bytes into an indication, fed, and read at both versions.
-fn print_carried() {
+fn print_carried(rt: HostRuntime) -> io::Result<()> {
     let mut payload = [0u8; 32];
     let mut stream = [0u8; 128];
-    let mut bytes = io::buffer();
+    let mut bytes = [0u8; 4096];
     let mut received = [0u8; 32];
     let info = PacketService {
         nw_error: 0,
@@ -81,58 +84,66 @@ fn print_carried() {
         &mut bytes,
         &mut received,
     );
-    print(b"2.00\t");
-    print_read(packet_service::read(Version::V2, &received));
-    print(b"1.00\t");
-    print_read(packet_service::read(Version::V1, &received));
+    print(rt, b"2.00\t")?;
+    print_read(rt, packet_service::read(Version::V2, &received))?;
+    print(rt, b"1.00\t")?;
+    print_read(rt, packet_service::read(Version::V1, &received))
 }
 
-fn print_read(read: PacketServiceRead) {
+fn print_read(rt: HostRuntime, read: PacketServiceRead) -> io::Result<()> {
     match read {
         PacketServiceRead::Info(info) => {
-            io::print_decimal(STDOUT_FILENO, info.uplink_speed);
-            print(b"\t");
-            io::print_decimal(STDOUT_FILENO, info.downlink_speed);
-            print(b"\n");
+            print!(rt; "{}", info.uplink_speed)?;
+            print(rt, b"\t")?;
+            print!(rt; "{}", info.downlink_speed)?;
+            print(rt, b"\n")?;
         }
         PacketServiceRead::Refused(refusal) => {
-            print(b"refused ");
-            io::print_decimal(STDOUT_FILENO, refusal.number as u64);
-            print(b" at ");
-            io::print_decimal(STDOUT_FILENO, refusal.place as u64);
-            print(b"\n");
+            print(rt, b"refused ")?;
+            print!(rt; "{}", refusal.number as u64)?;
+            print(rt, b" at ")?;
+            print!(rt; "{}", refusal.place as u64)?;
+            print(rt, b"\n")?;
         }
     }
+    Ok(())
 }
 
-fn print_host(native: u16) {
-    print_modem(native, 0x0100, 0x0100);
-    print_modem(native, 0x0200, 0x0100);
-    print_modem(native, 0x0200, 0x0200);
+fn print_host(rt: HostRuntime, native: u16) -> io::Result<()> {
+    print_modem(rt, native, 0x0100, 0x0100)?;
+    print_modem(rt, native, 0x0200, 0x0100)?;
+    print_modem(rt, native, 0x0200, 0x0200)
 }
 
 // A list of services with CID 15 of the extensions, and one without.
-fn print_modem(native: u16, modem: u16, advertised: u16) {
+fn print_modem(rt: HostRuntime, native: u16, modem: u16, advertised: u16) -> io::Result<()> {
     let with_version =
         b"\x02\x00\x00\x00\x00\x00\x00\x00\x18\x00\x00\x00\x2C\x00\x00\x00\x44\x00\x00\x00\x20\x00\x00\x00\xA2\x89\xCC\x33\xBC\xBB\x8B\x4F\xB6\xB0\x13\x3E\xC2\xAA\xE6\xDF\x00\x00\x00\x00\x00\x00\x00\x00\x04\x00\x00\x00\x09\x00\x00\x00\x0A\x00\x00\x00\x0B\x00\x00\x00\x10\x00\x00\x00\x3D\x01\xDC\xC5\xFE\xF5\x4D\x05\x0D\x3A\xBE\xF7\x05\x8E\x9A\xAF\x00\x00\x00\x00\x00\x00\x00\x00\x01\x00\x00\x00\x0F\x00\x00\x00";
     let without_version =
         b"\x01\x00\x00\x00\x00\x00\x00\x00\x10\x00\x00\x00\x2C\x00\x00\x00\xA2\x89\xCC\x33\xBC\xBB\x8B\x4F\xB6\xB0\x13\x3E\xC2\xAA\xE6\xDF\x00\x00\x00\x00\x00\x00\x00\x00\x04\x00\x00\x00\x09\x00\x00\x00\x0A\x00\x00\x00\x0B\x00\x00\x00\x10\x00\x00\x00";
-    print_run(native, modem, advertised, true, with_version);
-    print_run(native, modem, advertised, false, without_version);
+    print_run(rt, native, modem, advertised, true, with_version)?;
+    print_run(rt, native, modem, advertised, false, without_version)
 }
 
-fn print_run(native: u16, modem: u16, advertised: u16, is_listed: bool, services: &[u8]) {
-    print_number(native);
-    print(b"\t");
-    print_number(modem);
-    print(b"\t");
-    print_number(advertised);
+fn print_run(
+    rt: HostRuntime,
+    native: u16,
+    modem: u16,
+    advertised: u16,
+    is_listed: bool,
+    services: &[u8],
+) -> io::Result<()> {
+    print_number(rt, native)?;
+    print(rt, b"\t")?;
+    print_number(rt, modem)?;
+    print(rt, b"\t")?;
+    print_number(rt, advertised)?;
     if is_listed {
-        print(b"\tlisted\t");
+        print(rt, b"\tlisted\t")?;
     } else {
-        print(b"\tnot listed\t");
+        print(rt, b"\tnot listed\t")?;
     }
-    print_ends(run(native, modem, advertised, services));
+    print_ends(rt, run(native, modem, advertised, services))
 }
 
 // From ends just opened: DEVICE_SERVICES and its reply, then, unless the host refuses, its first
@@ -329,54 +340,55 @@ fn number_of(answer: HostAnswer) -> u32 {
     }
 }
 
-fn print_ends(ends: Ends) {
+fn print_ends(rt: HostRuntime, ends: Ends) -> io::Result<()> {
     if ends.refused != 0 {
-        print(b"refuses ");
-        io::print_decimal(STDOUT_FILENO, ends.refused as u64);
+        print(rt, b"refuses ")?;
+        print!(rt; "{}", ends.refused as u64)?;
     } else {
         let host = ends.host;
         let stage = host.stage;
-        print_host_stage(stage);
+        print_host_stage(rt, stage)?;
     }
-    print(b"\t");
+    print(rt, b"\t")?;
     let modem = ends.modem;
     let stage = modem.stage;
-    print_modem_stage(stage);
-    print(b"\n");
+    print_modem_stage(rt, stage)?;
+    print(rt, b"\n")
 }
 
-fn print_host_stage(stage: HostStage) {
+fn print_host_stage(rt: HostRuntime, stage: HostStage) -> io::Result<()> {
     match stage {
-        HostStage::Settled { version } => print_version(version),
-        HostStage::Closed => print(b"closed"),
-        HostStage::Open { advertised: _ } => print(b"open"),
-        HostStage::AwaitsVersion { advertised: _ } => print(b"awaits VERSION"),
+        HostStage::Settled { version } => print_version(rt, version),
+        HostStage::Closed => print(rt, b"closed"),
+        HostStage::Open { advertised: _ } => print(rt, b"open"),
+        HostStage::AwaitsVersion { advertised: _ } => print(rt, b"awaits VERSION"),
     }
 }
 
-fn print_modem_stage(stage: ModemStage) {
+fn print_modem_stage(rt: HostRuntime, stage: ModemStage) -> io::Result<()> {
     match stage {
-        ModemStage::Settled { version } => print_version(version),
-        ModemStage::Start => print(b"start"),
-        ModemStage::Listed => print(b"waits"),
+        ModemStage::Settled { version } => print_version(rt, version),
+        ModemStage::Start => print(rt, b"start"),
+        ModemStage::Listed => print(rt, b"waits"),
     }
 }
 
-fn print_version(version: Version) {
+fn print_version(rt: HostRuntime, version: Version) -> io::Result<()> {
     match version {
-        Version::V1 => print(b"1.00"),
-        Version::V2 => print(b"2.00"),
+        Version::V1 => print(rt, b"1.00"),
+        Version::V2 => print(rt, b"2.00"),
     }
 }
 
-fn print_number(number: u16) {
+fn print_number(rt: HostRuntime, number: u16) -> io::Result<()> {
     if number == 0x0200 {
-        print(b"2.00");
+        print(rt, b"2.00")?;
     } else {
-        print(b"1.00");
+        print(rt, b"1.00")?;
     }
+    Ok(())
 }
 
-fn print(text: &[u8]) {
-    io::write_all(STDOUT_FILENO, text);
+fn print(rt: HostRuntime, text: &[u8]) -> io::Result<()> {
+    rt.stdout().write_all(text)
 }

@@ -2,7 +2,6 @@
 -- shown for a service is its first.
 -- Assumes nothing.
 use mathlib.Core.Path.{◌≡◌, refl, ap}
-use mathlib.Core.Logic.{◌↔◌}
 use mathlib.Core.Bool.{Bool, true, false, cond}
 use mathlib.Core.List.{List}
 use Prim.Native.Nat.{ℕ, ◌*◌, ◌≤◌, ◌<◌}
@@ -26,7 +25,7 @@ use Rattle.services_query.specs.declared.ElementAnswer.TheVariants.{NotListed, R
 use Rattle.services_query.specs.declared.ListedAnswer.TheVariants.{Listed}
 use Rattle.services_query.specs.declared.ListedAnswer.TheVariants as list
 use Rattle.services_query.specs.ServicesQuery.{Shown, is_of, is_cid, has_cid, holds, plain, judged, element_shown, chosen_shown, element_with, cids_with, told, listed_with}
-use Rattle.services_query.specs.Claims.{Serves, Held, First, ElementNotListed, CidsNotListed, ListedExactly, NotListedExactly, FirstShown, ElementShown}
+use Rattle.services_query.specs.Claims.{Serves, Held, ElementNotListed, CidsNotListed, ListedExactly, NotListedExactly, FirstShown, ElementShown}
 
 -- ---- a service and a CID
 

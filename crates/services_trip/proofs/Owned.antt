@@ -1,21 +1,19 @@
 -- A record that a program has holds numbers of their width and arrays of their length.
 -- Assumes nothing.
-use mathlib.Core.List.{List, [], ◌∷◌, map}
-use mathlib.Core.Path.{◌≡◌, sym, ◌∙◌}
+use mathlib.Core.List.{List, [], ◌∷◌}
 use Prim.Native.Nat.{ℕ, zero, suc, ◌<◌}
 use native.Mathlib.Omega.{arith}
-use lib.ListN.{length, get_or, length-map}
+use lib.ListN.{length, get_or}
 use mir.Val.{Val}
 use mir.Syntax.{w32}
-use borrow.Author.Rules.{elem_fits_field, length_unmapped}
+use borrow.Author.Rules.{elem_Fits}
 use denote.Array.{each}
 use denote.Shadow.{shadow}
-use denote.Struct.Declared.{field}
 use Rattle.services_writer.specs.contracts.ServiceElement as Element
 use Rattle.services_writer.specs.declared.ServiceElement.{ServiceElement}
 use Rattle.services_trip.specs.ServicesTrip.{ElementOfWidth}
 
-element-sized : (e : ServiceElement) (vs : List Val) → shadow ((field Element.the_type).row.own_val ((Element.the_type).to e) vs) → ElementOfWidth e
+element-sized : (e : ServiceElement) (vs : List Val) → shadow ((Element.the_row).own_val e vs) → ElementOfWidth e
 element-sized e vs p = record {
   fields = record {
     word0 = omega (arith, p.1.1.0);
@@ -26,17 +24,14 @@ element-sized e vs p = record {
     instances = omega (arith, p.1.1.0);
     cids = omega (arith, p.1.1.0);
   };
-  cids = λ k. (elem_fits_field w32 w32 e.cids p.1.1.1.0.0 k p.1.1.1.0.1.1 tt).fits;
-  full = λ h. omega (arith, length_unmapped ℕ e.cids 128 p.1.1.1.0.1.0.1);
+  cids = λ k. (elem_Fits w32 w32 e.cids p.1.1.1.0.0 k p.1.1.1.0.1.1 tt).fits;
+  full = λ h. omega (arith, p.1.1.1.0.1.0.1);
 }
 
 -- each element of an array
 pub elements-sized : (es : List ServiceElement) (us : List Val) (i : ℕ) (z : ServiceElement) → i < length es
-    → shadow (each (field Element.the_type).row.Denot (field Element.the_type).row.own_val (map (Element.the_type).to es) us) → ElementOfWidth (get_or es i z)
+    → shadow (each (Element.the_row).Denot (Element.the_row).own_val es us) → ElementOfWidth (get_or es i z)
 elements-sized [] us i z h p = absurd (omega arith)
 elements-sized (e ∷ es) [] i z h p = absurd p
 elements-sized (e ∷ es) (u ∷ us) zero z h p = element-sized e (u ∷ []) p.0
 elements-sized (e ∷ es) (u ∷ us) (suc i) z h p = elements-sized es us i z (omega arith) p.1
-
-pub elements-long : (es : List ServiceElement) (n : ℕ) → length (map (Element.the_type).to es) ≡ n → length es ≡ n
-elements-long es n e = sym (length-map es (Element.the_type).to) ∙ e

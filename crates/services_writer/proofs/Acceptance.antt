@@ -1,15 +1,12 @@
 -- What the writer accepts, in words of fields.
 -- Assumes nothing.
-use mathlib.Core.Path.{◌≡◌, refl}
-use mathlib.Core.Logic.{◌↔◌}
-use mathlib.Core.List.{List}
-use Prim.Native.Nat.{ℕ, ◌+◌, ◌*◌, ◌≤◌, ◌<◌}
+use mathlib.Core.Path.{◌≡◌}
+use Prim.Native.Nat.{ℕ, ◌≤◌}
 use native.Mathlib.Omega.{arith}
 use borrow.Author.Tests.{ltb-false, le-ltb}
 use lib.ListN.{length}
 use Rattle.protocol.specs.Verdict.{fault_if, first_of}
 use Rattle.protocol.specs.declared.Verdict.TheVariants.{Fits}
-use Rattle.protocol.specs.declared.Written.TheVariants.{Length}
 use Rattle.protocol.proofs.Verdicts.{left-fits, right-fits, not-broken, written_both, both-written}
 use Rattle.folds.specs.Folds.{first_fault}
 use Rattle.folds.proofs.Laws.{fits_each, each_fits}

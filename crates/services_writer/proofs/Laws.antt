@@ -14,7 +14,7 @@ use Rattle.wire.proofs.Laws.{sets_then}
 use Rattle.protocol.specs.Refusal.{refusal, too_long, wrong_size, wrong_count}
 use Rattle.protocol.specs.Service.{id_bytes}
 use Rattle.protocol.specs.Verdict.{fault_if, first_of}
-use Rattle.protocol.specs.declared.Verdict.TheVariants.{Fits, Fault}
+use Rattle.protocol.specs.declared.Verdict.TheVariants.{Fits}
 use Rattle.protocol.proofs.Services.{length-id}
 use Rattle.protocol.proofs.Verdicts.{left-fits, right-fits, not-broken}
 use Rattle.folds.specs.Folds.{first_fault, joined, sum_of}

@@ -14,7 +14,7 @@ use lib.Ieee.Exact.{odd_sign}
 use mir.Syntax.{w16}
 use mir.Val.{SFits, to_z, of_z}
 use Rattle.signal_quality.specs.declared.Reading.{Reading}
-use Rattle.signal_quality.specs.declared.Reading.TheVariants.{Dbm, Db, BelowRange}
+use Rattle.signal_quality.specs.declared.Reading.TheVariants.{Dbm, Db}
 use Rattle.signal_quality.specs.declared.ReadingRead.TheVariants.{Info}
 use Rattle.signal_quality.specs.Decibels.{exactly, is_negative, coded, rsrp_of, snr_of}
 use Rattle.signal_quality.specs.Claims.{Is, Edges, RsrpExact, SnrExact}

@@ -2,7 +2,7 @@
 -- places. The reader's choice is a parameter.
 -- Assumes nothing.
 use mathlib.Core.Path.{◌≡◌, refl, sym, ap, ◌∙◌}
-use mathlib.Core.Logic.{◌↔◌, ◌⊎◌, inl, inr, ⊎_map, ⊎_elim}
+use mathlib.Core.Logic.{◌⊎◌, inl, inr, ⊎_map, ⊎_elim}
 use mathlib.Core.Bool.{true, false, not}
 use mathlib.Core.List.{List}
 use Prim.Native.Nat.{ℕ, ◌≤◌, ◌<◌}
@@ -19,7 +19,6 @@ use Rattle.protocol.specs.declared.Verdict.{Verdict}
 use Rattle.protocol.specs.declared.Verdict.TheVariants.{Fits, Fault}
 use Rattle.protocol.specs.declared.Version.{Version}
 use Rattle.protocol.specs.declared.Version.TheVariants.{V1, V2}
-use Rattle.protocol.specs.declared.Written.TheVariants.{Length}
 use Rattle.protocol.proofs.Tests.{and_cases, cases-and, or-none, none_or, not-kept, kept-not, equal-kept, kept-equal}
 use Rattle.protocol.proofs.Bits.{ones_power}
 use Rattle.protocol.proofs.Classes.{class-said, said-class}
@@ -40,7 +39,7 @@ use Rattle.signal_state.specs.declared.SignalState.{SignalState}
 use Rattle.signal_state.specs.declared.SignalStateRead.TheVariants.{Info, Refused}
 use Rattle.signal_state.specs.declared.SignalStateShown.{SignalStateShown}
 use Rattle.signal_state.specs.SignalState.{list_form, count_at, list_place, entry_place, entry_at, unmarked, number_rules, list_rules, entry_rules, entries_verdict, is_known, any_known, contradicts, body_verdict, head_of, head_verdict, verdict_at, shown, record_at, shown_entries, read_with, entry_in, size_of, limit_verdict, listed_verdict, verdict_in, bytes_of, written_verdict, write_of}
-use Rattle.signal_state.specs.Claims.{info, Marked, CountFits, EntryFits, Unknown, Acceptable, FormWritable, Writable, Accepted, AcceptedExactly, WrittenExactly, OneSystemBit}
+use Rattle.signal_state.specs.Claims.{info, Marked, CountFits, EntryFits, Unknown, Acceptable, FormWritable, Accepted, AcceptedExactly, WrittenExactly, OneSystemBit}
 use Rattle.signal_state.proofs.Laws.{size_small, small_size}
 
 -- ---- each rule as a fact

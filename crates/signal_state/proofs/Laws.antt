@@ -3,7 +3,7 @@
 use mathlib.Core.Path.{◌≡◌, refl, sym, ap, ◌∙◌}
 use mathlib.Core.Logic.{◌⊎◌, inl, inr, ⊎_map, ⊎_elim}
 use mathlib.Core.Bool.{Bool, true, false, cond, ◌||◌}
-use mathlib.Core.List.{List, [], ◌∷◌, ◌++◌, append_assoc, append-nil}
+use mathlib.Core.List.{List, [], ◌∷◌, ◌++◌, append_assoc}
 use Prim.Native.Nat.{ℕ, zero, suc, ◌+◌, ◌*◌, ◌-◌, ◌≤◌, ◌<◌}
 use native.Mathlib.Numerals.{add-one}
 use native.Mathlib.Omega.{arith}
@@ -202,9 +202,9 @@ stray-some rssi false h = refl
 
 -- by the form of the record
 pub in-form : (p : SignalState) (es : List RsrpSnr) (s : List ℕ) (g : SignalForm) {r : Written} {t : List ℕ} → p.form ≡ g
-    → (r ≡ (writing (verdict_in g p (entry_in es)) (bytes_in g p (entry_in es)) s).answer) × (t ≡ (writing (verdict_in g p (entry_in es)) (bytes_in g p (entry_in es)) s).output)
-    → (r ≡ (write_of p es s).answer) × (t ≡ (write_of p es s).output)
+    → record { value : r ≡ (writing (verdict_in g p (entry_in es)) (bytes_in g p (entry_in es)) s).answer; out_after : t ≡ (writing (verdict_in g p (entry_in es)) (bytes_in g p (entry_in es)) s).output }
+    → record { value : r ≡ (write_of p es s).answer; out_after : t ≡ (write_of p es s).output }
 unfolding write_of
 in-form p es s g {r} {t} e w =
     let same : writing (verdict_in g p (entry_in es)) (bytes_in g p (entry_in es)) s ≡ write_of p es s = λ i. writing (verdict_in (sym e i) p (entry_in es)) (bytes_in (sym e i) p (entry_in es)) s in
-    (w.0 ∙ ap (λ (x : Writing). x.answer) same, w.1 ∙ ap (λ (x : Writing). x.output) same)
+    record { value = w.value ∙ ap (λ (x : Writing). x.answer) same; out_after = w.out_after ∙ ap (λ (x : Writing). x.output) same }

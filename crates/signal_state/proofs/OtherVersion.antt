@@ -1,7 +1,6 @@
 -- The other version's reader refuses a writer's bytes by their length: those of 2.00 are too long, those of 1.00 too short.
 -- Assumes nothing.
 use mathlib.Core.Path.{◌≡◌, ap, ◌∙◌}
-use mathlib.Core.List.{List}
 use Prim.Native.Nat.{ℕ, ◌+◌}
 use native.Mathlib.Omega.{arith}
 use Rattle.protocol.specs.Refusal.{refusal, too_short, wrong_length}
@@ -11,9 +10,8 @@ use Rattle.protocol.proofs.Verdicts.{length-long, open-short}
 use Rattle.pairs.specs.declared.ZeroSize.{ZeroSize}
 use Rattle.signal_state.specs.declared.RsrpSnr.{RsrpSnr}
 use Rattle.signal_state.specs.declared.SignalForm.{SignalForm}
-use Rattle.signal_state.specs.declared.SignalForm.TheVariants.{V1 as Form1, V2 as Form2}
 use Rattle.signal_state.specs.declared.SignalState.{SignalState}
-use Rattle.signal_state.specs.SignalState.{head_of, verdict_at, refused, read_with, entry_in, size_of, number_bytes, listed_bytes, bytes_in, bytes_of}
+use Rattle.signal_state.specs.SignalState.{head_of, verdict_at, refused, read_with, entry_in, size_of, number_bytes, listed_bytes, bytes_in}
 use Rattle.signal_state.proofs.Laws.{length-numbers, length-listed}
 use Rattle.signal_state.specs.Claims.{LaterReadEarlier, EarlierReadLater}
 

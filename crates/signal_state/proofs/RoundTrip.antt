@@ -8,7 +8,7 @@ use Prim.Native.Nat.{ℕ, zero, suc, ◌+◌, ◌*◌, ◌-◌, ◌≤◌, ◌<�
 use native.Mathlib.Omega.{arith}
 use borrow.Author.Tests.{ne_eqb}
 use lib.Dec.{eqb}
-use lib.ListN.{length, take}
+use lib.ListN.{length}
 use Rattle.wire.specs.Numbers.{u32_at, digits}
 use Rattle.wire.proofs.Laws.{num-digits}
 use Rattle.protocol.specs.Refusal.{wrong_size}
@@ -16,7 +16,6 @@ use Rattle.protocol.specs.Verdict.{Kept, judge, first_of, fault_if, exact_length
 use Rattle.protocol.specs.declared.Verdict.{Verdict}
 use Rattle.protocol.specs.declared.Verdict.TheVariants.{Fits}
 use Rattle.protocol.specs.declared.Version.TheVariants.{V1, V2}
-use Rattle.protocol.specs.declared.Written.TheVariants.{Length}
 use Rattle.protocol.proofs.Verdicts.{left-fits, right-fits, not-broken, kept-fits, length-exact, length-open, written-fits, written-front}
 use Rattle.folds.specs.Folds.{first_fault, any_of, list_of}
 use Rattle.folds.specs.Stands.{Stands}

@@ -167,7 +167,7 @@ module _ (s : State) (piece c : List ℕ) (room n k : ℕ) {x : Ready} {q : List
 -- what is returned, the two buffers and the output
 abbrev pub Gives : Feeding Assembly → FedInPlace → List ℕ → List ℕ → List ℕ → List ℕ → Type 0
 Gives f r bytes piece before out =
-    (r ≡ in_place f) × ((bytes ≡ f.stream.assembly.bytes) × ((piece ≡ f.stream.piece) × (out ≡ over f.information before)))
+    record { value : r ≡ in_place f; bytes_after : bytes ≡ f.stream.assembly.bytes; piece_after : piece ≡ f.stream.piece; out_after : out ≡ over f.information before }
 
 module _ (p : Progress) (bytes : List ℕ) (s : State) (piece c out : List ℕ) (whole : length piece ≡ 4096) {x : Ready} {q : List ℕ}
     (made : x ≡ (prepared_of s piece c (length out)).ready) (left : q ≡ (prepared_of s piece c (length out)).piece) where
@@ -180,12 +180,12 @@ module _ (p : Progress) (bytes : List ℕ) (s : State) (piece c out : List ℕ) 
   pub done-gives : (t : State) (y : Said) (n : ℕ) → x ≡ Done t y n
       → Gives (feed_of (placed p bytes s piece) c (length out)) (record { progress = p; state = t; said = y; taken = n }) bytes q out out
   unfolding finished_by over
-  done-gives t y n e = rw (← is-finished (Done t y n) e) (refl, (refl, (refl, refl)))
+  done-gives t y n e = rw (← is-finished (Done t y n) e) (record { value = refl; bytes_after = refl; piece_after = refl; out_after = refl })
 
-  pub end-gives : (t n : ℕ) {r : FedInPlace} {b : List ℕ} → x ≡ Ends t n → (r ≡ ended_in_place (ended_on value_door (assembly_of p bytes) t) n) × (b ≡ (ended_on value_door (assembly_of p bytes) t).bytes)
+  pub end-gives : (t n : ℕ) {r : FedInPlace} {b : List ℕ} → x ≡ Ends t n → record { value : r ≡ ended_in_place (ended_on value_door (assembly_of p bytes) t) n; bytes_after : b ≡ (ended_on value_door (assembly_of p bytes) t).bytes }
       → Gives (feed_of (placed p bytes s piece) c (length out)) r b q out out
   unfolding finished_by over
-  end-gives t n e E = rw (← is-finished (Ends t n) e) (E.0, (E.1, (refl, refl)))
+  end-gives t n e E = rw (← is-finished (Ends t n) e) (record { value = E.value; bytes_after = E.bytes_after; piece_after = refl; out_after = refl })
 
   -- the piece y went through the door
   passed-gives : (y z : List ℕ) (n : ℕ) {i : ReceiptInPlace} {r : FedInPlace} {b o : List ℕ} → most_information ≤ length out
@@ -193,10 +193,12 @@ module _ (p : Progress) (bytes : List ℕ) (s : State) (piece c out : List ℕ) 
       → o ≡ over (receive_of (assembly_of p bytes) y (length out)).information out → r ≡ passed_in_place i n
       → Gives (passed_on (value_door.receive (assembly_of p bytes) y) z n) r b z out o
   passed-gives y z n l ei eb eo er =
-      let k : receive_of (assembly_of p bytes) y (length out) ≡ receive_of (assembly_of p bytes) y most_information = receive-room (assembly_of p bytes) y (length out) l in (
-        er ∙ ap (λ (j : ReceiptInPlace). passed_in_place j n) (ei ∙ ap door.in_place k),
-        (eb ∙ ap (λ (f : Receiving). f.assembly.bytes) k, (refl, eo ∙ ap (λ (f : Receiving). over f.information out) k)),
-      )
+      let k : receive_of (assembly_of p bytes) y (length out) ≡ receive_of (assembly_of p bytes) y most_information = receive-room (assembly_of p bytes) y (length out) l in record {
+        value = er ∙ ap (λ (j : ReceiptInPlace). passed_in_place j n) (ei ∙ ap door.in_place k);
+        bytes_after = eb ∙ ap (λ (f : Receiving). f.assembly.bytes) k;
+        piece_after = refl;
+        out_after = eo ∙ ap (λ (f : Receiving). over f.information out) k;
+      }
 
   pub chunk-gives : (n : ℕ) {i : ReceiptInPlace} {r : FedInPlace} {b o : List ℕ} → x ≡ InChunk n
       → i ≡ door.in_place (receive_of (assembly_of p bytes) (take n c) (length out)) → b ≡ (receive_of (assembly_of p bytes) (take n c) (length out)).assembly.bytes

@@ -28,9 +28,9 @@ word-front y r at h = num-front 4 y r at h
 
 -- ---- a length field that doesn't end the stream is 12 to 4,096
 
-whole_length : (t : ℕ) → (12 ≤ whole_length t) × (whole_length t ≤ 16)
+whole_bounds : (t : ℕ) → (12 ≤ whole_length t) × (whole_length t ≤ 16)
 unfolding whole_length
-whole_length t = go (eqb t CLOSE)
+whole_bounds t = go (eqb t CLOSE)
   where
     go : (b : Bool) → (12 ≤ cond b 12 16) × (cond b 12 16 ≤ 16)
     go true = (omega arith, omega arith)
@@ -43,7 +43,7 @@ right-start t n = go (is_whole t) (ltb n 20) refl
     go : (w l : Bool) → ltb n 20 ≡ l → cond w (not (eqb n (whole_length t))) (l || ltb 4096 n) ≡ false → (12 ≤ n) × (n ≤ 4096)
     go true l e h =
         let k : n ≡ whole_length t = eqb-true _ _ (not-false _ h) in
-        let z = whole_length t in
+        let z = whole_bounds t in
         (omega arith, omega arith)
     go false true e h = let z : ◌≡◌ {A = ℕ} 0 1 = cc in absurd (omega arith)
     go false false e h = (omega (arith, ltb-false n 20 e), ltb-false 4096 n h)

@@ -8,7 +8,7 @@ use lib.ListN.{length, take, drop, length-append, length-drop}
 use lib.Seq.{take-append-le, drop-append-le}
 use Rattle.message.specs.Message.{most_information}
 use Rattle.assembler.specs.Assembly.{empty}
-use Rattle.assembler.specs.Run.{Piece, Run as AssemblerRun, run_of as assembler_run}
+use Rattle.assembler.specs.Run.{Run as AssemblerRun, run_of as assembler_run}
 use Rattle.assembler.specs.Door as door
 use Rattle.assembler.specs.Door.{receive_of, receive_all}
 use Rattle.assembler.specs.declared.Assembly.{Assembly}

@@ -1,16 +1,16 @@
 -- Laws of words: how far a text goes with a word and what stands behind it.
 -- Assumes nothing.
-use mathlib.Core.Path.{◌≡◌, refl, sym, ap, ◌∙◌}
+use mathlib.Core.Path.{◌≡◌, refl, ap}
 use mathlib.Core.Bool.{Bool, true, false, cond}
 use mathlib.Core.List.{List, [], ◌∷◌, ◌++◌}
-use Prim.Native.Nat.{ℕ, zero, suc, ◌+◌, ◌≤◌, ◌<◌}
+use Prim.Native.Nat.{ℕ, suc, ◌≤◌, ◌<◌}
 use native.Mathlib.Omega.{arith}
-use borrow.Author.Tests.{eq-eqb, ne_eqb, eqb-true, eqb-false}
+use borrow.Author.Tests.{ne_eqb, eqb-true, eqb-false}
 use lib.Dec.{eqb, eqb-suc-suc}
-use lib.ListN.{length, take, drop}
+use lib.ListN.{length, drop}
 use Rattle.ascii.specs.Ascii.{agreement}
 use Rattle.ascii.proofs.Laws.{by-test}
-use Rattle.text_parts.specs.Parts.{Reach, whole, stops, Right, further, next}
+use Rattle.text_parts.specs.Parts.{Reach, stops, Right, further, next}
 use Rattle.text_parts.specs.Words.{Worded, worded}
 use Rattle.text_parts.proofs.Parts.{step_right, none_right, none-empty, same-right, further-zero, next-further}
 

@@ -1,5 +1,5 @@
 -- The end of a line: an even number of hexadecimal digits, at most `most`, and a line feed; and how many of them stand at a place.
-use Rattle.std.specs.Prelude.{ℕ, ◌+◌, ◌%◌, ◌≤◌, ◌≡◌, false, cond, List, [], ◌∷◌, ◌++◌, eqb, ltb, length, get_or, take, drop}
+use Rattle.std.specs.Prelude.{ℕ, ◌+◌, ◌%◌, ◌≤◌, ◌≡◌, false, cond, List, eqb, ltb, length, get_or, take, drop}
 use Rattle.ascii.specs.Ascii.{line_feed, is_hex, hex_run}
 use Rattle.text_parts.specs.Parts.{Part, run_of, one_of, All, Then, End, Reach, whole, stops, reach_then, reach_end}
 use Rattle.text_parts.specs.declared.LineEnd.{LineEnd}

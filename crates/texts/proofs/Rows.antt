@@ -1,7 +1,7 @@
 -- The texts of a record, proved once over their rows. Pairs fit exactly where each does; texts that a writer lays out are accepted, or
 -- refused as lying in a longer fixed part; their pairs and their bytes are read back.
 -- Assumes nothing.
-use mathlib.Core.Path.{◌≡◌, refl, sym, ap, ◌∙◌}
+use mathlib.Core.Path.{◌≡◌, refl, sym, subst, ap, ◌∙◌}
 use mathlib.Core.Bool.{Bool, true, false}
 use mathlib.Core.List.{List, [], ◌∷◌, ◌++◌, append_assoc}
 use Prim.Native.Nat.{ℕ, zero, suc, ◌+◌, ◌%◌, ◌≤◌, ◌<◌, min}
@@ -250,7 +250,7 @@ texts-back before rest [] base e = tt
 texts-back before rest (t ∷ ts) base e =
     let assoc : (text_bytes t ++ texts_bytes ts) ++ rest ≡ text_bytes t ++ (texts_bytes ts ++ rest) = append_assoc (text_bytes t) (texts_bytes ts) rest in
     let longer : length (before ++ text_bytes t) ≡ base + padded (length t) = omega (arith, length-append before (text_bytes t), length-fitted (padded (length t)) t) in
-    rw assoc (placed-back before t (texts_bytes ts ++ rest) base e, rw (append_assoc before (text_bytes t) (texts_bytes ts ++ rest)) at (texts-back (before ++ text_bytes t) rest ts (base + padded (length t)) longer))
+    rw assoc (placed-back before t (texts_bytes ts ++ rest) base e, subst (λ (x : List ℕ). TextsShown (before ++ x) (laid (base + padded (length t)) (sizes_of ts)) ts) (sym assoc) (rw (append_assoc before (text_bytes t) (texts_bytes ts ++ rest)) at (texts-back (before ++ text_bytes t) rest ts (base + padded (length t)) longer)))
 
 -- they end where they are laid to
 pub length-texts : (base : ℕ) (ts : List (List ℕ)) → base + length (texts_bytes ts) ≡ end_of base (sizes_of ts)

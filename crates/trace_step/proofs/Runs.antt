@@ -11,7 +11,6 @@ use Rattle.trace_line.specs.declared.LineRead.{LineRead}
 use Rattle.trace_line.specs.declared.LineRead.TheVariants as line
 use Rattle.trace_step.specs.Step.{State, own_of, elapsed_of, piece_step, step_by, step_of}
 use Rattle.trace_step.specs.Run.{Answered, answered_of, run_of, good_lines, good_answers, pieces_of, seen_by, elapsed_in, counters_of, steps_from, last_version, WholeTraces}
-use Rattle.trace_step.specs.declared.Replayed.TheVariants.{BadLine}
 
 -- ---- bad lines
 

@@ -2,9 +2,9 @@
 -- exactly when its numbers meet them.
 -- Assumes nothing.
 use mathlib.Core.Path.{◌≡◌, refl, sym}
-use mathlib.Core.Logic.{◌↔◌, ⊎_map}
+use mathlib.Core.Logic.{⊎_map}
 use mathlib.Core.List.{List}
-use Prim.Native.Nat.{ℕ, ◌≤◌}
+use Prim.Native.Nat.{ℕ}
 use native.Mathlib.Omega.{arith}
 use borrow.Author.Tests.{eqb-true, eq-eqb}
 use lib.Dec.{eqb}
@@ -14,7 +14,6 @@ use Rattle.protocol.specs.declared.Verdict.{Verdict}
 use Rattle.protocol.specs.declared.Verdict.TheVariants.{Fits, Fault}
 use Rattle.protocol.proofs.Tests.{or_cases, cases-or, not-kept, kept-not, equal-kept, kept-equal}
 use Rattle.protocol.proofs.Verdicts.{fits_kept, kept-fits, then-kept, kept_then, exact-length, length-exact, written_both, both-written}
-use Rattle.protocol.specs.declared.Written.TheVariants.{Length}
 use Rattle.version_info.specs.declared.VersionInfo.{VersionInfo}
 use Rattle.version_info.specs.declared.VersionInfoRead.TheVariants.{Info}
 use Rattle.version_info.specs.VersionInfo.{is_extension, record_at, rules, verdict_of, shown, read_of, bytes_of, write_of}

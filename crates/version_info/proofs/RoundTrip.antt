@@ -3,17 +3,15 @@
 use mathlib.Core.Path.{◌≡◌, refl}
 use mathlib.Core.Logic.{◌⊎◌, inl, inr}
 use mathlib.Core.Bool.{true}
-use mathlib.Core.List.{List, []}
+use mathlib.Core.List.{[]}
 use Prim.Native.Nat.{ℕ, ◌<◌}
 use native.Mathlib.Omega.{arith}
 use borrow.Author.Tests.{eqb-true}
 use lib.Dec.{eqb}
-use lib.ListN.{length, take}
 use Rattle.wire.specs.Numbers.{u16_at}
 use Rattle.wire.proofs.Laws.{num-digits}
-use Rattle.protocol.specs.Verdict.{Kept, first_of}
+use Rattle.protocol.specs.Verdict.{first_of}
 use Rattle.protocol.specs.declared.Verdict.TheVariants.{Fits}
-use Rattle.protocol.specs.declared.Written.TheVariants.{Length}
 use Rattle.protocol.proofs.Tests.{or_cases, not-kept, equal-kept}
 use Rattle.protocol.proofs.Verdicts.{fits_kept, length-exact, written-fits, written-front}
 use Rattle.version_info.specs.declared.VersionInfo.{VersionInfo}

@@ -1,0 +1,26 @@
+// assembly, exported to C: each function is culvertroost::assembly's, with its contract.
+ghost use Rattle.std.specs.Prelude.{◌≡◌, length};
+ghost use Rattle.wire.specs.Output.{over};
+ghost use Rattle.lent.specs.LentAssembly.{emptied, receive_in};
+ghost use Rattle.c_structs.specs.Answers.{refusal_of};
+ghost use Rattle.c_structs.specs.Messages.{receive_info};
+
+use c_structs::messages::ReceiveInfo;
+use protocol::Refusal;
+
+#[unsafe(no_mangle)]
+pub extern "C" fn cvr_assembly_empty(memory: &mut [u8]) -> Refusal
+    ensures value { result ≡ refusal_of (emptied memory.old).verdict }
+    ensures memory_after { memory.new ≡ (emptied memory.old).memory }
+{
+    culvertroost::assembly::cvr_assembly_empty(memory)
+}
+
+#[unsafe(no_mangle)]
+pub extern "C" fn cvr_receive(memory: &mut [u8], piece: &[u8], out: &mut [u8]) -> ReceiveInfo
+    ensures value { result ≡ receive_info (receive_in memory.old piece.now (length out.old)).received }
+    ensures memory_after { memory.new ≡ (receive_in memory.old piece.now (length out.old)).memory }
+    ensures out_after { out.new ≡ over (receive_in memory.old piece.now (length out.old)).information out.old }
+{
+    culvertroost::assembly::cvr_receive(memory, piece, out)
+}

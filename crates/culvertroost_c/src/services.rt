@@ -1,0 +1,191 @@
+// services, exported to C: each function is culvertroost::services's, with its contract.
+ghost use Rattle.std.specs.Prelude.{◌≡◌};
+ghost use Rattle.protocol.specs.Service.{id_at};
+ghost use Rattle.device_services.specs.DeviceServices.{read_of};
+ghost use Rattle.services_query.specs.ServicesQuery.{element_of, cids_of, listed_of, all_of};
+ghost use Rattle.services_ask.specs.ServicesAsk.{position_of};
+ghost use Rattle.services_lists.specs.ServicesLists.{write_all_of};
+ghost use Rattle.services_writer.specs.ServicesWriter.{write_of};
+ghost use Rattle.c_structs.specs.Answers.{written_answer};
+ghost use Rattle.c_structs.specs.Services.{answer_of, element_info, listed_info, position_info, all_info};
+ghost use Rattle.culvertroost.specs.Services.{read_chosen, element_chosen, cids_chosen, listed_chosen, position_chosen, all_chosen};
+
+use c_structs::WrittenAnswer;
+use c_structs::services::{AllInfo, DeviceServicesAnswer, ElementInfo, ListedInfo, PositionInfo};
+use protocol::service::ServiceId;
+use services_writer::ServiceList;
+
+#[unsafe(no_mangle)]
+pub extern "C" fn cvr_device_services_read(payload: &[u8]) -> DeviceServicesAnswer
+    ensures { result ≡ answer_of (read_of payload.now) }
+{
+    culvertroost::services::cvr_device_services_read(payload)
+}
+
+#[unsafe(no_mangle)]
+pub extern "C" fn cvr_device_services_read_with(
+    zero_size: u32,
+    payload: &[u8],
+) -> DeviceServicesAnswer
+    ensures { result ≡ answer_of (read_chosen zero_size payload.now) }
+{
+    culvertroost::services::cvr_device_services_read_with(zero_size, payload)
+}
+
+// The element with a number, from 0; its CIDs go to the front of the list.
+#[unsafe(no_mangle)]
+pub extern "C" fn cvr_device_services_element(
+    payload: &[u8],
+    number: u32,
+    cids: &mut [u32],
+) -> ElementInfo
+    ensures value { result ≡ element_info (element_of payload.now number cids.old).answer }
+    ensures cids_after { cids.new ≡ (element_of payload.now number cids.old).output }
+{
+    culvertroost::services::cvr_device_services_element(payload, number, cids)
+}
+
+#[unsafe(no_mangle)]
+pub extern "C" fn cvr_device_services_element_with(
+    zero_size: u32,
+    payload: &[u8],
+    number: u32,
+    cids: &mut [u32],
+) -> ElementInfo
+    ensures value { result ≡ element_info (element_chosen zero_size payload.now number cids.old).answer }
+    ensures cids_after { cids.new ≡ (element_chosen zero_size payload.now number cids.old).output }
+{
+    culvertroost::services::cvr_device_services_element_with(zero_size, payload, number, cids)
+}
+
+// The first element of a service; its CIDs go to the front of the list.
+#[unsafe(no_mangle)]
+pub extern "C" fn cvr_device_services_cids(
+    payload: &[u8],
+    service: ServiceId,
+    cids: &mut [u32],
+) -> ElementInfo
+    ensures value { result ≡ element_info (cids_of payload.now service cids.old).answer }
+    ensures cids_after { cids.new ≡ (cids_of payload.now service cids.old).output }
+{
+    culvertroost::services::cvr_device_services_cids(payload, service, cids)
+}
+
+#[unsafe(no_mangle)]
+pub extern "C" fn cvr_device_services_cids_with(
+    zero_size: u32,
+    payload: &[u8],
+    service: ServiceId,
+    cids: &mut [u32],
+) -> ElementInfo
+    ensures value { result ≡ element_info (cids_chosen zero_size payload.now service cids.old).answer }
+    ensures cids_after { cids.new ≡ (cids_chosen zero_size payload.now service cids.old).output }
+{
+    culvertroost::services::cvr_device_services_cids_with(zero_size, payload, service, cids)
+}
+
+// All elements, each as seven numbers, and all CIDs, element by element, at the fronts of the lists.
+#[unsafe(no_mangle)]
+pub extern "C" fn cvr_device_services_all(
+    payload: &[u8],
+    fields: &mut [u32],
+    cids: &mut [u32],
+) -> AllInfo
+    ensures value { result ≡ all_info (all_of payload.now fields.old cids.old).answer }
+    ensures fields_after { fields.new ≡ (all_of payload.now fields.old cids.old).fields }
+    ensures cids_after { cids.new ≡ (all_of payload.now fields.old cids.old).cids }
+{
+    culvertroost::services::cvr_device_services_all(payload, fields, cids)
+}
+
+#[unsafe(no_mangle)]
+pub extern "C" fn cvr_device_services_all_with(
+    zero_size: u32,
+    payload: &[u8],
+    fields: &mut [u32],
+    cids: &mut [u32],
+) -> AllInfo
+    ensures value { result ≡ all_info (all_chosen zero_size payload.now fields.old cids.old).answer }
+    ensures fields_after { fields.new ≡ (all_chosen zero_size payload.now fields.old cids.old).fields }
+    ensures cids_after { cids.new ≡ (all_chosen zero_size payload.now fields.old cids.old).cids }
+{
+    culvertroost::services::cvr_device_services_all_with(zero_size, payload, fields, cids)
+}
+
+// Whether any element is of the service and holds the CID.
+#[unsafe(no_mangle)]
+pub extern "C" fn cvr_device_services_listed(
+    payload: &[u8],
+    service: ServiceId,
+    cid: u32,
+) -> ListedInfo
+    ensures { result ≡ listed_info (listed_of payload.now service cid) }
+{
+    culvertroost::services::cvr_device_services_listed(payload, service, cid)
+}
+
+#[unsafe(no_mangle)]
+pub extern "C" fn cvr_device_services_listed_with(
+    zero_size: u32,
+    payload: &[u8],
+    service: ServiceId,
+    cid: u32,
+) -> ListedInfo
+    ensures { result ≡ listed_info (listed_chosen zero_size payload.now service cid) }
+{
+    culvertroost::services::cvr_device_services_listed_with(zero_size, payload, service, cid)
+}
+
+// The same, judged no further than the answer needs, and where.
+#[unsafe(no_mangle)]
+pub extern "C" fn cvr_device_services_ask(
+    payload: &[u8],
+    service: ServiceId,
+    cid: u32,
+) -> PositionInfo
+    ensures { result ≡ position_info (position_of payload.now service cid) }
+{
+    culvertroost::services::cvr_device_services_ask(payload, service, cid)
+}
+
+#[unsafe(no_mangle)]
+pub extern "C" fn cvr_device_services_ask_with(
+    zero_size: u32,
+    payload: &[u8],
+    service: ServiceId,
+    cid: u32,
+) -> PositionInfo
+    ensures { result ≡ position_info (position_chosen zero_size payload.now service cid) }
+{
+    culvertroost::services::cvr_device_services_ask_with(zero_size, payload, service, cid)
+}
+
+#[unsafe(no_mangle)]
+pub extern "C" fn cvr_device_services_write(list: ServiceList, out: &mut [u8]) -> WrittenAnswer
+    ensures value { result ≡ written_answer (write_of list out.old).answer }
+    ensures out_after { out.new ≡ (write_of list out.old).output }
+{
+    culvertroost::services::cvr_device_services_write(list, out)
+}
+
+// Each element as seven numbers, and all CIDs, element by element: the writer with no record.
+#[unsafe(no_mangle)]
+pub extern "C" fn cvr_device_services_write_all(
+    max_dss_sessions: u32,
+    fields: &[u32],
+    cids: &[u32],
+    out: &mut [u8],
+) -> WrittenAnswer
+    ensures value { result ≡ written_answer (write_all_of max_dss_sessions fields.now cids.now out.old).answer }
+    ensures out_after { out.new ≡ (write_all_of max_dss_sessions fields.now cids.now out.old).output }
+{
+    culvertroost::services::cvr_device_services_write_all(max_dss_sessions, fields, cids, out)
+}
+
+// The id whose printed bytes come first, zero where there are none.
+#[unsafe(no_mangle)]
+pub extern "C" fn cvr_service_id(bytes: &[u8]) -> ServiceId
+    ensures { result ≡ id_at bytes.now 0 }
+{
+    culvertroost::services::cvr_service_id(bytes)
+}

@@ -1,0 +1,33 @@
+// streams, exported to C: each function is culvertroost::streams's, with its contract.
+ghost use Rattle.std.specs.Prelude.{◌≡◌, length};
+ghost use Rattle.wire.specs.Output.{over};
+ghost use Rattle.lent_stream.specs.LentStream.{reset_in, feed_in};
+ghost use Rattle.c_structs.specs.Answers.{refusal_of};
+ghost use Rattle.c_structs.specs.Streams.{stream_info};
+
+use c_structs::streams::StreamInfo;
+use protocol::Refusal;
+
+#[unsafe(no_mangle)]
+pub extern "C" fn cvr_stream_reset(stream: &mut [u8], assembly: &mut [u8]) -> Refusal
+    ensures value { result ≡ refusal_of (reset_in stream.old assembly.old).verdict }
+    ensures stream_after { stream.new ≡ (reset_in stream.old assembly.old).memory }
+    ensures assembly_after { assembly.new ≡ (reset_in stream.old assembly.old).assembly }
+{
+    culvertroost::streams::cvr_stream_reset(stream, assembly)
+}
+
+#[unsafe(no_mangle)]
+pub extern "C" fn cvr_stream_feed(
+    stream: &mut [u8],
+    assembly: &mut [u8],
+    chunk: &[u8],
+    out: &mut [u8],
+) -> StreamInfo
+    ensures value { result ≡ stream_info (feed_in stream.old assembly.old chunk.now (length out.old)).fed.said (feed_in stream.old assembly.old chunk.now (length out.old)).fed.taken }
+    ensures stream_after { stream.new ≡ (feed_in stream.old assembly.old chunk.now (length out.old)).memory }
+    ensures assembly_after { assembly.new ≡ (feed_in stream.old assembly.old chunk.now (length out.old)).assembly }
+    ensures out_after { out.new ≡ over (feed_in stream.old assembly.old chunk.now (length out.old)).information out.old }
+{
+    culvertroost::streams::cvr_stream_feed(stream, assembly, chunk, out)
+}
