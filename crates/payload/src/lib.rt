@@ -75,6 +75,7 @@ fn command_way(command_type: u32) -> Way
     Way::Query
 }
 
+#[tactic(auto, unfolding(crate::specs::Payload::done_way))]
 fn done_way(status: u32) -> Way
     ensures { result ≡ done_way status }
 {

@@ -52,6 +52,7 @@ pub fn also_word(reached: Reached, s: &[u8], at: usize, text: &[u8], number: u32
 
 // The end of a line from `from` on: an even number of hexadecimal digits, at most `most`, and the line
 // feed, with nothing behind it.
+#[tactic(auto, unfolding(crate::specs::Hex::line_end_at))]
 pub fn line_end_at(s: &[u8], from: usize, most: usize) -> LineEnd
     ensures { result ≡ line_end_at most s.now from }
 {
