@@ -3,7 +3,7 @@
 #
 #   tests/programs.sh NAME...
 #
-# What `rt ci` left in crates/NAME/out is taken where it is newer than the sources; else `rt run` proves the
+# What `rt ci` or `rt run` left in crates/NAME/out is taken where no source is newer; else `rt run` proves the
 # program, builds it and runs it on its stored input.
 set -u
 cd "$(dirname "$0")/.." || exit 2
@@ -18,15 +18,21 @@ fresh() {
     [ -z "$(find $folders -name '*.rt' -newer "$2")" ]
 }
 
+# build NAME: proves, builds and runs it
+build() {
+    command -v rt >/dev/null || { echo "target/bin/$1 is missing or old, and rt, which builds it, is not installed"; exit 3; }
+    input=/dev/null
+    [ ! -f "crates/$1/stdin" ] || input=$PWD/crates/$1/stdin
+    (cd "crates/$1" && rt run <"$input" >/dev/null)
+}
+
 mkdir -p target/bin
 for name in "$@"; do
-    fresh "$name" "target/bin/$name" && continue
+    made=target/bin/$name
     built=crates/$name/out/$name
     if ! fresh "$name" "$built"; then
-        command -v rt >/dev/null || { echo "target/bin/$name is missing or old, and rt, which builds it, is not installed"; exit 3; }
-        input=/dev/null
-        [ ! -f "crates/$name/stdin" ] || input=$PWD/crates/$name/stdin
-        (cd "crates/$name" && rt run <"$input" >/dev/null) || exit 1
+        fresh "$name" "$made" && continue
+        build "$name" || exit 1
     fi
-    cp "$built" target/bin/
+    [ -n "$(find "$made" -newer "$built" 2>/dev/null)" ] || cp "$built" "$made"
 done

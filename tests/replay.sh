@@ -56,6 +56,8 @@ step 'the second program' cargo build -q --offline --release --manifest-path sec
 
 "$generate" day >"$work/in"
 cmp "$work/in" examples/station_day.trace
+cmp examples/station_day.trace crates/replay/stdin
+cmp examples/station_day.replay crates/replay/stdout
 cp examples/station_day.replay "$work/rows"
 answered 'a day'
 

@@ -1,5 +1,5 @@
-// The C library: what other languages call, one module a payload or part. Each function is total; a
-// slice is a pointer and a length, and a struct passes by value in C's layout.
+// The functions of the C library, one module a payload or part; crate culvertroost_c exports them. Each is
+// total; to C a slice is a pointer and a length, and a struct passes by value in C's layout.
 #![tactic(auto)]
 
 pub mod assembly;
