@@ -19,18 +19,18 @@
 #include <string.h>
 #include <time.h>
 
-/* A slice, as the module takes it. */
+/* A range that is lent; the module takes its address and its length. */
 typedef struct slice {
-    const void *at;
+    void *at;
     uint64_t length;
 } slice;
 
-typedef void (*put)(const slice *out, uint64_t at, const slice *t);
+typedef void (*put)(void *out, uint64_t room, uint64_t at, const void *t, uint64_t length);
 typedef cvr_receive_answer (*receive)(uint8_t *, size_t, const uint8_t *, size_t, uint8_t *, size_t);
 typedef cvr_cut_answer (*cut)(cvr_message_header, size_t, const uint8_t *, size_t, uint8_t *, size_t);
 
 #define DECLARED(name)                                                                                   \
-    void name##_put_bytes(const slice *, uint64_t, const slice *);                                       \
+    void name##_put_bytes(void *, uint64_t, uint64_t, const void *, uint64_t);                           \
     cvr_receive_answer name##_cvr_receive(uint8_t *, size_t, const uint8_t *, size_t, uint8_t *, size_t); \
     cvr_cut_answer name##_cvr_message_cut(cvr_message_header, size_t, const uint8_t *, size_t, uint8_t *, \
                                           size_t);
@@ -61,18 +61,20 @@ static void kept(void)
 }
 
 /* Runs of eight at every length, and the rest singly: what order 3 says, word for word. */
-__attribute__((noinline)) static void runs_put_bytes(const slice *out, uint64_t at, const slice *t)
+__attribute__((noinline)) static void runs_put_bytes(void *out, uint64_t room, uint64_t at, const void *t,
+                                                     uint64_t length)
 {
-    uint8_t *to = (uint8_t *)out->at + at;
-    const uint8_t *from = t->at;
+    uint8_t *to = (uint8_t *)out + at;
+    const uint8_t *from = t;
     uint64_t i = 0;
-    for (; t->length - i >= 8; i += 8) {
+    (void)room;
+    for (; length - i >= 8; i += 8) {
         uint64_t run;
         memcpy(&run, from + i, 8);
         memcpy(to + i, &run, 8);
         kept();
     }
-    for (; i < t->length; i++) {
+    for (; i < length; i++) {
         to[i] = from[i];
         kept();
     }
@@ -83,19 +85,31 @@ static const receive receives[ENDS] = {before_cvr_receive, again_cvr_receive, no
 static const cut cuts[ENDS] = {before_cvr_message_cut, again_cvr_message_cut, now_cvr_message_cut};
 
 /* 1,000 calls of a short copy and 300 of a long one, fewer where the compiler has made them slow. */
-static int calls_for(const slice *out, const slice *t)
+static int calls_for(slice out, slice t)
 {
     double start = clock_now();
-    before_put_bytes(out, 0, t);
+    before_put_bytes(out.at, out.length, 0, t.at, t.length);
     double once = clock_now() - start;
-    return once > 1000 ? 1 + (int)(10000 / once) : t->length < 300 ? 1000 : 300;
+    return once > 1000 ? 1 + (int)(10000 / once) : t.length < 300 ? 1000 : 300;
+}
+
+/* Each column copies. */
+static void check(slice out, slice t)
+{
+    for (int c = 0; c < COLUMNS; c++) {
+        memset(out.at, 0xEE, t.length);
+        puts_[c](out.at, out.length, 0, t.at, t.length);
+        if (memcmp(out.at, t.at, t.length) != 0)
+            abort();
+    }
 }
 
 /* The least time of each column at one alignment. */
 static void copy_once(size_t length, size_t from, size_t to, double least[COLUMNS])
 {
     const slice out = {target + AT + to, ROOM}, t = {source + AT + from, length};
-    const int calls = calls_for(&out, &t);
+    check(out, t);
+    const int calls = calls_for(out, t);
     for (int c = 0; c < COLUMNS; c++)
         least[c] = 1e9;
     for (int round = 0; round < ROUNDS; round++)
@@ -103,15 +117,13 @@ static void copy_once(size_t length, size_t from, size_t to, double least[COLUMN
             int c = (round + turn) % COLUMNS;
             double start = clock_now();
             for (int i = 0; i < calls; i++) {
-                puts_[c](&out, 0, &t);
+                puts_[c](out.at, out.length, 0, t.at, t.length);
                 kept();
             }
             double each = (clock_now() - start) / calls;
             if (each < least[c])
                 least[c] = each;
         }
-    if (memcmp(target + AT + to, source + AT + from, length) != 0)
-        abort();
 }
 
 static void copies(size_t length)

@@ -135,6 +135,9 @@ refused() {
         edit module '/@cvr_snr(/,/^}/s/cvr_snr"/cvr_rsrp"/' "cvr_snr doesn't call" &&
         edit module 's/"x86_64-unknown/"aarch64-unknown/' 'is not one for x86-64' &&
         edit module '0,/ = load i32, ptr/s//= ptrtoint ptr/' 'depends on the processor' &&
+        edit module 's/ = load { ptr, i64 }/ = load { ptr, i32 }/' 'depends on the processor' &&
+        edit module 's/ = load { i32, i64 }/ = load { i32, i128 }/' 'depends on the processor' &&
+        edit module '/^define/s/{ i32, i64 } \(@"[^"]*::cvr_modem_open"\)/{ i64, i32 } \1/' 'the header asks for' &&
         edit module '1s/^/@table = global i32 0\n/' 'is not understood'
 }
 

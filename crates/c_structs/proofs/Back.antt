@@ -1,25 +1,18 @@
 -- Plain members lose nothing: a record shown and given back at its version is the record, and its number is judged to be that version.
 -- Assumes nothing.
 use mathlib.Core.Path.{◌≡◌, refl}
-use mathlib.Core.List.{List}
 use Rattle.protocol.specs.Verdict.{judge_from, first_of, fault_if}
-use Rattle.protocol.specs.declared.Version.{Version}
 use Rattle.protocol.specs.declared.Version.TheVariants.{V1, V2}
-use Rattle.handshake.specs.Versions.{number_of, number_verdict, numbered}
-use Rattle.handshake.specs.declared.Numbered.TheVariants.{At}
-use Rattle.packet_service.specs.PacketService.{version_in as packet_in, version_of as packet_version}
+use Rattle.handshake.specs.Versions.{number_verdict, numbered}
+use Rattle.packet_service.specs.PacketService.{version_in as packet_in}
 use Rattle.packet_service.specs.declared.PacketForm.{PacketForm}
 use Rattle.packet_service.specs.declared.PacketForm.TheVariants as packet
-use Rattle.packet_service.specs.declared.PacketService.{PacketService}
-use Rattle.registration.specs.Registration.{version_in as registration_in, version_of as registration_version}
+use Rattle.registration.specs.Registration.{version_in as registration_in}
 use Rattle.registration.specs.declared.RegistrationForm.{RegistrationForm}
 use Rattle.registration.specs.declared.RegistrationForm.TheVariants as registration
-use Rattle.registration.specs.declared.Registration.{Registration}
-use Rattle.signal_state.specs.SignalState.{version_in as signal_in, version_of as signal_version}
-use Rattle.signal_state.specs.declared.RsrpSnr.{RsrpSnr}
+use Rattle.signal_state.specs.SignalState.{version_in as signal_in}
 use Rattle.signal_state.specs.declared.SignalForm.{SignalForm}
 use Rattle.signal_state.specs.declared.SignalForm.TheVariants as signal
-use Rattle.signal_state.specs.declared.SignalState.{SignalState}
 use Rattle.c_structs.specs.Packets.{info_of as packet_info, record_of as packet_of, form_of as packet_form, highest_in, current_in, range_in}
 use Rattle.c_structs.specs.Registrations.{info_of as registration_info, record_of as registration_of, form_of as registration_form, preferred_in}
 use Rattle.c_structs.specs.Signals.{info_of as signal_info, record_of as signal_of, form_of as signal_form, count_in}

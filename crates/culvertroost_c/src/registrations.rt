@@ -6,7 +6,6 @@ ghost use Rattle.culvertroost.specs.Registrations.{read_at, read_chosen, write_a
 
 use c_structs::WrittenAnswer;
 use c_structs::registrations::{RegistrationAnswer, RegistrationInfo};
-use protocol::Written;
 
 #[unsafe(no_mangle)]
 pub extern "C" fn cvr_registration_read(version: u16, payload: &[u8]) -> RegistrationAnswer

@@ -6,7 +6,6 @@ ghost use Rattle.culvertroost.specs.Signals.{read_at, read_chosen, write_at};
 
 use c_structs::WrittenAnswer;
 use c_structs::signals::{SignalStateAnswer, SignalStateInfo};
-use protocol::Written;
 
 #[unsafe(no_mangle)]
 pub extern "C" fn cvr_signal_state_read(version: u16, payload: &[u8]) -> SignalStateAnswer

@@ -1,5 +1,5 @@
 -- A part of an array that is known to be there.
-use Rattle.std.proofs.Common.{arith, length-take, rules}
+use Rattle.std.proofs.Common.{arith, length-take}
 use Rattle.runs.proofs.carry.Goals as goal
 
 pub slice_bounds-arrive-end : goal.slice_bounds-arrive-end

@@ -1,6 +1,5 @@
 -- The index grows to the count of elements, and the place stays within the arguments.
 use Prim.Native.Nat.{◌≤◌, ◌-◌}
-use native.Mathlib.Omega.{arith}
 use Rattle.payload_samples.proofs.services.elements_of.Given as goal
 
 abbrev pub invariant-loop-i : goal.invariant-loop-i
