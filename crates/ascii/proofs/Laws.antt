@@ -11,18 +11,18 @@ use borrow.Author.Tests.{lt-ltb, le-ltb, eq-eqb, ne_eqb}
 use lib.Dec.{ltb, eqb}
 use lib.ListN.{length, length-append, length-set, length-drop, get_or, set, take, drop, drop_of_length-le}
 use lib.Seq.{sets, set_split, drop_at, drop-cons, length-take-le}
-use Rattle.wire.proofs.Laws.{sets-append, sets_then, sets_over, take-over}
+use Rattle.wire.proofs.Laws.{sets_append, sets_then, sets_over, take_over}
 use Rattle.ascii.specs.Ascii.{decimal_in, value_from, hex_digit, is_hex, hex_value, hex_run, unhexed, hex_pair, hexed_in, agreement, through}
 
 -- what holds of both sides of a test holds of what it picks
-pub by-test : {A : Type 0} (P : A → Type 0) (t : Bool) {a b : A} → P a → P b → P (cond t a b)
-by-test P true p q = p
-by-test P false p q = q
+pub by_test : {A : Type 0} (P : A → Type 0) (t : Bool) {a b : A} → P a → P b → P (cond t a b)
+by_test P true p q = p
+by_test P false p q = q
 
 -- ---- decimal: digits stored from the last one on
 
-drop-set-same : (l : List ℕ) (j a : ℕ) → j < length l → drop j (set l j a) ≡ a ∷ drop (suc j) l
-drop-set-same l j a h = ap (drop j) (set_split l j a h) ∙ drop_at (take j l) (a ∷ drop (suc j) l) j (length-take-le j l (omega arith))
+drop_set_same : (l : List ℕ) (j a : ℕ) → j < length l → drop j (set l j a) ≡ a ∷ drop (suc j) l
+drop_set_same l j a h = ap (drop j) (set_split l j a h) ∙ drop_at (take j l) (a ∷ drop (suc j) l) j (length-take-le j l (omega arith))
 
 -- the digits of `rest`, at most i of them, and those stored from i on are the whole text
 abbrev pub Stage : List ℕ → ℕ → ℕ → List ℕ → Type 0
@@ -32,11 +32,11 @@ longer : (k n : ℕ) → 10 ≤ n → decimal_in (suc k) n ≡ decimal_in k (n /
 unfolding decimal_in
 longer k n l = rw (le-ltb n 10 l)
 
-pub stage-more : (i rest : ℕ) (bytes all : List ℕ) → Stage all i rest bytes → 10 ≤ rest
+pub stage_more : (i rest : ℕ) (bytes all : List ℕ) → Stage all i rest bytes → 10 ≤ rest
     → Stage all (i - 1) (rest / 10) (set bytes (i - 1) (48 + rest % 10))
-stage-more zero rest bytes all h l = absurd (omega arith)
-stage-more (suc zero) rest bytes all h l = absurd (omega arith)
-stage-more (suc (suc j)) rest bytes all h l =
+stage_more zero rest bytes all h l = absurd (omega arith)
+stage_more (suc zero) rest bytes all h l = absurd (omega arith)
+stage_more (suc (suc j)) rest bytes all h l =
     let e : suc (suc j) - 1 ≡ suc j = omega arith in
     let d = 48 + rest % 10 in
     rw e (
@@ -44,39 +44,39 @@ stage-more (suc (suc j)) rest bytes all h l =
       omega arith,
       length-set bytes (suc j) d ∙ h.2,
       omega (arith, pow-suc 10 (suc j)),
-      ap (λ (x : List ℕ). decimal_in (suc j) (rest / 10) ++ x) (drop-set-same bytes (suc j) d (omega (arith, h.2)))
+      ap (λ (x : List ℕ). decimal_in (suc j) (rest / 10) ++ x) (drop_set_same bytes (suc j) d (omega (arith, h.2)))
           ∙ sym (append_assoc (decimal_in (suc j) (rest / 10)) (d ∷ []) (drop (suc (suc j)) bytes))
           ∙ ap (λ (x : List ℕ). x ++ drop (suc (suc j)) bytes) (sym (longer (suc j) rest l))
           ∙ h.4,
     )
 
-pub stage-last : (i rest : ℕ) (bytes all : List ℕ) → Stage all i rest bytes → rest < 10 → drop (i - 1) (set bytes (i - 1) (48 + rest)) ≡ all
+pub stage_last : (i rest : ℕ) (bytes all : List ℕ) → Stage all i rest bytes → rest < 10 → drop (i - 1) (set bytes (i - 1) (48 + rest)) ≡ all
 unfolding decimal_in
-stage-last zero rest bytes all h l = absurd (omega arith)
-stage-last (suc j) rest bytes all h l =
+stage_last zero rest bytes all h l = absurd (omega arith)
+stage_last (suc j) rest bytes all h l =
     let e : suc j - 1 ≡ j = omega arith in
-    rw e (drop-set-same bytes j (48 + rest) (omega (arith, h.2)) ∙ (rw (lt-ltb rest 10 l) at h.4))
+    rw e (drop_set_same bytes j (48 + rest) (omega (arith, h.2)) ∙ (rw (lt-ltb rest 10 l) at h.4))
 
 -- a number of at most k digits has no more
-pub length-decimal : (k n : ℕ) → length (decimal_in k n) ≤ k
+pub length_decimal : (k n : ℕ) → length (decimal_in k n) ≤ k
 unfolding decimal_in
-length-decimal zero n = omega arith
-length-decimal (suc k) n =
-    by-test (λ (x : List ℕ). length x ≤ suc k) (ltb n 10) (omega arith)
-    (omega (arith, length-append (decimal_in k (n / 10)) ((48 + n % 10) ∷ []), length-decimal k (n / 10)))
+length_decimal zero n = omega arith
+length_decimal (suc k) n =
+    by_test (λ (x : List ℕ). length x ≤ suc k) (ltb n 10) (omega arith)
+    (omega (arith, length-append (decimal_in k (n / 10)) ((48 + n % 10) ∷ []), length_decimal k (n / 10)))
 
-value-more : (a d : ℕ) (s : List ℕ) → value_from a (s ++ (d ∷ [])) ≡ 10 * value_from a s + (d - 48)
+value_more : (a d : ℕ) (s : List ℕ) → value_from a (s ++ (d ∷ [])) ≡ 10 * value_from a s + (d - 48)
 unfolding value_from
-value-more a d [] = refl
-value-more a d (x ∷ s) = value-more (10 * a + (x - 48)) d s
+value_more a d [] = refl
+value_more a d (x ∷ s) = value_more (10 * a + (x - 48)) d s
 
 -- the digits of n spell n
-pub decimal-spells : (k n : ℕ) → n < 10 ^ k → value_from 0 (decimal_in k n) ≡ n
+pub decimal_spells : (k n : ℕ) → n < 10 ^ k → value_from 0 (decimal_in k n) ≡ n
 unfolding decimal_in value_from
-decimal-spells zero n h = omega arith
-decimal-spells (suc k) n h =
-    by-test (λ (x : List ℕ). value_from 0 x ≡ n) (ltb n 10) (omega arith)
-    (value-more 0 (48 + n % 10) (decimal_in k (n / 10)) ∙ omega (arith, decimal-spells k (n / 10) (omega (arith, pow-suc 10 k))))
+decimal_spells zero n h = omega arith
+decimal_spells (suc k) n h =
+    by_test (λ (x : List ℕ). value_from 0 x ≡ n) (ltb n 10) (omega arith)
+    (value_more 0 (48 + n % 10) (decimal_in k (n / 10)) ∙ omega (arith, decimal_spells k (n / 10) (omega (arith, pow-suc 10 k))))
 
 -- ---- hexadecimal
 
@@ -88,9 +88,9 @@ run_more s i h n e =
     let more : hex_run (drop i s) ≡ suc (hex_run (drop (suc i) s)) = rw (drop-cons s i 0 h, ne_eqb (hex_digit (get_or s i 0)) 16 n) in
     rw (add-one i) (omega (arith, more))
 
-pub run-stop : (s : List ℕ) (i : ℕ) → i < length s → hex_digit (get_or s i 0) ≡ 16 → i + hex_run (drop i s) ≡ hex_run s → i ≡ hex_run s
+pub run_stop : (s : List ℕ) (i : ℕ) → i < length s → hex_digit (get_or s i 0) ≡ 16 → i + hex_run (drop i s) ≡ hex_run s → i ≡ hex_run s
 unfolding hex_run
-run-stop s i h n e =
+run_stop s i h n e =
     let none : hex_run (drop i s) ≡ 0 = rw (drop-cons s i 0 h, eq-eqb (hex_digit (get_or s i 0)) 16 n) in
     omega arith
 
@@ -98,35 +98,35 @@ pub run_end : (s : List ℕ) (i : ℕ) → length s ≤ i → i + hex_run (drop 
 unfolding hex_run
 run_end s i h e = let none : hex_run (drop i s) ≡ 0 = rw (drop_of_length-le s h) in omega arith
 
-pub length-unhexed : (n : ℕ) (s : List ℕ) → length (unhexed n s) ≡ n
+pub length_unhexed : (n : ℕ) (s : List ℕ) → length (unhexed n s) ≡ n
 unfolding unhexed
-length-unhexed zero s = refl
-length-unhexed (suc n) s =
-    length-append (unhexed n s) ((16 * hex_value (get_or s (2 * n) 0) + hex_value (get_or s (2 * n + 1) 0)) ∷ []) ∙ omega (arith, length-unhexed n s)
+length_unhexed zero s = refl
+length_unhexed (suc n) s =
+    length-append (unhexed n s) ((16 * hex_value (get_or s (2 * n) 0) + hex_value (get_or s (2 * n + 1) 0)) ∷ []) ∙ omega (arith, length_unhexed n s)
 
 -- one byte more is spelled
-pub unhex-more : (n : ℕ) (s o : List ℕ) {o₁ o₂ : List ℕ} {high low : ℕ} → o₁ ≡ sets o 0 (unhexed n s)
+pub unhex_more : (n : ℕ) (s o : List ℕ) {o₁ o₂ : List ℕ} {high low : ℕ} → o₁ ≡ sets o 0 (unhexed n s)
     → high ≡ hex_value (get_or s (2 * n) 0) → low ≡ hex_value (get_or s (2 * n + 1) 0) → o₂ ≡ set o₁ n (16 * high + low)
     → o₂ ≡ sets o 0 (unhexed (n + 1) s)
 unfolding unhexed
-unhex-more n s o p h l q =
+unhex_more n s o p h l q =
     let b = 16 * hex_value (get_or s (2 * n) 0) + hex_value (get_or s (2 * n + 1) 0) in
-    let a : sets o 0 (unhexed n s ++ (b ∷ [])) ≡ sets (sets o 0 (unhexed n s)) (0 + length (unhexed n s)) (b ∷ []) = sets-append (unhexed n s) (b ∷ []) o 0 in
-    let z : 0 + length (unhexed n s) ≡ n = omega (arith, length-unhexed n s) in
+    let a : sets o 0 (unhexed n s ++ (b ∷ [])) ≡ sets (sets o 0 (unhexed n s)) (0 + length (unhexed n s)) (b ∷ []) = sets_append (unhexed n s) (b ∷ []) o 0 in
+    let z : 0 + length (unhexed n s) ≡ n = omega (arith, length_unhexed n s) in
     q ∙ rw (p, h, l, add-one n, a, z)
 
-pub length-hexed : (n : ℕ) (s : List ℕ) → length (hexed_in n s) ≡ 2 * n
+pub length_hexed : (n : ℕ) (s : List ℕ) → length (hexed_in n s) ≡ 2 * n
 unfolding hexed_in hex_pair
-length-hexed zero s = refl
-length-hexed (suc n) s = length-append (hexed_in n s) (hex_pair (get_or s n 0)) ∙ omega (arith, length-hexed n s)
+length_hexed zero s = refl
+length_hexed (suc n) s = length-append (hexed_in n s) (hex_pair (get_or s n 0)) ∙ omega (arith, length_hexed n s)
 
 -- the digits of one byte more
-pub hex-more : (n at : ℕ) (s o : List ℕ) {o₁ o₂ : List ℕ} {b : ℕ} → o₁ ≡ sets o at (hexed_in n s) → b ≡ get_or s n 0
+pub hex_more : (n at : ℕ) (s o : List ℕ) {o₁ o₂ : List ℕ} {b : ℕ} → o₁ ≡ sets o at (hexed_in n s) → b ≡ get_or s n 0
     → o₂ ≡ sets o₁ (at + 2 * n) (hex_pair b) → o₂ ≡ sets o at (hexed_in (n + 1) s)
 unfolding hexed_in
-hex-more n at s o {o₁} {o₂} {b} p e q =
+hex_more n at s o {o₁} {o₂} {b} p e q =
     let a : o₂ ≡ sets o at (hexed_in n s ++ hex_pair (get_or s n 0)) =
-    sets_then (hexed_in n s) (hex_pair (get_or s n 0)) at (2 * n) o (length-hexed n s) p (q ∙ ap (λ (k : ℕ). sets o₁ (at + 2 * n) (hex_pair k)) e) in
+    sets_then (hexed_in n s) (hex_pair (get_or s n 0)) at (2 * n) o (length_hexed n s) p (q ∙ ap (λ (k : ℕ). sets o₁ (at + 2 * n) (hex_pair k)) e) in
     rw (add-one n) a
 
 -- ---- how far a text goes
@@ -136,83 +136,83 @@ unfolding agreement
 none_left [] = refl
 none_left (x ∷ w) = refl
 
-pub agree-more : (s w : List ℕ) (i : ℕ) → i < length s → i < length w → get_or s i 0 ≡ get_or w i 0
+pub agree_more : (s w : List ℕ) (i : ℕ) → i < length s → i < length w → get_or s i 0 ≡ get_or w i 0
     → i + agreement (drop i s) (drop i w) ≡ agreement s w → i + 1 + agreement (drop (i + 1) s) (drop (i + 1) w) ≡ agreement s w
 unfolding agreement
-agree-more s w i h k n e =
+agree_more s w i h k n e =
     let more : agreement (drop i s) (drop i w) ≡ suc (agreement (drop (suc i) s) (drop (suc i) w)) =
     rw (drop-cons s i 0 h, drop-cons w i 0 k, eq-eqb (get_or s i 0) (get_or w i 0) n) in
     rw (add-one i) (omega (arith, more))
 
-pub agree-stop : (s w : List ℕ) (i : ℕ) → i < length s → i < length w → (get_or s i 0 ≡ get_or w i 0 → ⊥)
+pub agree_stop : (s w : List ℕ) (i : ℕ) → i < length s → i < length w → (get_or s i 0 ≡ get_or w i 0 → ⊥)
     → i + agreement (drop i s) (drop i w) ≡ agreement s w → i ≡ agreement s w
 unfolding agreement
-agree-stop s w i h k n e =
+agree_stop s w i h k n e =
     let none : agreement (drop i s) (drop i w) ≡ 0 = rw (drop-cons s i 0 h, drop-cons w i 0 k, ne_eqb (get_or s i 0) (get_or w i 0) n) in
     omega arith
 
-pub agree-short : (s w : List ℕ) (i : ℕ) → length s ≤ i → i + agreement (drop i s) (drop i w) ≡ agreement s w → i ≡ agreement s w
-agree-short s w i h e =
+pub agree_short : (s w : List ℕ) (i : ℕ) → length s ≤ i → i + agreement (drop i s) (drop i w) ≡ agreement s w → i ≡ agreement s w
+agree_short s w i h e =
     let none : agreement (drop i s) (drop i w) ≡ 0 = rw (drop_of_length-le s h) (none_left (drop i w)) in
     omega arith
 
-pub agree-end : (s w : List ℕ) (i : ℕ) → length w ≤ i → i + agreement (drop i s) (drop i w) ≡ agreement s w → i ≡ agreement s w
+pub agree_end : (s w : List ℕ) (i : ℕ) → length w ≤ i → i + agreement (drop i s) (drop i w) ≡ agreement s w → i ≡ agreement s w
 unfolding agreement
-agree-end s w i h e = let none : agreement (drop i s) (drop i w) ≡ 0 = rw (drop_of_length-le w h) in omega arith
+agree_end s w i h e = let none : agreement (drop i s) (drop i w) ≡ 0 = rw (drop_of_length-le w h) in omega arith
 
 -- an agreement is no longer than the word
-pub agreement-le : (s w : List ℕ) → agreement s w ≤ length w
+pub agreement_le : (s w : List ℕ) → agreement s w ≤ length w
 unfolding agreement
-agreement-le s [] = omega arith
-agreement-le [] (x ∷ w) = omega arith
-agreement-le (b ∷ s) (x ∷ w) = by-test (λ (k : ℕ). k ≤ suc (length w)) (eqb b x) (omega (arith, agreement-le s w)) (omega arith)
+agreement_le s [] = omega arith
+agreement_le [] (x ∷ w) = omega arith
+agreement_le (b ∷ s) (x ∷ w) = by_test (λ (k : ℕ). k ≤ suc (length w)) (eqb b x) (omega (arith, agreement_le s w)) (omega arith)
 
-pub through-more : (s : List ℕ) (x i : ℕ) → i < length s → (get_or s i 0 ≡ x → ⊥) → i + through (drop i s) x ≡ through s x
+pub through_more : (s : List ℕ) (x i : ℕ) → i < length s → (get_or s i 0 ≡ x → ⊥) → i + through (drop i s) x ≡ through s x
     → i + 1 + through (drop (i + 1) s) x ≡ through s x
 unfolding through
-through-more s x i h n e =
+through_more s x i h n e =
     let more : through (drop i s) x ≡ suc (through (drop (suc i) s) x) = rw (drop-cons s i 0 h, ne_eqb (get_or s i 0) x n) in
     rw (add-one i) (omega (arith, more))
 
-pub through-stop : (s : List ℕ) (x i : ℕ) → i < length s → get_or s i 0 ≡ x → i + through (drop i s) x ≡ through s x → i + 1 ≡ through s x
+pub through_stop : (s : List ℕ) (x i : ℕ) → i < length s → get_or s i 0 ≡ x → i + through (drop i s) x ≡ through s x → i + 1 ≡ through s x
 unfolding through
-through-stop s x i h n e =
+through_stop s x i h n e =
     let one : through (drop i s) x ≡ 1 = rw (drop-cons s i 0 h, eq-eqb (get_or s i 0) x n) in
     omega arith
 
-pub through-end : (s : List ℕ) (x i : ℕ) → length s ≤ i → i + through (drop i s) x ≡ through s x → i ≡ through s x
+pub through_end : (s : List ℕ) (x i : ℕ) → length s ≤ i → i + through (drop i s) x ≡ through s x → i ≡ through s x
 unfolding through
-through-end s x i h e = let none : through (drop i s) x ≡ 0 = rw (drop_of_length-le s h) in omega arith
+through_end s x i h e = let none : through (drop i s) x ≡ 0 = rw (drop_of_length-le s h) in omega arith
 
 -- a text that is not empty goes on
-pub through-some : (s : List ℕ) (x : ℕ) → 0 < length s → 0 < through s x
+pub through_some : (s : List ℕ) (x : ℕ) → 0 < length s → 0 < through s x
 unfolding through
-through-some [] x h = absurd (omega arith)
-through-some (b ∷ s) x h = by-test (λ (k : ℕ). 0 < k) (eqb b x) (omega arith) (omega arith)
+through_some [] x h = absurd (omega arith)
+through_some (b ∷ s) x h = by_test (λ (k : ℕ). 0 < k) (eqb b x) (omega arith) (omega arith)
 
-pub through-le : (s : List ℕ) (x : ℕ) → through s x ≤ length s
+pub through_le : (s : List ℕ) (x : ℕ) → through s x ≤ length s
 unfolding through
-through-le [] x = omega arith
-through-le (b ∷ s) x = by-test (λ (k : ℕ). k ≤ suc (length s)) (eqb b x) (omega arith) (omega (arith, through-le s x))
+through_le [] x = omega arith
+through_le (b ∷ s) x = by_test (λ (k : ℕ). k ≤ suc (length s)) (eqb b x) (omega arith) (omega (arith, through_le s x))
 
 -- a run of digits is no longer than the text
-pub run-le : (s : List ℕ) → hex_run s ≤ length s
+pub run_le : (s : List ℕ) → hex_run s ≤ length s
 unfolding hex_run
-run-le [] = omega arith
-run-le (b ∷ s) = by-test (λ (k : ℕ). k ≤ suc (length s)) (is_hex b) (omega (arith, run-le s)) (omega arith)
+run_le [] = omega arith
+run_le (b ∷ s) = by_test (λ (k : ℕ). k ≤ suc (length s)) (is_hex b) (omega (arith, run_le s)) (omega arith)
 
 -- ---- the bytes that n digits of a text spell, from a place of it on, put at the front of a buffer
 
 part_length : (s : List ℕ) (from n : ℕ) → from + n ≤ length s → length (take n (drop from s)) ≡ n
 part_length s from n h = length-take-le n (drop from s) (rw (length-drop from s) (omega arith))
 
-pub spelled-front : (s : List ℕ) (from n : ℕ) (p : List ℕ) {q : List ℕ} → from + n ≤ length s → n / 2 ≤ length p
+pub spelled_front : (s : List ℕ) (from n : ℕ) (p : List ℕ) {q : List ℕ} → from + n ≤ length s → n / 2 ≤ length p
     → q ≡ sets p 0 (unhexed (length (take (from + n - from) (drop from s)) / 2) (take (from + n - from) (drop from s)))
     → take (n / 2) q ≡ unhexed (n / 2) (take n (drop from s))
-spelled-front s from n p h l g =
+spelled_front s from n p h l g =
     let m : from + n - from ≡ n = omega arith in
     let d = take n (drop from s) in
     let x : length d ≡ n = part_length s from n h in
     let f : unhexed (length d / 2) d ≡ unhexed (n / 2) d = ap (λ (k : ℕ). unhexed (k / 2) d) x in
-    let y : length (unhexed (n / 2) d) ≡ n / 2 = length-unhexed (n / 2) d in
-    ap (take (n / 2)) ((rw m at g) ∙ ap (sets p 0) f ∙ sets_over (unhexed (n / 2) d) p (omega arith)) ∙ take-over (unhexed (n / 2) d) p (n / 2) y
+    let y : length (unhexed (n / 2) d) ≡ n / 2 = length_unhexed (n / 2) d in
+    ap (take (n / 2)) ((rw m at g) ∙ ap (sets p 0) f ∙ sets_over (unhexed (n / 2) d) p (omega arith)) ∙ take_over (unhexed (n / 2) d) p (n / 2) y

@@ -19,12 +19,12 @@ use Rattle.assembler.specs.declared.Assembly.{Assembly}
 use Rattle.assembler.specs.declared.Answer.{Answer}
 use Rattle.assembler.specs.declared.Answer.TheVariants as answer
 use Rattle.assembler.specs.declared.Judged.{Judged}
-use Rattle.assembler.proofs.Laws.{Gathers, JudgedView, refuses, starts, joins, judged-view}
+use Rattle.assembler.proofs.Laws.{Gathers, JudgedView, refuses, starts, joins, judged_view}
 
-gather-delivers : (a : Assembly) (xs : List ℕ) (d : Bool) (room : ℕ) → length a.bytes ≡ 4096 → Gathers a.progress xs
+gather_delivers : (a : Assembly) (xs : List ℕ) (d : Bool) (room : ℕ) → length a.bytes ≡ 4096 → Gathers a.progress xs
     → Delivers (gather_of a xs d room).answer (gather_of a xs d room).information room
 unfolding gather_of refused waiting completed
-gather-delivers a xs d room w G = go (eqb (a.progress.next + 1) a.progress.total) (ltb room a.progress.information_length) refl refl
+gather_delivers a xs d room w G = go (eqb (a.progress.next + 1) a.progress.total) (ltb room a.progress.information_length) refl refl
   where
     step : Bool → Bool → Step
     step last small = cond last (cond small (refused (refusal output_too_small a.progress.information_length)) (completed a xs d)) (waiting (grown a xs) d)
@@ -38,30 +38,30 @@ gather-delivers a xs d room w G = go (eqb (a.progress.next + 1) a.progress.total
         (length-append (take a.progress.gathered a.bytes) xs ∙ omega (arith, l, k), ltb-false room a.progress.information_length q)
     go false small p q = tt
 
-begun-whole : (t : Bool) (bytes : List ℕ) → length bytes ≡ 4096 → length (begun_bytes t bytes) ≡ 4096
+begun_whole : (t : Bool) (bytes : List ℕ) → length bytes ≡ 4096 → length (begun_bytes t bytes) ≡ 4096
 unfolding begun_bytes
-begun-whole true bytes w = length-replicate {A = ℕ} 4096 0
-begun-whole false bytes w = w
+begun_whole true bytes w = length-replicate {A = ℕ} 4096 0
+begun_whole false bytes w = w
 
-pub step-delivers : (a : Assembly) (s : List ℕ) (room : ℕ) → length a.bytes ≡ 4096 → Delivers (step_of a s room).answer (step_of a s room).information room
+pub step_delivers : (a : Assembly) (s : List ℕ) (room : ℕ) → length a.bytes ≡ 4096 → Delivers (step_of a s room).answer (step_of a s room).information room
 unfolding step_of step_by refused
-step-delivers a s room w = go (judged-view a.progress s)
+step_delivers a s room w = go (judged_view a.progress s)
   where
     go : {j : Judged} → JudgedView a.progress s j → Delivers (step_by a.bytes s room j).answer (step_by a.bytes s room j).information room
     go (refuses r e) = rw e tt
-    go (starts h f n e l G) = rw e (gather-delivers (assembly_of _ (begun_bytes (is_pending a.progress) a.bytes)) (drop n s) (is_pending a.progress) room (begun-whole (is_pending a.progress) a.bytes w) G)
-    go (joins n e l G) = rw e (gather-delivers (assembly_of a.progress (begun_bytes false a.bytes)) (drop n s) false room (begun-whole false a.bytes w) G)
+    go (starts h f n e l G) = rw e (gather_delivers (assembly_of _ (begun_bytes (is_pending a.progress) a.bytes)) (drop n s) (is_pending a.progress) room (begun_whole (is_pending a.progress) a.bytes w) G)
+    go (joins n e l G) = rw e (gather_delivers (assembly_of a.progress (begun_bytes false a.bytes)) (drop n s) false room (begun_whole false a.bytes w) G)
 
-pub shown-delivers : (s : List ℕ) (x : Answer) (information : List ℕ) (room : ℕ) → Delivers x information room → Delivered (fed_shown s x) information room
+pub shown_delivers : (s : List ℕ) (x : Answer) (information : List ℕ) (room : ℕ) → Delivers x information room → Delivered (fed_shown s x) information room
 unfolding fed_shown
-shown-delivers s (answer.Complete m n d) information room f = f
-shown-delivers s (answer.Pending d) information room f = tt
-shown-delivers s (answer.Refused r) information room f = tt
+shown_delivers s (answer.Complete m n d) information room f = f
+shown_delivers s (answer.Pending d) information room f = tt
+shown_delivers s (answer.Refused r) information room f = tt
 
-whole-delivers : (x : Whole) (information : List ℕ) (room : ℕ) → Delivered (shown_by x) information room
-whole-delivers (whole.Message t n w) information room = tt
-whole-delivers (whole.Refused r) information room = tt
+whole_delivers : (x : Whole) (information : List ℕ) (room : ℕ) → Delivered (shown_by x) information room
+whole_delivers (whole.Message t n w) information room = tt
+whole_delivers (whole.Refused r) information room = tt
 
-pub whole-delivered : (s information : List ℕ) (room : ℕ) → Delivered (whole_shown s) information room
+pub whole_delivered : (s information : List ℕ) (room : ℕ) → Delivered (whole_shown s) information room
 unfolding whole_shown
-whole-delivered s information room = whole-delivers (whole_of s) information room
+whole_delivered s information room = whole_delivers (whole_of s) information room

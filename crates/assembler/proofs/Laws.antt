@@ -21,7 +21,7 @@ use Rattle.message.specs.Message.{most_information, header_at, first_length}
 use Rattle.message.specs.declared.FragmentHeader.{FragmentHeader}
 use Rattle.message.specs.declared.FirstHeader.{FirstHeader}
 use Rattle.message.specs.declared.Fragment.{Fragment}
-use Rattle.message.proofs.Headers.{amount-right, Opened, FragmentView, refuses as no-fragment, opens, follows, fragment-view}
+use Rattle.message.proofs.Headers.{amount_right, Opened, FragmentView, refuses as no_fragment, opens, follows, fragment_view}
 use Rattle.assembler.specs.Assembly.{is_pending, begun_progress, continues, join_rules, join_of, judged_by, judged_of}
 use Rattle.assembler.specs.declared.Judged.{Judged}
 use Rattle.assembler.specs.declared.Judged.TheVariants as judged
@@ -32,14 +32,14 @@ pub rest : (n : ℕ) (s : List ℕ) → take (length s - n) (drop n s) ≡ drop 
 rest n s = take_all (length s - n) (drop n s) (simp length-drop (omega arith))
 
 -- two stores one after the other, from the front, where they have room
-pub information-stored : (b xs s : List ℕ) (n : ℕ) {s₁ s₂ : List ℕ} → length b ≡ n → n + length xs ≤ length s → s₁ ≡ sets s 0 b → s₂ ≡ sets s₁ n xs → s₂ ≡ over (b ++ xs) s
-information-stored b xs s n {s₁} e room p q =
+pub information_stored : (b xs s : List ℕ) (n : ℕ) {s₁ s₂ : List ℕ} → length b ≡ n → n + length xs ≤ length s → s₁ ≡ sets s 0 b → s₂ ≡ sets s₁ n xs → s₂ ≡ over (b ++ xs) s
+information_stored b xs s n {s₁} e room p q =
     sets_then b xs 0 n s e p (q ∙ ap (λ (k : ℕ). sets s₁ k xs) (omega arith)) ∙ sets_over (b ++ xs) s (omega (arith, length-append b xs))
 
 -- what is left at the front of a longer buffer
-pub front-over : (x s : List ℕ) {b : List ℕ} → b ≡ x → length x ≡ 4096 → b ++ drop 4096 s ≡ over x s
+pub front_over : (x s : List ℕ) {b : List ℕ} → b ≡ x → length x ≡ 4096 → b ++ drop 4096 s ≡ over x s
 unfolding over
-front-over x s e l = rw (e, l)
+front_over x s e l = rw (e, l)
 
 -- a buffer with zeros up to its end
 pub filled : (i : ℕ) (s : List ℕ) → i ≡ length s → replicate i 0 ++ drop i s ≡ replicate (length s) 0
@@ -63,9 +63,9 @@ pub record Continues (p : Progress) (h : FragmentHeader) : Type 0 where
   pub number : p.next ≡ h.number
   pub small : p.information_length ≤ most_information
 
-pub continues-says : (p : Progress) (h : FragmentHeader) → continues p h ≡ true → Continues p h
+pub continues_says : (p : Progress) (h : FragmentHeader) → continues p h ≡ true → Continues p h
 unfolding continues
-continues-says p h e =
+continues_says p h e =
     let a = both _ _ e in
     let b = both _ _ a.1 in
     let c = both _ _ b.1 in
@@ -78,11 +78,11 @@ continues-says p h e =
       small = leb-true _ _ d.1;
     }
 
-join-fits : (p : Progress) (h : FragmentHeader) (s : List ℕ) → h.number < h.total → judge (join_rules p h (length s)) ≡ Fits → Gathers p (drop 20 s)
-join-fits p h s less e =
+join_fits : (p : Progress) (h : FragmentHeader) (s : List ℕ) → h.number < h.total → judge (join_rules p h (length s)) ≡ Fits → Gathers p (drop 20 s)
+join_fits p h s less e =
     let k = fits_kept (join_rules p h (length s)) e in
-    let c = continues-says p h (not-false (continues p h) k.0) in
-    let a = amount-right (eqb (h.number + 1) h.total) (p.gathered + (length s - 20)) p.information_length k.1.0 in
+    let c = continues_says p h (not-false (continues p h) k.0) in
+    let a = amount_right (eqb (h.number + 1) h.total) (p.gathered + (length s - 20)) p.information_length k.1.0 in
     simp length-drop
     ((a.0, c.small, omega (arith, c.number, c.total)), λ q. a.1 (eq-eqb (h.number + 1) h.total (omega (arith, q, c.number, c.total))))
 
@@ -92,7 +92,7 @@ start_fits h f s is some o =
     rw (← is) (
       o.long,
       simp length-drop
-          (let a = amount-right _ _ _ o.amount in (
+          (let a = amount_right _ _ _ o.amount in (
             (omega (arith, a.0), o.small, rw (ap (λ (x : FragmentHeader). x.total) is) some),
             λ q. omega (arith, a.1 (eq-eqb (u32_at s 12) 1 (omega (arith, q)))),
           )),
@@ -107,22 +107,22 @@ pub data JudgedView (p : Progress) (s : List ℕ) (j : Judged) : Type 0 where
       → Gathers (begun_progress h f) (drop n s) → JudgedView p s j
   joins : (n : ℕ) → j ≡ judged.Gathers p n false → n ≤ length s → Gathers p (drop n s) → JudgedView p s j
 
-pub judged-view : (p : Progress) (s : List ℕ) → JudgedView p s (judged_of p s)
+pub judged_view : (p : Progress) (s : List ℕ) → JudgedView p s (judged_of p s)
 unfolding judged_of judged_by join_of
-judged-view p s = go (fragment-view s)
+judged_view p s = go (fragment_view s)
   where
     joined : (h : FragmentHeader) → 20 ≤ length s → h.number < h.total → (v : Verdict) → judge (join_rules p h (length s)) ≡ v → JudgedView p s (join_of v p)
-    joined h long within Fits ev = joins 20 refl long (join-fits p h s within ev)
+    joined h long within Fits ev = joins 20 refl long (join_fits p h s within ev)
     joined h long within (Fault r) ev = refuses r refl
 
     go : {f : Fragment} → FragmentView s f → JudgedView p s (judged_by p (length s) f)
-    go (no-fragment r) = refuses r refl
+    go (no_fragment r) = refuses r refl
     go (opens h f a z o) = let g = start_fits h f s a.is a.some o in starts h f _ refl g.0 g.1
     go (follows h a z) = joined h a.long a.within (judge (join_rules p h (length s))) refl
 
 -- what a piece brings that is not refused
 pub brings : (p q : Progress) (s : List ℕ) (n : ℕ) (d : Bool) → judged_of p s ≡ judged.Gathers q n d → (n ≤ length s) × Gathers q (drop n s)
-brings p q s n d e = go (judged-view p s) e
+brings p q s n d e = go (judged_view p s) e
   where
     go : {j : Judged} → JudgedView p s j → j ≡ judged.Gathers q n d → (n ≤ length s) × Gathers q (drop n s)
     go (refuses r ej) k = let z : ◌≡◌ {A = ℕ} 0 1 = cc in absurd (omega arith)

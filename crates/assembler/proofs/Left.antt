@@ -21,13 +21,13 @@ use Rattle.message.specs.declared.MessageHeader.{MessageHeader}
 use Rattle.message.specs.declared.FragmentHeader.{FragmentHeader}
 use Rattle.message.specs.declared.FirstHeader.{FirstHeader}
 use Rattle.message.specs.declared.Fragment.{Fragment}
-use Rattle.message.proofs.Headers.{Accepted, Opened, FragmentView, refuses as no-fragment, opens, follows, fragment-view}
+use Rattle.message.proofs.Headers.{Accepted, Opened, FragmentView, refuses as no_fragment, opens, follows, fragment_view}
 use Rattle.assembler.specs.Assembly.{assembly_of, empty, refused, waiting, completed, grown, gather_of, begun_progress, begun_bytes, continues, join_rules, join_of, judged_by, judged_of, step_by, step_of}
 use Rattle.assembler.specs.declared.Progress.{Progress}
 use Rattle.assembler.specs.declared.Assembly.{Assembly}
 use Rattle.assembler.specs.declared.Judged.{Judged}
 use Rattle.assembler.specs.declared.Judged.TheVariants as judged
-use Rattle.assembler.proofs.Laws.{Gathers, brings, Continues, continues-says}
+use Rattle.assembler.proofs.Laws.{Gathers, brings, Continues, continues_says}
 
 -- a message that waits for its next fragment
 pub record Waits (p : Progress) : Type 0 where
@@ -53,9 +53,9 @@ record Ready (a : Assembly) (s xs : List ℕ) (q : Progress) : Type 0 where
   few : q.total ≤ 128
   from : From a s (q.next + 1) (q.gathered + length xs) q.message
 
-gathers-left : (a : Assembly) (s bytes xs : List ℕ) (d : Bool) (room : ℕ) (q : Progress) → Ready a s xs q → Gathers q xs → Left a s (gather_of (assembly_of q bytes) xs d room).assembly.progress
+gathers_left : (a : Assembly) (s bytes xs : List ℕ) (d : Bool) (room : ℕ) (q : Progress) → Ready a s xs q → Gathers q xs → Left a s (gather_of (assembly_of q bytes) xs d room).assembly.progress
 unfolding gather_of refused waiting completed grown
-gathers-left a s bytes xs d room q R G = go (eqb (q.next + 1) q.total) refl (ltb room q.information_length)
+gathers_left a s bytes xs d room q R G = go (eqb (q.next + 1) q.total) refl (ltb room q.information_length)
   where
     go : (last : Bool) → eqb (q.next + 1) q.total ≡ last → (small : Bool)
         → Left a s (cond last (cond small (refused (refusal output_too_small q.information_length)) (completed (assembly_of q bytes) xs d)) (waiting (grown (assembly_of q bytes) xs) d)).assembly.progress
@@ -72,9 +72,9 @@ gathers-left a s bytes xs d room q R G = go (eqb (q.next + 1) q.total) refl (ltb
           within = G.0.0;
         }) R.from
 
-begun-ready : (a : Assembly) (s : List ℕ) (h : FragmentHeader) (f : FirstHeader) → Accepted s h → Opened s f → Ready a s (drop (first_length h.message_type) s) (begun_progress h f)
+begun_ready : (a : Assembly) (s : List ℕ) (h : FragmentHeader) (f : FirstHeader) → Accepted s h → Opened s f → Ready a s (drop (first_length h.message_type) s) (begun_progress h f)
 unfolding message_at
-begun-ready a s h f A O =
+begun_ready a s h f A O =
     let t : f.message.message_type ≡ u32_at s 0 = ap (λ (m : MessageHeader). m.message_type) O.message in
     let k : u32_at s 0 ≡ h.message_type = ap (λ (x : FragmentHeader). x.message_type) A.is in
     record {
@@ -83,8 +83,8 @@ begun-ready a s h f A O =
       from = begun O.message (rw O.message O.word) refl (rw (t, ← k) (simp length-drop (omega (arith, A.short, O.long))));
     }
 
-joined-ready : (a : Assembly) (s xs : List ℕ) (h : FragmentHeader) → Accepted s h → (h.number ≡ 0 → ⊥) → Continues a.progress h → Ready a s xs a.progress
-joined-ready a s xs h A later C = record {
+joined_ready : (a : Assembly) (s xs : List ℕ) (h : FragmentHeader) → Accepted s h → (h.number ≡ 0 → ⊥) → Continues a.progress h → Ready a s xs a.progress
+joined_ready a s xs h A later C = record {
   known = rw (C.type, ← A.is) A.known;
   few = omega (arith, A.few, C.total);
   from = joined refl (omega (arith, later, C.number));
@@ -92,7 +92,7 @@ joined-ready a s xs h A later C = record {
 
 ready : (a : Assembly) (s : List ℕ) (q : Progress) (n : ℕ) (d : Bool) → judged_of a.progress s ≡ judged.Gathers q n d → Ready a s (drop n s) q
 unfolding judged_of judged_by join_of
-ready a s q n d = go (fragment-view s)
+ready a s q n d = go (fragment_view s)
   where
     p : Progress
     p = a.progress
@@ -100,15 +100,15 @@ ready a s q n d = go (fragment-view s)
     joins : (h : FragmentHeader) → Accepted s h → (h.number ≡ 0 → ⊥) → (v : Verdict) → judge (join_rules p h (length s)) ≡ v → join_of v p ≡ judged.Gathers q n d → Ready a s (drop n s) q
     joins h A later Fits ev k =
         let e : a.progress ≡ q = cc in
-        rw (← e) (joined-ready a s (drop n s) h A later (continues-says p h (not-false (continues p h) (fits_kept (join_rules p h (length s)) ev).0)))
+        rw (← e) (joined_ready a s (drop n s) h A later (continues_says p h (not-false (continues p h) (fits_kept (join_rules p h (length s)) ev).0)))
     joins h A later (Fault r) ev k = let z : ◌≡◌ {A = ℕ} 0 1 = cc in absurd (omega arith)
 
     go : {f : Fragment} → FragmentView s f → judged_by p (length s) f ≡ judged.Gathers q n d → Ready a s (drop n s) q
-    go (no-fragment r) k = let z : ◌≡◌ {A = ℕ} 0 1 = cc in absurd (omega arith)
+    go (no_fragment r) k = let z : ◌≡◌ {A = ℕ} 0 1 = cc in absurd (omega arith)
     go (opens h f A z o) k =
         let e : begun_progress h f ≡ q = cc in
         let l : first_length h.message_type ≡ n = cc in
-        rw (← e, ← l) (begun-ready a s h f A o)
+        rw (← e, ← l) (begun_ready a s h f A o)
     go (follows h A z) k = joins h A z (judge (join_rules p h (length s))) refl k
 
 pub left : (a : Assembly) (s : List ℕ) (room : ℕ) → Left a s (step_of a s room).assembly.progress
@@ -117,12 +117,12 @@ left a s room = go (judged_of a.progress s) refl
   where
     go : (j : Judged) → judged_of a.progress s ≡ j → Left a s (step_by a.bytes s room j).assembly.progress
     go (judged.Refused r) e = nothing refl
-    go (judged.Gathers q n d) e = gathers-left a s (begun_bytes d a.bytes) (drop n s) d room q (ready a s q n d e) (brings a.progress q s n d e).1
+    go (judged.Gathers q n d) e = gathers_left a s (begun_bytes d a.bytes) (drop n s) d room q (ready a s q n d e) (brings a.progress q s n d e).1
 
 -- the buffer stays as long as it is
-pub left-whole : (a : Assembly) (s : List ℕ) (room : ℕ) → length a.bytes ≡ 4096 → length (step_of a s room).assembly.bytes ≡ 4096
+pub left_whole : (a : Assembly) (s : List ℕ) (room : ℕ) → length a.bytes ≡ 4096 → length (step_of a s room).assembly.bytes ≡ 4096
 unfolding step_of step_by gather_of refused waiting completed grown begun_bytes empty
-left-whole a s room whole = go (judged_of a.progress s)
+left_whole a s room whole = go (judged_of a.progress s)
   where
     begun : (d : Bool) → length (begun_bytes d a.bytes) ≡ 4096
     begun true = length-replicate {A = ℕ} 4096 0

@@ -15,10 +15,10 @@ use Rattle.assembler.specs.declared.Judged.{Judged}
 use Rattle.assembler.specs.declared.Judged.TheVariants as judged
 use Rattle.assembler.proofs.Laws.{brings}
 
-gather-room : (a : Assembly) (xs : List ℕ) (d : Bool) (room : ℕ) → a.progress.information_length ≤ most_information → most_information ≤ room
+gather_room : (a : Assembly) (xs : List ℕ) (d : Bool) (room : ℕ) → a.progress.information_length ≤ most_information → most_information ≤ room
     → gather_of a xs d room ≡ gather_of a xs d most_information
 unfolding gather_of
-gather-room a xs d room l h =
+gather_room a xs d room l h =
     rw (le-ltb room a.progress.information_length (omega arith), le-ltb most_information a.progress.information_length l)
 
 pub step_room : (a : Assembly) (s : List ℕ) (room : ℕ) → most_information ≤ room → step_of a s room ≡ step_of a s most_information
@@ -27,9 +27,9 @@ step_room a s room h = go (judged_of a.progress s) refl
   where
     go : (j : Judged) → judged_of a.progress s ≡ j → step_by a.bytes s room j ≡ step_by a.bytes s most_information j
     go (judged.Refused r) e = refl
-    go (judged.Gathers q n d) e = gather-room (assembly_of q (begun_bytes d a.bytes)) (drop n s) d room (brings a.progress q s n d e).1.0.1 h
+    go (judged.Gathers q n d) e = gather_room (assembly_of q (begun_bytes d a.bytes)) (drop n s) d room (brings a.progress q s n d e).1.0.1 h
 
 -- of the door too
-pub receive-room : (a : Assembly) (s : List ℕ) (room : ℕ) → most_information ≤ room → receive_of a s room ≡ receive_of a s most_information
+pub receive_room : (a : Assembly) (s : List ℕ) (room : ℕ) → most_information ≤ room → receive_of a s room ≡ receive_of a s most_information
 unfolding receive_of
-receive-room a s room h = ap (λ (x : Step). cond (is_whole_piece s) (whole_received a s) (fed_received s x)) (step_room a s room h)
+receive_room a s room h = ap (λ (x : Step). cond (is_whole_piece s) (whole_received a s) (fed_received s x)) (step_room a s room h)

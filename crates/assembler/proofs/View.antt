@@ -15,7 +15,7 @@ use Rattle.assembler.specs.Assembly.{Step, assembly_of, is_pending, refused, wai
 use Rattle.assembler.specs.declared.Assembly.{Assembly}
 use Rattle.assembler.specs.declared.Judged.{Judged}
 use Rattle.assembler.proofs.Laws as judge
-use Rattle.assembler.proofs.Laws.{Gathers, JudgedView, judged-view}
+use Rattle.assembler.proofs.Laws.{Gathers, JudgedView, judged_view}
 
 -- the bytes xs joined a: the step is refused, waits, or completes
 pub data GatherView (a : Assembly) (xs : List ℕ) (dropped : Bool) (s : Step) : Type 0 where
@@ -23,9 +23,9 @@ pub data GatherView (a : Assembly) (xs : List ℕ) (dropped : Bool) (s : Step) :
   waits : s ≡ waiting (grown a xs) dropped → GatherView a xs dropped s
   completes : a.progress.next + 1 ≡ a.progress.total → s ≡ completed a xs dropped → GatherView a xs dropped s
 
-pub gather-view : (a : Assembly) (xs : List ℕ) (dropped : Bool) (room : ℕ) → GatherView a xs dropped (gather_of a xs dropped room)
+pub gather_view : (a : Assembly) (xs : List ℕ) (dropped : Bool) (room : ℕ) → GatherView a xs dropped (gather_of a xs dropped room)
 unfolding gather_of
-gather-view a xs dropped room = go (eqb (a.progress.next + 1) a.progress.total) refl (ltb room a.progress.information_length)
+gather_view a xs dropped room = go (eqb (a.progress.next + 1) a.progress.total) refl (ltb room a.progress.information_length)
   where
     go : (last : Bool) → eqb (a.progress.next + 1) a.progress.total ≡ last → (small : Bool) → GatherView a xs dropped (cond last (cond small (refused (refusal output_too_small a.progress.information_length)) (completed a xs dropped)) (waiting (grown a xs) dropped))
     go true e true = refuses _ refl
@@ -39,11 +39,11 @@ pub data StepView (a : Assembly) (s : Step) : Type 0 where
       → GatherView (assembly_of (begun_progress h f) (begun_bytes (is_pending a.progress) a.bytes)) xs (is_pending a.progress) s → StepView a s
   joins : (xs : List ℕ) → Gathers a.progress xs → GatherView a xs false s → StepView a s
 
-pub step-view : (a : Assembly) (p : List ℕ) (room : ℕ) → StepView a (step_of a p room)
+pub step_view : (a : Assembly) (p : List ℕ) (room : ℕ) → StepView a (step_of a p room)
 unfolding step_of step_by begun_bytes
-step-view a p room = go (judged-view a.progress p)
+step_view a p room = go (judged_view a.progress p)
   where
     go : {j : Judged} → JudgedView a.progress p j → StepView a (step_by a.bytes p room j)
     go (judge.refuses r e) = rw e (bad r refl)
-    go (judge.starts h f n e l g) = rw e (starts h f (drop n p) g (gather-view _ (drop n p) _ room))
-    go (judge.joins n e l g) = rw e (joins (drop n p) g (gather-view a (drop n p) false room))
+    go (judge.starts h f n e l g) = rw e (starts h f (drop n p) g (gather_view _ (drop n p) _ room))
+    go (judge.joins n e l g) = rw e (joins (drop n p) g (gather_view a (drop n p) false room))

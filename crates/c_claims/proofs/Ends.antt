@@ -48,67 +48,67 @@ use Rattle.c_structs.specs.Versions.{answer_of}
 use Rattle.c_structs.specs.Services.{listed_info, position_info}
 use Rattle.c_structs.specs.Ends.{host_info, ask_info, modem_info}
 use Rattle.c_claims.specs.NumberZero.{VerdictTells, WrittenTells, VersionTells, ListedTells, PositionTells, HostTells, AskTells, ModemTells}
-use Rattle.c_claims.proofs.Verdicts.{told-rules, by-test, told-number}
-use Rattle.c_claims.proofs.Payloads.{version-read-told, version-write-told, listed-told, position-told}
+use Rattle.c_claims.proofs.Verdicts.{told_rules, by_test, told_number}
+use Rattle.c_claims.proofs.Payloads.{version_read_told, version_write_told, listed_told, position_told}
 
 -- what is stored in memory, where there is room
-pub stored-told : (size : ℕ) (bytes m : List ℕ) → VerdictTells (stored size bytes m).verdict
-stored-told size bytes m = by-test (λ (x : Stored). VerdictTells x.verdict) (ltb (length m) size) refl refl
+pub stored_told : (size : ℕ) (bytes m : List ℕ) → VerdictTells (stored size bytes m).verdict
+stored_told size bytes m = by_test (λ (x : Stored). VerdictTells x.verdict) (ltb (length m) size) refl refl
 
 -- ---- the host by value
 
 open_told : (h : Host) (n : ℕ) → HostTells (host.opened_of h n).answer
 unfolding host.opened_of host_info
-open_told h n = by-verdict (number_verdict n) (told-number n)
+open_told h n = by_verdict (number_verdict n) (told_number n)
   where
-    by-verdict : (v : Verdict) → VerdictTells v → HostTells (host.opened_by v h (version_of n)).answer
-    by-verdict Fits x = refl
-    by-verdict (Fault r) x = x
+    by_verdict : (v : Verdict) → VerdictTells v → HostTells (host.opened_by v h (version_of n)).answer
+    by_verdict Fits x = refl
+    by_verdict (Fault r) x = x
 
-ask-told : (h : Host) (out : List ℕ) → AskTells (host.ask_of h out).answer
+ask_told : (h : Host) (out : List ℕ) → AskTells (host.ask_of h out).answer
 unfolding host.ask_of ask_info written_answer
-ask-told h out = by-stage h.stage
+ask_told h out = by_stage h.stage
   where
     by_written : (w : Written) → WrittenTells w → AskTells (host.query_by w)
     by_written (written.Length n) x = refl
     by_written (written.Refused r) x = x
 
-    by-stage : (g : HostStage) → AskTells (host.ask_at g h.native out).answer
-    by-stage host_stage.Closed = refl
-    by-stage (host_stage.Open a) = refl
-    by-stage (host_stage.AwaitsVersion a) = by_written (write_of (info_of h.native) out).answer (version-write-told (info_of h.native) out)
-    by-stage (host_stage.Settled v) = refl
+    by_stage : (g : HostStage) → AskTells (host.ask_at g h.native out).answer
+    by_stage host_stage.Closed = refl
+    by_stage (host_stage.Open a) = refl
+    by_stage (host_stage.AwaitsVersion a) = by_written (write_of (info_of h.native) out).answer (version_write_told (info_of h.native) out)
+    by_stage (host_stage.Settled v) = refl
 
-list-told : (g : HostStage) (h : Host) (listed : Bool) → HostTells (host.list_at g h listed).answer
+list_told : (g : HostStage) (h : Host) (listed : Bool) → HostTells (host.list_at g h listed).answer
 unfolding host.list_at host.list_rules host_info
-list-told host_stage.Closed h listed = refl
-list-told (host_stage.Open a) h listed = by-verdict (judge (host.list_rules h.native a listed)) (told-rules _ refl)
+list_told host_stage.Closed h listed = refl
+list_told (host_stage.Open a) h listed = by_verdict (judge (host.list_rules h.native a listed)) (told_rules _ refl)
   where
-    by-verdict : (v : Verdict) → VerdictTells v → HostTells (host.judged_list v h a listed).answer
-    by-verdict Fits x = by-test (λ (y : HostStep). HostTells y.answer) (is_later h.native && listed) refl refl
-    by-verdict (Fault r) x = x
-list-told (host_stage.AwaitsVersion a) h listed = refl
-list-told (host_stage.Settled v) h listed = refl
+    by_verdict : (v : Verdict) → VerdictTells v → HostTells (host.judged_list v h a listed).answer
+    by_verdict Fits x = by_test (λ (y : HostStep). HostTells y.answer) (is_later h.native && listed) refl refl
+    by_verdict (Fault r) x = x
+list_told (host_stage.AwaitsVersion a) h listed = refl
+list_told (host_stage.Settled v) h listed = refl
 
-services-told : (h : Host) (status : ℕ) (s : List ℕ) → HostTells (host.services_reply_of h status s).answer
+services_told : (h : Host) (status : ℕ) (s : List ℕ) → HostTells (host.services_reply_of h status s).answer
 unfolding host.services_reply_of host.list_reply host_info listed_info position_info
-services-told h status s =
-    by-test (λ (x : HostStep). HostTells x.answer) (eqb status 0) (by-list (host.version_asked s) (by-position (position_of s (id_at extensions 0) version_cid) (position-told s (id_at extensions 0) version_cid))) refl
+services_told h status s =
+    by_test (λ (x : HostStep). HostTells x.answer) (eqb status 0) (by_list (host.version_asked s) (by_position (position_of s (id_at extensions 0) version_cid) (position_told s (id_at extensions 0) version_cid))) refl
   where
-    by-position : (a : PositionAnswer) → PositionTells a → ListedTells (without_position a)
-    by-position (position.Listed i k) x = refl
-    by-position position.NotListed x = refl
-    by-position (position.Refused r) x = x
+    by_position : (a : PositionAnswer) → PositionTells a → ListedTells (without_position a)
+    by_position (position.Listed i k) x = refl
+    by_position position.NotListed x = refl
+    by_position (position.Refused r) x = x
 
-    by-list : (a : ListedAnswer) → ListedTells a → HostTells (host.list_reply h a).answer
-    by-list list.Listed x = list-told h.stage h true
-    by-list list.NotListed x = list-told h.stage h false
-    by-list (list.Refused r) x = x
+    by_list : (a : ListedAnswer) → ListedTells a → HostTells (host.list_reply h a).answer
+    by_list list.Listed x = list_told h.stage h true
+    by_list list.NotListed x = list_told h.stage h false
+    by_list (list.Refused r) x = x
 
-version-told : (h : Host) (status : ℕ) (s : List ℕ) → HostTells (host.version_reply_of h status s).answer
+version_told : (h : Host) (status : ℕ) (s : List ℕ) → HostTells (host.version_reply_of h status s).answer
 unfolding host.version_reply_of host.answered_by host.answered_at host.failed_at host_info answer_of
-version-told h status s =
-    by-test (λ (x : HostStep). HostTells x.answer) (eqb status 0) (by_read (read_of s) (version-read-told s)) (by-failed h.stage)
+version_told h status s =
+    by_test (λ (x : HostStep). HostTells x.answer) (eqb status 0) (by_read (read_of s) (version_read_told s)) (by_failed h.stage)
   where
     by_answer : (g : HostStage) (v : Version) → HostTells (host.answered_at g h v).answer
     by_answer host_stage.Closed v = refl
@@ -116,65 +116,65 @@ version-told h status s =
     by_answer (host_stage.AwaitsVersion a) v = refl
     by_answer (host_stage.Settled w) v = refl
 
-    by-failed : (g : HostStage) → HostTells (host.failed_at g h).answer
-    by-failed host_stage.Closed = refl
-    by-failed (host_stage.Open a) = refl
-    by-failed (host_stage.AwaitsVersion a) = refl
-    by-failed (host_stage.Settled w) = refl
+    by_failed : (g : HostStage) → HostTells (host.failed_at g h).answer
+    by_failed host_stage.Closed = refl
+    by_failed (host_stage.Open a) = refl
+    by_failed (host_stage.AwaitsVersion a) = refl
+    by_failed (host_stage.Settled w) = refl
 
     by_read : (x : VersionInfoRead) → VersionTells x → HostTells (host.answered_by h x).answer
     by_read (read.Info i) t = by_answer h.stage (version_of i.bcd_mbim_extended_version)
     by_read (read.Refused r) t = t
 
-received-told : (h : Host) (m : MessageHeader) (s : List ℕ) → HostTells (host.receive_of h m s).answer
+received_told : (h : Host) (m : MessageHeader) (s : List ℕ) → HostTells (host.receive_of h m s).answer
 unfolding host.receive_of host.receive_by host_info
-received-told h m s = by-role (host.reply_role m)
+received_told h m s = by_role (host.reply_role m)
   where
-    by-role : (x : Role) → HostTells (host.receive_by x h m.word s).answer
-    by-role role.Services = services-told h m.word s
-    by-role role.Version = version-told h m.word s
-    by-role role.Other = refl
+    by_role : (x : Role) → HostTells (host.receive_by x h m.word s).answer
+    by_role role.Services = services_told h m.word s
+    by_role role.Version = version_told h m.word s
+    by_role role.Other = refl
 
 -- ---- the host in lent memory
 
-held-told : (m : List ℕ) → VerdictTells (judge (lent_host.host_rules m))
-held-told m = told-rules _ refl
+held_told : (m : List ℕ) → VerdictTells (judge (lent_host.host_rules m))
+held_told m = told_rules _ refl
 
-called-told : (m : List ℕ) (f : Host → HostStep) → ((h : Host) → HostTells (f h).answer) → HostTells (lent_host.called m f).answer
+called_told : (m : List ℕ) (f : Host → HostStep) → ((h : Host) → HostTells (f h).answer) → HostTells (lent_host.called m f).answer
 unfolding lent_host.host_in host_info
-called-told m f p = by-verdict (judge (lent_host.host_rules m)) _ (held-told m)
+called_told m f p = by_verdict (judge (lent_host.host_rules m)) _ (held_told m)
   where
-    by-verdict : (v : Verdict) (h : Host) → VerdictTells v → HostTells (lent_host.called_by (lent_host.held_by v h) m f).answer
-    by-verdict Fits h x = p h
-    by-verdict (Fault r) h x = x
+    by_verdict : (v : Verdict) (h : Host) → VerdictTells v → HostTells (lent_host.called_by (lent_host.held_by v h) m f).answer
+    by_verdict Fits h x = p h
+    by_verdict (Fault r) h x = x
 
-pub host-make-told : (m : List ℕ) (n : ℕ) → VerdictTells (lent_host.make_in m n).verdict
+pub host_make_told : (m : List ℕ) (n : ℕ) → VerdictTells (lent_host.make_in m n).verdict
 unfolding lent_host.make_in host.made_of
-host-make-told m n = by-verdict (number_verdict n) (told-number n)
+host_make_told m n = by_verdict (number_verdict n) (told_number n)
   where
-    by-verdict : (v : Verdict) → VerdictTells v → VerdictTells (lent_host.made_by (host.made_by v (version_of n)) m).verdict
-    by-verdict Fits x = stored-told lent_host.host_size (lent_host.host_bytes (host.end (version_of n) host_stage.Closed)) m
-    by-verdict (Fault r) x = x
+    by_verdict : (v : Verdict) → VerdictTells v → VerdictTells (lent_host.made_by (host.made_by v (version_of n)) m).verdict
+    by_verdict Fits x = stored_told lent_host.host_size (lent_host.host_bytes (host.end (version_of n) host_stage.Closed)) m
+    by_verdict (Fault r) x = x
 
-pub host-open-told : (m : List ℕ) (n : ℕ) → HostTells (lent_host.open_in m n).answer
+pub host_open_told : (m : List ℕ) (n : ℕ) → HostTells (lent_host.open_in m n).answer
 unfolding lent_host.open_in
-host-open-told m n = called-told m _ (λ h. open_told h n)
+host_open_told m n = called_told m _ (λ h. open_told h n)
 
-pub host-close-told : (m : List ℕ) → HostTells (lent_host.close_in m).answer
+pub host_close_told : (m : List ℕ) → HostTells (lent_host.close_in m).answer
 unfolding lent_host.close_in host_info
-host-close-told m = called-told m _ (λ h. refl)
+host_close_told m = called_told m _ (λ h. refl)
 
-pub host-receive-told : (m : List ℕ) (message : MessageHeader) (s : List ℕ) → HostTells (lent_host.receive_in m message s).answer
+pub host_receive_told : (m : List ℕ) (message : MessageHeader) (s : List ℕ) → HostTells (lent_host.receive_in m message s).answer
 unfolding lent_host.receive_in
-host-receive-told m message s = called-told m _ (λ h. received-told h message s)
+host_receive_told m message s = called_told m _ (λ h. received_told h message s)
 
-pub host-ask-told : (m out : List ℕ) → AskTells (lent_host.ask_in m out).answer
+pub host_ask_told : (m out : List ℕ) → AskTells (lent_host.ask_in m out).answer
 unfolding lent_host.ask_in lent_host.host_in ask_info
-host-ask-told m out = by-verdict (judge (lent_host.host_rules m)) _ (held-told m)
+host_ask_told m out = by_verdict (judge (lent_host.host_rules m)) _ (held_told m)
   where
-    by-verdict : (v : Verdict) (h : Host) → VerdictTells v → AskTells (lent_host.ask_by (lent_host.held_by v h) out).answer
-    by-verdict Fits h x = ask-told h out
-    by-verdict (Fault r) h x = x
+    by_verdict : (v : Verdict) (h : Host) → VerdictTells v → AskTells (lent_host.ask_by (lent_host.held_by v h) out).answer
+    by_verdict Fits h x = ask_told h out
+    by_verdict (Fault r) h x = x
 
 -- ---- the modem by value: what it answers at any stage after it
 
@@ -185,87 +185,87 @@ AnswerTells (answer.Failed status) = Unit
 AnswerTells (answer.Unknown place) = Unit
 AnswerTells (answer.Refused r) = eqb r.number 0 ≡ false
 
-pub reply-told : (a : ModemAnswer) (g : ModemStage) → AnswerTells a → ModemTells (record { answer = a; stage = g })
+pub reply_told : (a : ModemAnswer) (g : ModemStage) → AnswerTells a → ModemTells (record { answer = a; stage = g })
 unfolding modem_info
-reply-told (answer.Serve k) g x = refl
-reply-told (answer.Version n) g x = refl
-reply-told (answer.Failed status) g x = refl
-reply-told (answer.Unknown place) g x = refl
-reply-told (answer.Refused r) g x = x
+reply_told (answer.Serve k) g x = refl
+reply_told (answer.Version n) g x = refl
+reply_told (answer.Failed status) g x = refl
+reply_told (answer.Unknown place) g x = refl
+reply_told (answer.Refused r) g x = x
 
-served-told : (c : Carried) → AnswerTells (modem.served_as c)
-served-told (carried.Payload k) = tt
-served-told (carried.Refused r) = tt
+served_told : (c : Carried) → AnswerTells (modem.served_as c)
+served_told (carried.Payload k) = tt
+served_told (carried.Refused r) = tt
 
-asked-told : (m : Modem) (type : ℕ) (s out : List ℕ) → AnswerTells (modem.version_of_command m type s out).step.answer
+asked_told : (m : Modem) (type : ℕ) (s out : List ℕ) → AnswerTells (modem.version_of_command m type s out).step.answer
 unfolding modem.version_of_command modem.answer_by modem.give_of modem.gave written_answer
-asked-told m type s out = by-test (λ (x : modem.Commanding). AnswerTells x.step.answer) (modem.can_answer m type) (by_read (read_of s)) tt
+asked_told m type s out = by_test (λ (x : modem.Commanding). AnswerTells x.step.answer) (modem.can_answer m type) (by_read (read_of s)) tt
   where
     by_written : (w : Written) (v : Version) → WrittenTells w → AnswerTells (modem.gave_by w m v).answer
     by_written (written.Length n) v x = tt
     by_written (written.Refused r) v x = x
 
     by_read : (x : VersionInfoRead) → AnswerTells (modem.answer_by m x out).step.answer
-    by_read (read.Info i) = by_written (write_of (info_of _) out).answer _ (version-write-told (info_of _) out)
+    by_read (read.Info i) = by_written (write_of (info_of _) out).answer _ (version_write_told (info_of _) out)
     by_read (read.Refused r) = tt
 
-other-told : (g : ModemStage) (m : Modem) (c : Carried) → AnswerTells (modem.other_at g m c).answer
+other_told : (g : ModemStage) (m : Modem) (c : Carried) → AnswerTells (modem.other_at g m c).answer
 unfolding modem.other_at
-other-told modem_stage.Start m c = tt
-other-told modem_stage.Listed m c = by-advertised m.advertised
+other_told modem_stage.Start m c = tt
+other_told modem_stage.Listed m c = by_advertised m.advertised
   where
-    by-advertised : (v : Version) → AnswerTells (modem.first_other v m c).answer
-    by-advertised V1 = served-told c
-    by-advertised V2 = tt
-other-told (modem_stage.Settled v) m c = served-told c
+    by_advertised : (v : Version) → AnswerTells (modem.first_other v m c).answer
+    by_advertised V1 = served_told c
+    by_advertised V2 = tt
+other_told (modem_stage.Settled v) m c = served_told c
 
-command-told : (x : Role) (m : Modem) (c : Carried) (type : ℕ) (s out : List ℕ) → AnswerTells (modem.command_by x m c type s out).step.answer
+command_told : (x : Role) (m : Modem) (c : Carried) (type : ℕ) (s out : List ℕ) → AnswerTells (modem.command_by x m c type s out).step.answer
 unfolding modem.command_by modem.services_of
-command-told role.Services m c type s out = served-told c
-command-told role.Version m c type s out = asked-told m type s out
-command-told role.Other m c type s out = other-told m.stage m c
+command_told role.Services m c type s out = served_told c
+command_told role.Version m c type s out = asked_told m type s out
+command_told role.Other m c type s out = other_told m.stage m c
 
-pub message-told : (m : Modem) (h : MessageHeader) (s out : List ℕ) → AnswerTells (modem.receive_of m h s out).step.answer
+pub message_told : (m : Modem) (h : MessageHeader) (s out : List ℕ) → AnswerTells (modem.receive_of m h s out).step.answer
 unfolding modem.receive_of modem.receive_by modem.command_of
-message-told m h s out = by-verdict (judge (modem.command_rules h)) (told-rules _ refl)
+message_told m h s out = by_verdict (judge (modem.command_rules h)) (told_rules _ refl)
   where
-    by-verdict : (v : Verdict) → VerdictTells v → AnswerTells (modem.receive_by v m h s out).step.answer
-    by-verdict Fits x = command-told (role_of (kind_of h.service h.cid)) m (kind_of h.service h.cid) h.word s out
-    by-verdict (Fault r) x = x
+    by_verdict : (v : Verdict) → VerdictTells v → AnswerTells (modem.receive_by v m h s out).step.answer
+    by_verdict Fits x = command_told (role_of (kind_of h.service h.cid)) m (kind_of h.service h.cid) h.word s out
+    by_verdict (Fault r) x = x
 
 -- ---- the modem in lent memory
 
-pub modem-held-told : (m : List ℕ) → VerdictTells (judge (lent_modem.modem_rules m))
-modem-held-told m = told-rules _ refl
+pub modem_held_told : (m : List ℕ) → VerdictTells (judge (lent_modem.modem_rules m))
+modem_held_told m = told_rules _ refl
 
-pub modem-make-told : (m : List ℕ) (native advertised : ℕ) (s : List ℕ) → VerdictTells (lent_modem.make_in m native advertised s).verdict
+pub modem_make_told : (m : List ℕ) (native advertised : ℕ) (s : List ℕ) → VerdictTells (lent_modem.make_in m native advertised s).verdict
 unfolding lent_modem.make_in modem.made_of modem.made_rules listed_info
-modem-make-told m native advertised s = by-verdict (judge (modem.made_rules native advertised)) (told-rules _ refl)
+modem_make_told m native advertised s = by_verdict (judge (modem.made_rules native advertised)) (told_rules _ refl)
   where
     bytes : Bool → List ℕ
     bytes listed = lent_modem.modem_bytes (modem.end (version_of native) (version_of advertised) listed modem_stage.Start)
 
-    by-list : (a : ListedAnswer) → ListedTells a → VerdictTells (lent_modem.made_by (modem.listed_by a (version_of native) (version_of advertised)) m).verdict
-    by-list list.Listed x = stored-told lent_modem.modem_size (bytes true) m
-    by-list list.NotListed x = stored-told lent_modem.modem_size (bytes false) m
-    by-list (list.Refused r) x = x
+    by_list : (a : ListedAnswer) → ListedTells a → VerdictTells (lent_modem.made_by (modem.listed_by a (version_of native) (version_of advertised)) m).verdict
+    by_list list.Listed x = stored_told lent_modem.modem_size (bytes true) m
+    by_list list.NotListed x = stored_told lent_modem.modem_size (bytes false) m
+    by_list (list.Refused r) x = x
 
-    by-verdict : (v : Verdict) → VerdictTells v → VerdictTells (lent_modem.made_by (modem.made_by v native advertised s) m).verdict
-    by-verdict Fits x = by-list (version_listed s) (listed-told s (id_at extensions 0) version_cid)
-    by-verdict (Fault r) x = x
+    by_verdict : (v : Verdict) → VerdictTells v → VerdictTells (lent_modem.made_by (modem.made_by v native advertised s) m).verdict
+    by_verdict Fits x = by_list (version_listed s) (listed_told s (id_at extensions 0) version_cid)
+    by_verdict (Fault r) x = x
 
-pub modem-restart-told : (m : List ℕ) → VerdictTells (lent_modem.restart_in m).verdict
+pub modem_restart_told : (m : List ℕ) → VerdictTells (lent_modem.restart_in m).verdict
 unfolding lent_modem.restart_in lent_modem.modem_in
-modem-restart-told m = by-verdict (judge (lent_modem.modem_rules m)) (modem-held-told m)
+modem_restart_told m = by_verdict (judge (lent_modem.modem_rules m)) (modem_held_told m)
   where
-    by-verdict : (v : Verdict) → VerdictTells v → VerdictTells (lent_modem.restart_by (lent_modem.held_by v (lent_modem.modem_at m)) m).verdict
-    by-verdict Fits x = refl
-    by-verdict (Fault r) x = x
+    by_verdict : (v : Verdict) → VerdictTells v → VerdictTells (lent_modem.restart_by (lent_modem.held_by v (lent_modem.modem_at m)) m).verdict
+    by_verdict Fits x = refl
+    by_verdict (Fault r) x = x
 
-pub modem-receive-told : (m : List ℕ) (h : MessageHeader) (s out : List ℕ) → ModemTells (lent_modem.receive_in m h s out).reply
+pub modem_receive_told : (m : List ℕ) (h : MessageHeader) (s out : List ℕ) → ModemTells (lent_modem.receive_in m h s out).reply
 unfolding lent_modem.receive_in lent_modem.modem_in
-modem-receive-told m h s out = by-verdict (judge (lent_modem.modem_rules m)) (modem-held-told m)
+modem_receive_told m h s out = by_verdict (judge (lent_modem.modem_rules m)) (modem_held_told m)
   where
-    by-verdict : (v : Verdict) → VerdictTells v → ModemTells (lent_modem.receive_by (lent_modem.held_by v (lent_modem.modem_at m)) m h s out).reply
-    by-verdict Fits x = reply-told _ _ (message-told (lent_modem.modem_at m) h s out)
-    by-verdict (Fault r) x = reply-told (answer.Refused r) modem_stage.Start x
+    by_verdict : (v : Verdict) → VerdictTells v → ModemTells (lent_modem.receive_by (lent_modem.held_by v (lent_modem.modem_at m)) m h s out).reply
+    by_verdict Fits x = reply_told _ _ (message_told (lent_modem.modem_at m) h s out)
+    by_verdict (Fault r) x = reply_told (answer.Refused r) modem_stage.Start x

@@ -37,33 +37,33 @@ use Rattle.lent.specs.LentAssembly.{assembly_size, progress_in, buffer_in, empti
 use Rattle.lent.specs.Stored.{Stored}
 use Rattle.c_structs.specs.Messages.{whole_info, cut_info, kind_info, receive_info}
 use Rattle.c_claims.specs.NumberZero.{VerdictTells, WrittenTells, WholeTells, CutTells, KindTells, ReceivedTells}
-use Rattle.c_claims.proofs.Verdicts.{told-rules, by-test, told-room, told-writing}
+use Rattle.c_claims.proofs.Verdicts.{told_rules, by_test, told_room, told_writing}
 
 -- ---- whole messages
 
-pub whole-told : (s : List ℕ) → WholeTells (whole_of s)
+pub whole_told : (s : List ℕ) → WholeTells (whole_of s)
 unfolding whole_of whole_by whole_info
-whole-told s = by-verdict (judge (whole_rules s)) (told-rules _ refl)
+whole_told s = by_verdict (judge (whole_rules s)) (told_rules _ refl)
   where
-    by-verdict : (v : Verdict) → VerdictTells v → WholeTells (whole_by v s)
-    by-verdict Fits x = refl
-    by-verdict (Fault r) x = x
+    by_verdict : (v : Verdict) → VerdictTells v → WholeTells (whole_by v s)
+    by_verdict Fits x = refl
+    by_verdict (Fault r) x = x
 
-pub write-told : (t transaction word : ℕ) (out : List ℕ) → WrittenTells (write_whole_of t transaction word out).answer
+pub write_told : (t transaction word : ℕ) (out : List ℕ) → WrittenTells (write_whole_of t transaction word out).answer
 unfolding write_whole_of
-write-told t transaction word out = told-writing _ (whole_bytes t transaction word) out (told-rules _ refl)
+write_told t transaction word out = told_writing _ (whole_bytes t transaction word) out (told_rules _ refl)
 
 -- ---- the cutter
 
-pub cut-told : (m : MessageHeader) (size : ℕ) (information out : List ℕ) → CutTells (cut_of m size information out).answer
+pub cut_told : (m : MessageHeader) (size : ℕ) (information out : List ℕ) → CutTells (cut_of m size information out).answer
 unfolding cut_of cut_after cut_by cut_info
-cut-told m size information out =
-    by-verdict (with_room (judge (message_rules m size (length information))) (joined (fragments_of m size information)) out)
-    (told-room (judge (message_rules m size (length information))) (joined (fragments_of m size information)) out (told-rules (message_rules m size (length information)) refl))
+cut_told m size information out =
+    by_verdict (with_room (judge (message_rules m size (length information))) (joined (fragments_of m size information)) out)
+    (told_room (judge (message_rules m size (length information))) (joined (fragments_of m size information)) out (told_rules (message_rules m size (length information)) refl))
   where
-    by-verdict : (v : Verdict) → VerdictTells v → CutTells (cut_by v (fragments_of m size information) out).answer
-    by-verdict Fits x = refl
-    by-verdict (Fault r) x = x
+    by_verdict : (v : Verdict) → VerdictTells v → CutTells (cut_by v (fragments_of m size information) out).answer
+    by_verdict Fits x = refl
+    by_verdict (Fault r) x = x
 
 -- ---- which payload a message shows
 
@@ -82,20 +82,20 @@ abbrev CarriedTells : Carried → Type 0
 CarriedTells (carried.Payload k) = Unit
 CarriedTells (carried.Refused r) = eqb r.number 0 ≡ false
 
-among-told : (cid : ℕ) (rs : List CidRow) → CarriedTells (among cid rs)
+among_told : (cid : ℕ) (rs : List CidRow) → CarriedTells (among cid rs)
 unfolding among
-among-told cid [] = refl
-among-told cid (r ∷ rs) = by-test CarriedTells (eqb cid r.cid) tt (among-told cid rs)
+among_told cid [] = refl
+among_told cid (r ∷ rs) = by_test CarriedTells (eqb cid r.cid) tt (among_told cid rs)
 
-kind-known : (id : ServiceId) (cid : ℕ) → CarriedTells (kind_of id cid)
+kind_known : (id : ServiceId) (cid : ℕ) → CarriedTells (kind_of id cid)
 unfolding kind_of
-kind-known id cid =
-    by-test CarriedTells (same_id id (id_at basic_connect 0)) (among-told cid basic_connect_cids)
-    (by-test CarriedTells (same_id id (id_at extensions 0)) (among-told cid extensions_cids) refl)
+kind_known id cid =
+    by_test CarriedTells (same_id id (id_at basic_connect 0)) (among_told cid basic_connect_cids)
+    (by_test CarriedTells (same_id id (id_at extensions 0)) (among_told cid extensions_cids) refl)
 
-pub kind-told : (m : MessageHeader) → KindTells (shown_of m)
+pub kind_told : (m : MessageHeader) → KindTells (shown_of m)
 unfolding shown_of shown_by kind_info
-kind-told m = by-test KindTells (is_fragmented m.message_type) (by_kind (kind_of m.service m.cid) (kind-known m.service m.cid)) refl
+kind_told m = by_test KindTells (is_fragmented m.message_type) (by_kind (kind_of m.service m.cid) (kind_known m.service m.cid)) refl
   where
     by_kind : (c : Carried) → CarriedTells c → KindTells (shown_by m c)
     by_kind (carried.Refused r) t = t
@@ -108,79 +108,79 @@ FragmentTells (fragment.First h f) = Unit
 FragmentTells (fragment.Later h) = Unit
 FragmentTells (fragment.Refused r) = eqb r.number 0 ≡ false
 
-fragment-told : (s : List ℕ) → FragmentTells (fragment_of s)
+fragment_told : (s : List ℕ) → FragmentTells (fragment_of s)
 unfolding fragment_of fragment_by header_of header_by first_header_of first_by opened_by
-fragment-told s = by-header (judge (header_rules s)) (told-rules _ refl)
+fragment_told s = by_header (judge (header_rules s)) (told_rules _ refl)
   where
     by_first : (v : Verdict) (h : FragmentHeader) → VerdictTells v → FragmentTells (opened_by h (first_by v s))
     by_first Fits h x = tt
     by_first (Fault r) h x = x
 
-    by-header : (v : Verdict) → VerdictTells v → FragmentTells (fragment_by s (header_by v s))
-    by-header Fits x =
-        by-test FragmentTells (eqb (header_at s).number 0)
-        (by_first (judge (first_rules s)) (header_at s) (told-rules _ refl))
+    by_header : (v : Verdict) → VerdictTells v → FragmentTells (fragment_by s (header_by v s))
+    by_header Fits x =
+        by_test FragmentTells (eqb (header_at s).number 0)
+        (by_first (judge (first_rules s)) (header_at s) (told_rules _ refl))
         tt
-    by-header (Fault r) x = x
+    by_header (Fault r) x = x
 
 abbrev AnswerTells : Answer → Type 0
 AnswerTells (answer.Pending dropped) = Unit
 AnswerTells (answer.Complete m n dropped) = Unit
 AnswerTells (answer.Refused r) = eqb r.number 0 ≡ false
 
-gather-told : (a : Assembly) (xs : List ℕ) (dropped : Bool) (room : ℕ) → AnswerTells (gather_of a xs dropped room).answer
+gather_told : (a : Assembly) (xs : List ℕ) (dropped : Bool) (room : ℕ) → AnswerTells (gather_of a xs dropped room).answer
 unfolding gather_of refused waiting completed
-gather-told a xs dropped room =
-    by-test (λ (y : Step). AnswerTells y.answer) (eqb (a.progress.next + 1) a.progress.total)
-    (by-test (λ (y : Step). AnswerTells y.answer) (ltb room a.progress.information_length) refl tt)
+gather_told a xs dropped room =
+    by_test (λ (y : Step). AnswerTells y.answer) (eqb (a.progress.next + 1) a.progress.total)
+    (by_test (λ (y : Step). AnswerTells y.answer) (ltb room a.progress.information_length) refl tt)
     tt
 
-step-told : (a : Assembly) (s : List ℕ) (room : ℕ) → AnswerTells (step_of a s room).answer
+step_told : (a : Assembly) (s : List ℕ) (room : ℕ) → AnswerTells (step_of a s room).answer
 unfolding step_of step_by judged_of judged_by join_of refused
-step-told a s room = by-fragment (fragment_of s) (fragment-told s)
+step_told a s room = by_fragment (fragment_of s) (fragment_told s)
   where
-    by-join : (v : Verdict) → VerdictTells v → AnswerTells (step_by a.bytes s room (join_of v a.progress)).answer
-    by-join Fits x = gather-told _ _ _ room
-    by-join (Fault r) x = x
+    by_join : (v : Verdict) → VerdictTells v → AnswerTells (step_by a.bytes s room (join_of v a.progress)).answer
+    by_join Fits x = gather_told _ _ _ room
+    by_join (Fault r) x = x
 
-    by-fragment : (f : Fragment) → FragmentTells f → AnswerTells (step_by a.bytes s room (judged_by a.progress (length s) f)).answer
-    by-fragment (fragment.Refused r) x = x
-    by-fragment (fragment.First h f) x = gather-told _ _ _ room
-    by-fragment (fragment.Later h) x = by-join (judge (join_rules a.progress h (length s))) (told-rules _ refl)
+    by_fragment : (f : Fragment) → FragmentTells f → AnswerTells (step_by a.bytes s room (judged_by a.progress (length s) f)).answer
+    by_fragment (fragment.Refused r) x = x
+    by_fragment (fragment.First h f) x = gather_told _ _ _ room
+    by_fragment (fragment.Later h) x = by_join (judge (join_rules a.progress h (length s))) (told_rules _ refl)
 
 -- ---- in lent memory
 
-progress-told : (p : Progress) → VerdictTells (progress_verdict p)
+progress_told : (p : Progress) → VerdictTells (progress_verdict p)
 unfolding progress_verdict
-progress-told p =
-    by-test VerdictTells (eqb p.total 0) (told-rules _ refl) (told-rules (pending_rules p) refl)
+progress_told p =
+    by_test VerdictTells (eqb p.total 0) (told_rules _ refl) (told_rules (pending_rules p) refl)
 
-fed-told : (m s : List ℕ) (room : ℕ) → AnswerTells (feed_in m s room).answer
+fed_told : (m s : List ℕ) (room : ℕ) → AnswerTells (feed_in m s room).answer
 unfolding feed_in kept_of
-fed-told m s room = by-verdict (progress_verdict (progress_in m)) (progress-told (progress_in m))
+fed_told m s room = by_verdict (progress_verdict (progress_in m)) (progress_told (progress_in m))
   where
-    by-verdict : (v : Verdict) → VerdictTells v → AnswerTells (judged_in v (progress_in m) m s room).answer
-    by-verdict Fits x = step-told (assembly_of (progress_in m) (buffer_in m)) s room
-    by-verdict (Fault r) x = x
+    by_verdict : (v : Verdict) → VerdictTells v → AnswerTells (judged_in v (progress_in m) m s room).answer
+    by_verdict Fits x = step_told (assembly_of (progress_in m) (buffer_in m)) s room
+    by_verdict (Fault r) x = x
 
-shown-told : (s : List ℕ) (a : Answer) → AnswerTells a → ReceivedTells (fed_shown s a)
+shown_told : (s : List ℕ) (a : Answer) → AnswerTells a → ReceivedTells (fed_shown s a)
 unfolding fed_shown receive_info
-shown-told s (answer.Pending dropped) x = refl
-shown-told s (answer.Complete m n dropped) x = refl
-shown-told s (answer.Refused r) x = x
+shown_told s (answer.Pending dropped) x = refl
+shown_told s (answer.Complete m n dropped) x = refl
+shown_told s (answer.Refused r) x = x
 
-piece-told : (w : Whole) → WholeTells w → ReceivedTells (shown_whole w)
+piece_told : (w : Whole) → WholeTells w → ReceivedTells (shown_whole w)
 unfolding receive_info whole_info
-piece-told (whole.Message type transaction word) x = refl
-piece-told (whole.Refused r) x = x
+piece_told (whole.Message type transaction word) x = refl
+piece_told (whole.Refused r) x = x
 
-pub empty-told : (memory : List ℕ) → VerdictTells (emptied memory).verdict
+pub empty_told : (memory : List ℕ) → VerdictTells (emptied memory).verdict
 unfolding emptied
-empty-told memory = by-test (λ (x : Stored). VerdictTells x.verdict) (ltb (length memory) assembly_size) refl refl
+empty_told memory = by_test (λ (x : Stored). VerdictTells x.verdict) (ltb (length memory) assembly_size) refl refl
 
-pub receive-told : (memory piece : List ℕ) (room : ℕ) → ReceivedTells (receive_in memory piece room).received
+pub receive_told : (memory piece : List ℕ) (room : ℕ) → ReceivedTells (receive_in memory piece room).received
 unfolding receive_in receive_info whole_shown
-receive-told memory piece room =
-    by-test (λ (x : Receiving). ReceivedTells x.received) (ltb (length memory) assembly_size) refl
-    (by-test (λ (x : Receiving). ReceivedTells x.received) (is_whole_piece piece) (piece-told (whole_of piece) (whole-told piece))
-    (shown-told piece (feed_in memory piece room).answer (fed-told memory piece room)))
+receive_told memory piece room =
+    by_test (λ (x : Receiving). ReceivedTells x.received) (ltb (length memory) assembly_size) refl
+    (by_test (λ (x : Receiving). ReceivedTells x.received) (is_whole_piece piece) (piece_told (whole_of piece) (whole_told piece))
+    (shown_told piece (feed_in memory piece room).answer (fed_told memory piece room)))

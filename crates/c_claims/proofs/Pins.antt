@@ -30,7 +30,7 @@ use Rattle.pin_entry.specs.Meaning as meaning
 use Rattle.pin_entry.specs.declared.PinAnswer.{PinAnswer}
 use Rattle.pin_entry.specs.declared.PinAnswer.TheVariants as entry
 use Rattle.pin_entry.specs.declared.starts.PinStart.{PinStart}
-use Rattle.pin_entry.proofs.Effects.{answers-are}
+use Rattle.pin_entry.proofs.Effects.{answers_are}
 use Rattle.pin_modem.specs.PinModem.{is_entry, serve_by, serve_of, reply_by, reply_of}
 use Rattle.lent_modem.specs.LentModem.{modem_rules, modem_at, held_by, modem_in}
 use Rattle.lent_pins.specs.LentPins.{pins_size, row_verdict, rows_verdict, pins_verdict, table_bytes, table_in, made_by, make_in, enter_by, enter_in}
@@ -40,142 +40,142 @@ use Rattle.c_structs.specs.Ends.{modem_info}
 use Rattle.c_structs.specs.Pins.{set_pin_answer, pin_info_answer, entry_answer, pin_modem_info}
 use Rattle.culvertroost.specs.Pins.{read_chosen}
 use Rattle.c_claims.specs.NumberZero.{VerdictTells, WrittenTells, SetPinTells, PinInfoTells, EntryTells, PinModemTells}
-use Rattle.c_claims.proofs.Verdicts.{told-first, told-rules, told-exact, told-open, told-pair, told-each, by-test, told-writing, told-by}
-use Rattle.c_claims.proofs.Ends.{stored-told, reply-told, message-told, modem-held-told}
+use Rattle.c_claims.proofs.Verdicts.{told_first, told_rules, told_exact, told_open, told_pair, told_each, by_test, told_writing, told_by}
+use Rattle.c_claims.proofs.Ends.{stored_told, reply_told, message_told, modem_held_told}
 
 -- ---- SET_PIN
 
-told-numbers : (p : SetPin) → VerdictTells (judge (set_pin.number_rules p))
+told_numbers : (p : SetPin) → VerdictTells (judge (set_pin.number_rules p))
 unfolding set_pin.number_rules
-told-numbers p = told-rules _ refl
+told_numbers p = told_rules _ refl
 
-told-texts : (z : ZeroSize) (n : ℕ) (s : List ℕ) → VerdictTells (set_pin.texts_verdict z n (set_pin.pairs_at s))
+told_texts : (z : ZeroSize) (n : ℕ) (s : List ℕ) → VerdictTells (set_pin.texts_verdict z n (set_pin.pairs_at s))
 unfolding set_pin.texts_verdict set_pin.pairs_at
-told-texts z n s = told-first _ _ (told-pair z Text 24 32 8 n (range_at s 8)) (told-pair z Text 24 32 16 n (range_at s 16))
+told_texts z n s = told_first _ _ (told_pair z Text 24 32 8 n (range_at s 8)) (told_pair z Text 24 32 16 n (range_at s 16))
 
-told-set-pin : (z : ZeroSize) (s : List ℕ) → VerdictTells (set_pin.verdict_with z s)
+told_set_pin : (z : ZeroSize) (s : List ℕ) → VerdictTells (set_pin.verdict_with z s)
 unfolding set_pin.verdict_with
-told-set-pin z s =
-    told-first _ _ (told-open set_pin.fixed_part (length s))
-    (told-first _ _ (told-numbers (set_pin.record_at s)) (told-texts z (length s) s))
+told_set_pin z s =
+    told_first _ _ (told_open set_pin.fixed_part (length s))
+    (told_first _ _ (told_numbers (set_pin.record_at s)) (told_texts z (length s) s))
 
-told-set-pin-read : (z : ZeroSize) (s : List ℕ) → SetPinTells (set_pin.read_with z s)
+told_set_pin_read : (z : ZeroSize) (s : List ℕ) → SetPinTells (set_pin.read_with z s)
 unfolding set_pin.read_with set_pin_answer
-told-set-pin-read z s = shown (set_pin.verdict_with z s) (set_pin.record_at s) (set_pin.texts_at s) (told-set-pin z s)
+told_set_pin_read z s = shown (set_pin.verdict_with z s) (set_pin.record_at s) (set_pin.texts_at s) (told_set_pin z s)
   where
     shown : (v : Verdict) (p : SetPin) (t : SetPinTexts) → VerdictTells v → SetPinTells (set_pin.shown v p t)
     shown Fits p t x = refl
     shown (Fault r) p t x = x
 
-pub set-pin-read-told : (s : List ℕ) → SetPinTells (set_pin.read_of s)
-set-pin-read-told s = told-set-pin-read by_default s
+pub set_pin_read_told : (s : List ℕ) → SetPinTells (set_pin.read_of s)
+set_pin_read_told s = told_set_pin_read by_default s
 
-pub set-pin-chosen-told : (k : ℕ) (s : List ℕ) → SetPinTells (read_chosen k s)
+pub set_pin_chosen_told : (k : ℕ) (s : List ℕ) → SetPinTells (read_chosen k s)
 unfolding set_pin_answer
-set-pin-chosen-told k s = told-by SetPinTells k (λ r. λ t. t) (λ z. told-set-pin-read z s)
+set_pin_chosen_told k s = told_by SetPinTells k (λ r. λ t. t) (λ z. told_set_pin_read z s)
 
-pub set-pin-write-told : (p : SetPin) (x y s : List ℕ) → WrittenTells (set_pin.write_of p x y s).answer
+pub set_pin_write_told : (p : SetPin) (x y s : List ℕ) → WrittenTells (set_pin.write_of p x y s).answer
 unfolding set_pin.write_of set_pin.written_verdict set_pin.size_rules
-set-pin-write-told p x y s = told-writing _ (set_pin.bytes_of p x y) s (told-first _ _ (told-numbers p) (told-rules _ refl))
+set_pin_write_told p x y s = told_writing _ (set_pin.bytes_of p x y) s (told_first _ _ (told_numbers p) (told_rules _ refl))
 
 -- ---- PIN_INFO
 
-told-pin-info : (i : PinInfo) → VerdictTells (pin_info.verdict_of i)
+told_pin_info : (i : PinInfo) → VerdictTells (pin_info.verdict_of i)
 unfolding pin_info.verdict_of pin_info.rules
-told-pin-info i = told-rules _ refl
+told_pin_info i = told_rules _ refl
 
-pub pin-info-read-told : (s : List ℕ) → PinInfoTells (pin_info.read_of s)
+pub pin_info_read_told : (s : List ℕ) → PinInfoTells (pin_info.read_of s)
 unfolding pin_info.read_of pin_info_answer
-pin-info-read-told s =
+pin_info_read_told s =
     shown (first_of (exact_length 12 (length s)) (pin_info.verdict_of (pin_info.record_at s))) (pin_info.record_at s)
-    (told-first _ _ (told-exact 12 (length s)) (told-pin-info (pin_info.record_at s)))
+    (told_first _ _ (told_exact 12 (length s)) (told_pin_info (pin_info.record_at s)))
   where
     shown : (v : Verdict) (i : PinInfo) → VerdictTells v → PinInfoTells (pin_info.shown v i)
     shown Fits i x = refl
     shown (Fault r) i x = x
 
-pub pin-info-write-told : (i : PinInfo) (s : List ℕ) → WrittenTells (pin_info.write_of i s).answer
+pub pin_info_write_told : (i : PinInfo) (s : List ℕ) → WrittenTells (pin_info.write_of i s).answer
 unfolding pin_info.write_of
-pin-info-write-told i s = told-writing (pin_info.verdict_of i) (pin_info.bytes_of i) s (told-pin-info i)
+pin_info_write_told i s = told_writing (pin_info.verdict_of i) (pin_info.bytes_of i) s (told_pin_info i)
 
 -- ---- an entry on a plain table: only a payload is refused
 
 abbrev StepTells : Entry → Type 0
 StepTells e = EntryTells e.answer
 
-entered-told : (t : Table) (c : Call) → StepTells (entered t c)
+entered_told : (t : Table) (c : Call) → StepTells (entered t c)
 unfolding entry_answer
-entered-told t c = answers-are EntryTells t c refl refl refl (λ n. refl) (λ n. refl)
+entered_told t c = answers_are EntryTells t c refl refl refl (λ n. refl) (λ n. refl)
 
-enter-told : (t : Table) (s : List ℕ) → StepTells (meaning.enter_of t s)
+enter_told : (t : Table) (s : List ℕ) → StepTells (meaning.enter_of t s)
 unfolding meaning.enter_of meaning.asked_of step set_pin_answer entry_answer
-enter-told t s = by_read (set_pin.read_with Strict s) (told-set-pin-read Strict s)
+enter_told t s = by_read (set_pin.read_with Strict s) (told_set_pin_read Strict s)
   where
     by_read : (x : SetPinRead) → SetPinTells x → StepTells (step t (meaning.asked_by s x))
-    by_read (read.Info p texts) y = entered-told t _
+    by_read (read.Info p texts) y = entered_told t _
     by_read (read.Refused r) y = y
 
 -- ---- a table in lent memory
 
-held-told : (m : List ℕ) → VerdictTells (pins_verdict m)
+held_told : (m : List ℕ) → VerdictTells (pins_verdict m)
 unfolding pins_verdict rows_verdict
-held-told m = by-test VerdictTells (ltb (length m) pins_size) refl (told-each (row_verdict m) 17 (λ i. told-rules _ refl))
+held_told m = by_test VerdictTells (ltb (length m) pins_size) refl (told_each (row_verdict m) 17 (λ i. told_rules _ refl))
 
-told-starts : (rows : List PinStart) → VerdictTells (meaning.starts_verdict rows)
+told_starts : (rows : List PinStart) → VerdictTells (meaning.starts_verdict rows)
 unfolding meaning.starts_verdict
-told-starts rows = told-each (meaning.start_verdict rows) 17 (λ i. told-rules _ refl)
+told_starts rows = told_each (meaning.start_verdict rows) 17 (λ i. told_rules _ refl)
 
-pub pin-make-told : (m : List ℕ) (rows : List PinStart) → VerdictTells (make_in m rows).verdict
+pub pin_make_told : (m : List ℕ) (rows : List PinStart) → VerdictTells (make_in m rows).verdict
 unfolding make_in meaning.made_of
-pin-make-told m rows = by-verdict (meaning.starts_verdict rows) (told-starts rows)
+pin_make_told m rows = by_verdict (meaning.starts_verdict rows) (told_starts rows)
   where
-    by-verdict : (v : Verdict) → VerdictTells v → VerdictTells (made_by (meaning.made_by v rows).verdict (meaning.made_by v rows).table m).verdict
-    by-verdict Fits x = stored-told pins_size (table_bytes (meaning.made_by Fits rows).table) m
-    by-verdict (Fault r) x = x
+    by_verdict : (v : Verdict) → VerdictTells v → VerdictTells (made_by (meaning.made_by v rows).verdict (meaning.made_by v rows).table m).verdict
+    by_verdict Fits x = stored_told pins_size (table_bytes (meaning.made_by Fits rows).table) m
+    by_verdict (Fault r) x = x
 
-pub pin-enter-told : (m s : List ℕ) → EntryTells (enter_in m s).answer
+pub pin_enter_told : (m s : List ℕ) → EntryTells (enter_in m s).answer
 unfolding enter_in entry_answer
-pin-enter-told m s = by-verdict (pins_verdict m) (held-told m)
+pin_enter_told m s = by_verdict (pins_verdict m) (held_told m)
   where
-    by-verdict : (v : Verdict) → VerdictTells v → EntryTells (enter_by v m s).answer
-    by-verdict Fits x = enter-told (table_in m) s
-    by-verdict (Fault r) x = x
+    by_verdict : (v : Verdict) → VerdictTells v → EntryTells (enter_by v m s).answer
+    by_verdict Fits x = enter_told (table_in m) s
+    by_verdict (Fault r) x = x
 
 -- ---- a message to a modem's end with a table, both in lent memory
 
-served-told : (a : PinAnswer) (x : Modem) (t : Table) (y : Modem) (u : Table) (out : List ℕ) → PinModemTells (kept_reply (serve_by a x t y u out).serving)
+served_told : (a : PinAnswer) (x : Modem) (t : Table) (y : Modem) (u : Table) (out : List ℕ) → PinModemTells (kept_reply (serve_by a x t y u out).serving)
 unfolding serve_by reply_of pin_modem_info modem_info written_answer
-served-told (entry.Info status i) x t y u out = by_written (pin_info.write_of i out).answer (pin-info-write-told i out)
+served_told (entry.Info status i) x t y u out = by_written (pin_info.write_of i out).answer (pin_info_write_told i out)
   where
     by_written : (w : Written) → WrittenTells w → PinModemTells (kept_reply (reply_by w x t y u status))
     by_written (written.Length n) z = refl
     by_written (written.Refused r) z = z
-served-told (entry.Failed status) x t y u out = refl
-served-told (entry.Refused r) x t y u out = refl
+served_told (entry.Failed status) x t y u out = refl
+served_told (entry.Refused r) x t y u out = refl
 
-entry-told : (m p : List ℕ) (x y : Modem) (s out : List ℕ) → PinModemTells (served_in m p x y s out).reply
+entry_told : (m p : List ℕ) (x y : Modem) (s out : List ℕ) → PinModemTells (served_in m p x y s out).reply
 unfolding served_in serve_of pin_modem_info modem_info
-entry-told m p x y s out = by-verdict (pins_verdict p) (held-told p)
+entry_told m p x y s out = by_verdict (pins_verdict p) (held_told p)
   where
-    by-verdict : (v : Verdict) → VerdictTells v → PinModemTells (served_by v m p x y s out).reply
-    by-verdict Fits z = served-told (meaning.enter_of (table_in p) s).answer x (table_in p) y (meaning.enter_of (table_in p) s).table out
-    by-verdict (Fault r) z = z
+    by_verdict : (v : Verdict) → VerdictTells v → PinModemTells (served_by v m p x y s out).reply
+    by_verdict Fits z = served_told (meaning.enter_of (table_in p) s).answer x (table_in p) y (meaning.enter_of (table_in p) s).table out
+    by_verdict (Fault r) z = z
 
-command-told : (m p : List ℕ) (x : Modem) (h : MessageHeader) (s out : List ℕ) → PinModemTells (held_in m p x h s out).reply
+command_told : (m p : List ℕ) (x : Modem) (h : MessageHeader) (s out : List ℕ) → PinModemTells (held_in m p x h s out).reply
 unfolding held_in pin_modem_info
-command-told m p x h s out = by-entry (is_entry h c.step.answer)
+command_told m p x h s out = by_entry (is_entry h c.step.answer)
   where
     c : Commanding
     c = receive_of x h s out
 
-    by-entry : (b : Bool) → PinModemTells (commanded_by b m p x c s).reply
-    by-entry true = entry-told m p x c.step.modem s c.output
-    by-entry false = reply-told c.step.answer c.step.modem.stage (message-told x h s out)
+    by_entry : (b : Bool) → PinModemTells (commanded_by b m p x c s).reply
+    by_entry true = entry_told m p x c.step.modem s c.output
+    by_entry false = reply_told c.step.answer c.step.modem.stage (message_told x h s out)
 
-pub pin-receive-told : (m p : List ℕ) (h : MessageHeader) (s out : List ℕ) → PinModemTells (receive_in m p h s out).reply
+pub pin_receive_told : (m p : List ℕ) (h : MessageHeader) (s out : List ℕ) → PinModemTells (receive_in m p h s out).reply
 unfolding receive_in modem_in pin_modem_info modem_info
-pin-receive-told m p h s out = by-verdict (judge (modem_rules m)) (modem-held-told m)
+pin_receive_told m p h s out = by_verdict (judge (modem_rules m)) (modem_held_told m)
   where
-    by-verdict : (v : Verdict) → VerdictTells v → PinModemTells (receive_by (held_by v (modem_at m)) m p h s out).reply
-    by-verdict Fits x = command-told m p (modem_at m) h s out
-    by-verdict (Fault r) x = x
+    by_verdict : (v : Verdict) → VerdictTells v → PinModemTells (receive_by (held_by v (modem_at m)) m p h s out).reply
+    by_verdict Fits x = command_told m p (modem_at m) h s out
+    by_verdict (Fault r) x = x

@@ -17,40 +17,40 @@ use Rattle.lent_stream.specs.LentStream.{open_in, room_rules, reset_by, reset_in
 use Rattle.c_structs.specs.Messages.{receive_info}
 use Rattle.c_structs.specs.Streams.{stream_info}
 use Rattle.c_claims.specs.NumberZero.{VerdictTells, SaidTells}
-use Rattle.c_claims.proofs.Verdicts.{told-rules, by-test}
-use Rattle.c_claims.proofs.Messages.{receive-told}
+use Rattle.c_claims.proofs.Verdicts.{told_rules, by_test}
+use Rattle.c_claims.proofs.Messages.{receive_told}
 
-pub reset-told : (memory assembly : List ℕ) → VerdictTells (reset_in memory assembly).verdict
+pub reset_told : (memory assembly : List ℕ) → VerdictTells (reset_in memory assembly).verdict
 unfolding reset_in
-reset-told memory assembly = by-verdict (judge (room_rules (length memory) (length assembly))) (told-rules _ refl)
+reset_told memory assembly = by_verdict (judge (room_rules (length memory) (length assembly))) (told_rules _ refl)
   where
-    by-verdict : (v : Verdict) → VerdictTells v → VerdictTells (reset_by v memory assembly).verdict
-    by-verdict Fits x = refl
-    by-verdict (Fault r) x = x
+    by_verdict : (v : Verdict) → VerdictTells v → VerdictTells (reset_by v memory assembly).verdict
+    by_verdict Fits x = refl
+    by_verdict (Fault r) x = x
 
 abbrev FeedingTells : Feeding (List ℕ) → Type 0
 FeedingTells f = SaidTells f.said f.taken
 
-next-told : (a h piece c : List ℕ) (v : Next) → FeedingTells (feed_by memory_door a h piece c v)
+next_told : (a h piece c : List ℕ) (v : Next) → FeedingTells (feed_by memory_door a h piece c v)
 unfolding feed_by stream_info receive_info
-next-told a h piece c next.Short = refl
-next-told a h piece c (next.Ends t) = refl
-next-told a h piece c (next.Piece n) = receive-told a (take n (h ++ c)) most_information
+next_told a h piece c next.Short = refl
+next_told a h piece c (next.Ends t) = refl
+next_told a h piece c (next.Piece n) = receive_told a (take n (h ++ c)) most_information
 
 open_told : (s : StreamOn (List ℕ)) (c : List ℕ) (room : ℕ) → FeedingTells (feed_on memory_door s c room)
 unfolding feed_on stream_info receive_info
 open_told s c room =
-    by-test FeedingTells (ltb room most_information) refl
-    (by-test FeedingTells s.state.ended refl
-    (next-told s.assembly (held_in s.state s.piece) s.piece c (next_of (held_in s.state s.piece ++ c))))
+    by_test FeedingTells (ltb room most_information) refl
+    (by_test FeedingTells s.state.ended refl
+    (next_told s.assembly (held_in s.state s.piece) s.piece c (next_of (held_in s.state s.piece ++ c))))
 
 abbrev FeedingInTells : FeedingIn → Type 0
 FeedingInTells f = SaidTells f.fed.said f.fed.taken
 
-pub feed-told : (memory assembly chunk : List ℕ) (room : ℕ) → FeedingInTells (feed_in memory assembly chunk room)
+pub feed_told : (memory assembly chunk : List ℕ) (room : ℕ) → FeedingInTells (feed_in memory assembly chunk room)
 unfolding feed_in fed_in stored_in stream_info receive_info
-feed-told memory assembly chunk room = by-verdict (judge (feed_rules memory (length assembly) room)) (told-rules _ refl)
+feed_told memory assembly chunk room = by_verdict (judge (feed_rules memory (length assembly) room)) (told_rules _ refl)
   where
-    by-verdict : (v : Verdict) → VerdictTells v → FeedingInTells (fed_by v memory assembly chunk room)
-    by-verdict Fits x = by-test FeedingInTells (eqb (u32_at memory 4) 1) refl (open_told (open_in memory assembly) chunk room)
-    by-verdict (Fault r) x = x
+    by_verdict : (v : Verdict) → VerdictTells v → FeedingInTells (fed_by v memory assembly chunk room)
+    by_verdict Fits x = by_test FeedingInTells (eqb (u32_at memory 4) 1) refl (open_told (open_in memory assembly) chunk room)
+    by_verdict (Fault r) x = x

@@ -159,55 +159,55 @@ PinModemTells a = Tells (pin_reply_info a).refusal.number (pin_modem_refused a.a
 -- ---- every function, by its C name
 
 pub record EveryNumberTells : Type 0 where
-  pub version-info-read : (s : List ℕ) → VersionTells (version.read_of s)
-  pub version-info-write : (i : VersionInfo) (out : List ℕ) → WrittenTells (version.write_of i out).answer
-  pub packet-service-read : (n : ℕ) (s : List ℕ) → PacketTells (packets.read_at n s)
-  pub packet-service-write : (i : PacketServiceInfo) (out : List ℕ) → WrittenTells (packets.write_at i out).answer
-  pub registration-read : (n : ℕ) (s : List ℕ) → RegistrationTells (registrations.read_at n s)
-  pub registration-read-with : (n k : ℕ) (s : List ℕ) → RegistrationTells (registrations.read_chosen n k s)
-  pub registration-write : (i : RegistrationInfo) (x y z out : List ℕ) → WrittenTells (registrations.write_at i x y z out).answer
-  pub signal-state-read : (n : ℕ) (s : List ℕ) → SignalTells (signals.read_at n s)
-  pub signal-state-read-with : (n k : ℕ) (s : List ℕ) → SignalTells (signals.read_chosen n k s)
-  pub signal-state-write : (i : SignalStateInfo) (out : List ℕ) → WrittenTells (signals.write_at i out).answer
-  pub device-services-read : (s : List ℕ) → ServicesTells (services.read_of s)
-  pub device-services-read-with : (k : ℕ) (s : List ℕ) → ServicesTells (services_by.read_chosen k s)
-  pub device-services-element : (s : List ℕ) (number : ℕ) (cids : List ℕ) → ElementTells (query.element_of s number cids).answer
-  pub device-services-element-with : (k : ℕ) (s : List ℕ) (number : ℕ) (cids : List ℕ) → ElementTells (services_by.element_chosen k s number cids).answer
-  pub device-services-cids : (s : List ℕ) (service : ServiceId) (cids : List ℕ) → ElementTells (query.cids_of s service cids).answer
-  pub device-services-cids-with : (k : ℕ) (s : List ℕ) (service : ServiceId) (cids : List ℕ) → ElementTells (services_by.cids_chosen k s service cids).answer
-  pub device-services-listed : (s : List ℕ) (service : ServiceId) (cid : ℕ) → ListedTells (query.listed_of s service cid)
-  pub device-services-listed-with : (k : ℕ) (s : List ℕ) (service : ServiceId) (cid : ℕ) → ListedTells (services_by.listed_chosen k s service cid)
-  pub device-services-ask : (s : List ℕ) (service : ServiceId) (cid : ℕ) → PositionTells (ask.position_of s service cid)
-  pub device-services-ask-with : (k : ℕ) (s : List ℕ) (service : ServiceId) (cid : ℕ) → PositionTells (services_by.position_chosen k s service cid)
-  pub device-services-all : (s fields cids : List ℕ) → AllTells (query.all_of s fields cids).answer
-  pub device-services-all-with : (k : ℕ) (s fields cids : List ℕ) → AllTells (services_by.all_chosen k s fields cids).answer
-  pub device-services-write : (p : ServiceList) (out : List ℕ) → WrittenTells (writer.write_of p out).answer
-  pub device-services-write-all : (max : ℕ) (fields cids out : List ℕ) → WrittenTells (lists.write_all_of max fields cids out).answer
-  pub set-pin-read : (s : List ℕ) → SetPinTells (set_pin.read_of s)
-  pub set-pin-read-with : (k : ℕ) (s : List ℕ) → SetPinTells (set_pin_by.read_chosen k s)
-  pub set-pin-write : (i : SetPin) (pin new out : List ℕ) → WrittenTells (set_pin.write_of i pin new out).answer
-  pub pin-info-read : (s : List ℕ) → PinInfoTells (pin_info.read_of s)
-  pub pin-info-write : (i : PinInfo) (out : List ℕ) → WrittenTells (pin_info.write_of i out).answer
+  pub version_info_read : (s : List ℕ) → VersionTells (version.read_of s)
+  pub version_info_write : (i : VersionInfo) (out : List ℕ) → WrittenTells (version.write_of i out).answer
+  pub packet_service_read : (n : ℕ) (s : List ℕ) → PacketTells (packets.read_at n s)
+  pub packet_service_write : (i : PacketServiceInfo) (out : List ℕ) → WrittenTells (packets.write_at i out).answer
+  pub registration_read : (n : ℕ) (s : List ℕ) → RegistrationTells (registrations.read_at n s)
+  pub registration_read_with : (n k : ℕ) (s : List ℕ) → RegistrationTells (registrations.read_chosen n k s)
+  pub registration_write : (i : RegistrationInfo) (x y z out : List ℕ) → WrittenTells (registrations.write_at i x y z out).answer
+  pub signal_state_read : (n : ℕ) (s : List ℕ) → SignalTells (signals.read_at n s)
+  pub signal_state_read_with : (n k : ℕ) (s : List ℕ) → SignalTells (signals.read_chosen n k s)
+  pub signal_state_write : (i : SignalStateInfo) (out : List ℕ) → WrittenTells (signals.write_at i out).answer
+  pub device_services_read : (s : List ℕ) → ServicesTells (services.read_of s)
+  pub device_services_read_with : (k : ℕ) (s : List ℕ) → ServicesTells (services_by.read_chosen k s)
+  pub device_services_element : (s : List ℕ) (number : ℕ) (cids : List ℕ) → ElementTells (query.element_of s number cids).answer
+  pub device_services_element_with : (k : ℕ) (s : List ℕ) (number : ℕ) (cids : List ℕ) → ElementTells (services_by.element_chosen k s number cids).answer
+  pub device_services_cids : (s : List ℕ) (service : ServiceId) (cids : List ℕ) → ElementTells (query.cids_of s service cids).answer
+  pub device_services_cids_with : (k : ℕ) (s : List ℕ) (service : ServiceId) (cids : List ℕ) → ElementTells (services_by.cids_chosen k s service cids).answer
+  pub device_services_listed : (s : List ℕ) (service : ServiceId) (cid : ℕ) → ListedTells (query.listed_of s service cid)
+  pub device_services_listed_with : (k : ℕ) (s : List ℕ) (service : ServiceId) (cid : ℕ) → ListedTells (services_by.listed_chosen k s service cid)
+  pub device_services_ask : (s : List ℕ) (service : ServiceId) (cid : ℕ) → PositionTells (ask.position_of s service cid)
+  pub device_services_ask_with : (k : ℕ) (s : List ℕ) (service : ServiceId) (cid : ℕ) → PositionTells (services_by.position_chosen k s service cid)
+  pub device_services_all : (s fields cids : List ℕ) → AllTells (query.all_of s fields cids).answer
+  pub device_services_all_with : (k : ℕ) (s fields cids : List ℕ) → AllTells (services_by.all_chosen k s fields cids).answer
+  pub device_services_write : (p : ServiceList) (out : List ℕ) → WrittenTells (writer.write_of p out).answer
+  pub device_services_write_all : (max : ℕ) (fields cids out : List ℕ) → WrittenTells (lists.write_all_of max fields cids out).answer
+  pub set_pin_read : (s : List ℕ) → SetPinTells (set_pin.read_of s)
+  pub set_pin_read_with : (k : ℕ) (s : List ℕ) → SetPinTells (set_pin_by.read_chosen k s)
+  pub set_pin_write : (i : SetPin) (pin new out : List ℕ) → WrittenTells (set_pin.write_of i pin new out).answer
+  pub pin_info_read : (s : List ℕ) → PinInfoTells (pin_info.read_of s)
+  pub pin_info_write : (i : PinInfo) (out : List ℕ) → WrittenTells (pin_info.write_of i out).answer
   pub rsrp : (code : ℕ) → ReadingTells (rsrp_of code)
   pub snr : (code : ℕ) → ReadingTells (snr_of code)
   pub bars : (rssi : ℕ) → BarsTells (bars_of rssi)
-  pub message-judge : (s : List ℕ) → WholeTells (whole_of s)
-  pub message-write : (type transaction word : ℕ) (out : List ℕ) → WrittenTells (write_whole_of type transaction word out).answer
-  pub message-cut : (m : MessageHeader) (size : ℕ) (information out : List ℕ) → CutTells (cut_of m size information out).answer
-  pub payload-kind : (m : MessageHeader) → KindTells (shown_of m)
-  pub assembly-empty : (memory : List ℕ) → VerdictTells (emptied memory).verdict
+  pub message_judge : (s : List ℕ) → WholeTells (whole_of s)
+  pub message_write : (type transaction word : ℕ) (out : List ℕ) → WrittenTells (write_whole_of type transaction word out).answer
+  pub message_cut : (m : MessageHeader) (size : ℕ) (information out : List ℕ) → CutTells (cut_of m size information out).answer
+  pub payload_kind : (m : MessageHeader) → KindTells (shown_of m)
+  pub assembly_empty : (memory : List ℕ) → VerdictTells (emptied memory).verdict
   pub receive : (memory piece : List ℕ) (room : ℕ) → ReceivedTells (receive_in memory piece room).received
-  pub stream-reset : (memory assembly : List ℕ) → VerdictTells (stream.reset_in memory assembly).verdict
-  pub stream-feed : (memory assembly chunk : List ℕ) (room : ℕ) → SaidTells (stream.feed_in memory assembly chunk room).fed.said (stream.feed_in memory assembly chunk room).fed.taken
-  pub host-make : (memory : List ℕ) (native : ℕ) → VerdictTells (host.make_in memory native).verdict
-  pub host-open : (memory : List ℕ) (advertised : ℕ) → HostTells (host.open_in memory advertised).answer
-  pub host-close : (memory : List ℕ) → HostTells (host.close_in memory).answer
-  pub host-next-command : (memory out : List ℕ) → AskTells (host.ask_in memory out).answer
-  pub host-receive : (memory : List ℕ) (m : MessageHeader) (information : List ℕ) → HostTells (host.receive_in memory m information).answer
-  pub modem-make : (memory : List ℕ) (native advertised : ℕ) (services : List ℕ) → VerdictTells (modem.make_in memory native advertised services).verdict
+  pub stream_reset : (memory assembly : List ℕ) → VerdictTells (stream.reset_in memory assembly).verdict
+  pub stream_feed : (memory assembly chunk : List ℕ) (room : ℕ) → SaidTells (stream.feed_in memory assembly chunk room).fed.said (stream.feed_in memory assembly chunk room).fed.taken
+  pub host_make : (memory : List ℕ) (native : ℕ) → VerdictTells (host.make_in memory native).verdict
+  pub host_open : (memory : List ℕ) (advertised : ℕ) → HostTells (host.open_in memory advertised).answer
+  pub host_close : (memory : List ℕ) → HostTells (host.close_in memory).answer
+  pub host_next_command : (memory out : List ℕ) → AskTells (host.ask_in memory out).answer
+  pub host_receive : (memory : List ℕ) (m : MessageHeader) (information : List ℕ) → HostTells (host.receive_in memory m information).answer
+  pub modem_make : (memory : List ℕ) (native advertised : ℕ) (services : List ℕ) → VerdictTells (modem.make_in memory native advertised services).verdict
   -- both opening and closing
-  pub modem-restart : (memory : List ℕ) → VerdictTells (modem.restart_in memory).verdict
-  pub modem-receive : (memory : List ℕ) (m : MessageHeader) (information out : List ℕ) → ModemTells (modem.receive_in memory m information out).reply
-  pub pin-make : (memory : List ℕ) (rows : List PinStart) → VerdictTells (pins.make_in memory rows).verdict
-  pub pin-enter : (memory s : List ℕ) → EntryTells (pins.enter_in memory s).answer
-  pub pin-receive : (memory table : List ℕ) (m : MessageHeader) (information out : List ℕ) → PinModemTells (pin_modem.receive_in memory table m information out).reply
+  pub modem_restart : (memory : List ℕ) → VerdictTells (modem.restart_in memory).verdict
+  pub modem_receive : (memory : List ℕ) (m : MessageHeader) (information out : List ℕ) → ModemTells (modem.receive_in memory m information out).reply
+  pub pin_make : (memory : List ℕ) (rows : List PinStart) → VerdictTells (pins.make_in memory rows).verdict
+  pub pin_enter : (memory s : List ℕ) → EntryTells (pins.enter_in memory s).answer
+  pub pin_receive : (memory table : List ℕ) (m : MessageHeader) (information out : List ℕ) → PinModemTells (pin_modem.receive_in memory table m information out).reply

@@ -19,14 +19,14 @@ use Rattle.c_structs.specs.Signals.{info_of as signal_info, record_of as signal_
 use Rattle.c_structs.specs.Claims.{PacketBack, RegistrationBack, SignalBack, NumberBack}
 
 -- a version's number is judged to be that version
-pub number-back : NumberBack
+pub number_back : NumberBack
 unfolding numbered number_verdict judge_from first_of fault_if
-number-back V1 = refl
-number-back V2 = refl
+number_back V1 = refl
+number_back V2 = refl
 
-pub packet-back : PacketBack
+pub packet_back : PacketBack
 unfolding packet_of packet_info
-packet-back p = λ i. record {
+packet_back p = λ i. record {
   nw_error = p.nw_error;
   packet_service_state = p.packet_service_state;
   uplink_speed = p.uplink_speed;
@@ -38,9 +38,9 @@ packet-back p = λ i. record {
     by_form (packet.V1 class) = refl
     by_form (packet.V2 class range) = refl
 
-pub registration-back : RegistrationBack
+pub registration_back : RegistrationBack
 unfolding registration_of registration_info
-registration-back p = λ i. record {
+registration_back p = λ i. record {
   nw_error = p.nw_error;
   register_state = p.register_state;
   register_mode = p.register_mode;
@@ -54,9 +54,9 @@ registration-back p = λ i. record {
     by_form registration.V1 = refl
     by_form (registration.V2 class) = refl
 
-pub signal-back : SignalBack
+pub signal_back : SignalBack
 unfolding signal_of signal_info
-signal-back p es = λ i. record {
+signal_back p es = λ i. record {
   rssi = p.rssi;
   error_rate = p.error_rate;
   signal_strength_interval = p.signal_strength_interval;

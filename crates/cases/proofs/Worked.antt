@@ -17,6 +17,6 @@ use Rattle.device_services.specs.DeviceServices.{head_at, length_verdict, conten
 use Rattle.message.specs.Message.{whole_by, whole_of, header_by, header_of, fragment_by, fragment_of}
 use Rattle.cases.specs.Cases.{cases, AsWorked}
 
-pub as-worked : AsWorked
+pub as_worked : AsWorked
 unfolding cases odd of_bits u16_at u32_at u64_at over fitted fault_if first_of judge_from exact_length open_length given with_room writing class_bits sum_of_bits mask_of is_bit packet_at later_rules form_rules packet_rules packet_verdict packet_read shared_bytes packet_bytes packet_write version_at version_rules version_verdict version_read version_bytes version_write if_strict range_at shown_at pair_rules pair_verdict range_bytes registration_at pairs_at texts_at front_rules texts_verdict back_rules registration_verdict registration_read size_rules written_verdict laid_texts front_bytes texts_bytes back_bytes fixed_bytes registration_bytes registration_write exactly coded rsrp_of snr_of first_fault any_of list_of state_at number_rules list_rules entry_rules entry_at entries_verdict any_known body_verdict head_of verdict_at signal_read head_at length_verdict content_rules element_verdict services_verdict services_read whole_by whole_of header_by header_of fragment_by fragment_of
-as-worked = (refl, (refl, (refl, (refl, (refl, (refl, (refl, (refl, (refl, (refl, (refl, (refl, (refl, (refl, (refl, (refl, (refl, (refl, (refl, (refl, (refl, (refl, (refl, (refl, (refl, (refl, (refl, (refl, (refl, (refl, (refl, (refl, (refl, (refl, (refl, (refl, (refl, (refl, (refl, (refl, (refl, (refl, (refl, (refl, (refl, (refl, (refl, (refl, tt))))))))))))))))))))))))))))))))))))))))))))))))
+as_worked = (refl, (refl, (refl, (refl, (refl, (refl, (refl, (refl, (refl, (refl, (refl, (refl, (refl, (refl, (refl, (refl, (refl, (refl, (refl, (refl, (refl, (refl, (refl, (refl, (refl, (refl, (refl, (refl, (refl, (refl, (refl, (refl, (refl, (refl, (refl, (refl, (refl, (refl, (refl, (refl, (refl, (refl, (refl, (refl, (refl, (refl, (refl, (refl, tt))))))))))))))))))))))))))))))))))))))))))))))))

@@ -9,7 +9,7 @@ use Rattle.protocol.specs.declared.Version.{Version}
 use Rattle.protocol.specs.declared.Version.TheVariants.{V1, V2}
 use Rattle.protocol.specs.declared.Verdict.TheVariants.{Fits}
 use Rattle.protocol.specs.declared.Written.TheVariants.{Length}
-use Rattle.protocol.proofs.Verdicts.{written-front, written-fits}
+use Rattle.protocol.proofs.Verdicts.{written_front, written_fits}
 use Rattle.packet_service.specs.PacketService as packet
 use Rattle.packet_service.specs.Claims.{OfWidth as PacketOfWidth}
 use Rattle.packet_service.specs.declared.PacketService.{PacketService}
@@ -51,67 +51,67 @@ use Rattle.claims.specs.Transfer.{Record, register_state, packet_service, signal
 
 -- ---- the bytes of each payload
 
-packet-service-back : (p : PacketService) → PacketOfWidth p → packet.verdict_of p ≡ Fits → (w v : Version) → packet.version_of p ≡ w → PacketServiceBack w v p (packet.bytes_of p)
+packet_service_back : (p : PacketService) → PacketOfWidth p → packet.verdict_of p ≡ Fits → (w v : Version) → packet.version_of p ≡ w → PacketServiceBack w v p (packet.bytes_of p)
 unfolding PacketServiceBack
-packet-service-back p z f V1 V1 e = rw e at (packet_trip.bytes_read p z f)
-packet-service-back p z f V2 V2 e = rw e at (packet_trip.bytes_read p z f)
-packet-service-back p z f V2 V1 e = packet_other.later-read-earlier p e
-packet-service-back p z f V1 V2 e = packet_other.earlier-read-later p e
+packet_service_back p z f V1 V1 e = rw e at (packet_trip.bytes_read p z f)
+packet_service_back p z f V2 V2 e = rw e at (packet_trip.bytes_read p z f)
+packet_service_back p z f V2 V1 e = packet_other.later_read_earlier p e
+packet_service_back p z f V1 V2 e = packet_other.earlier_read_later p e
 
-register-state-back : (choice : ZeroSize) (p : Registration) (x y z : List ℕ) → RegistrationOfWidth p → registration.written_verdict p (length x) (length y) (length z) ≡ Fits
+register_state_back : (choice : ZeroSize) (p : Registration) (x y z : List ℕ) → RegistrationOfWidth p → registration.written_verdict p (length x) (length y) (length z) ≡ Fits
     → Returned choice p x y z (registration.bytes_of p x y z) → (w v : Version) → registration.version_of p ≡ w → RegisterStateBack w v choice p x y z (registration.bytes_of p x y z)
 unfolding RegisterStateBack
-register-state-back choice p x y z s f b V1 V1 e = b
-register-state-back choice p x y z s f b V2 V2 e = b
-register-state-back choice p x y z s f b V2 V1 e =
-    let t = registration_trip.texts-read p x y z f in
-    (registration.laid_for p x y z, (registration_other.later-read-earlier choice p x y z e s f, t))
-register-state-back choice p x y z s f b V1 V2 e = registration_other.earlier-read-later choice p x y z e s f
+register_state_back choice p x y z s f b V1 V1 e = b
+register_state_back choice p x y z s f b V2 V2 e = b
+register_state_back choice p x y z s f b V2 V1 e =
+    let t = registration_trip.texts_read p x y z f in
+    (registration.laid_for p x y z, (registration_other.later_read_earlier choice p x y z e s f, t))
+register_state_back choice p x y z s f b V1 V2 e = registration_other.earlier_read_later choice p x y z e s f
 
-signal-state-back : (choice : ZeroSize) (p : SignalState) (es : List RsrpSnr) → SignalOfWidth p → EntriesOfWidth es → signal.written_verdict p es ≡ Fits → (g : SignalForm) (v : Version) → p.form ≡ g
+signal_state_back : (choice : ZeroSize) (p : SignalState) (es : List RsrpSnr) → SignalOfWidth p → EntriesOfWidth es → signal.written_verdict p es ≡ Fits → (g : SignalForm) (v : Version) → p.form ≡ g
     → SignalStateBack (signal.version_in g) v choice p es (signal.bytes_of p es)
 unfolding SignalStateBack
-signal-state-back choice p es z zs f Form1 V1 e =
+signal_state_back choice p es z zs f Form1 V1 e =
     ap (λ (g : SignalForm). signal.read_with (signal.version_in g) choice (signal.bytes_of p es)) (sym e) ∙ signal_trip.bytes_read choice p es z zs f
-signal-state-back choice p es z zs f Form1 V2 e = signal_other.earlier-read-later choice p es e
-signal-state-back choice p es z zs f (Form2 n) V2 e =
+signal_state_back choice p es z zs f Form1 V2 e = signal_other.earlier_read_later choice p es e
+signal_state_back choice p es z zs f (Form2 n) V2 e =
     ap (λ (g : SignalForm). signal.read_with (signal.version_in g) choice (signal.bytes_of p es)) (sym e) ∙ signal_trip.bytes_read choice p es z zs f
-signal-state-back choice p es z zs f (Form2 n) V1 e =
-    let l : length (signal.bytes_of p es) ≡ 28 + signal.size_of n = ap (λ (g : SignalForm). length (signal.bytes_in g p (signal.entry_in es))) e ∙ signal_laws.length-listed p n (signal.entry_in es) in
-    rw l (signal_other.later-read-earlier choice p es n e)
+signal_state_back choice p es z zs f (Form2 n) V1 e =
+    let l : length (signal.bytes_of p es) ≡ 28 + signal.size_of n = ap (λ (g : SignalForm). length (signal.bytes_in g p (signal.entry_in es))) e ∙ signal_laws.length_listed p n (signal.entry_in es) in
+    rw l (signal_other.later_read_earlier choice p es n e)
 
 -- ---- what a writer puts into an output
 
-pub reads-back : (r : Record) → OfWidth r → (out : List ℕ) (n : ℕ) → (write_of r out).answer ≡ Length n → (v : Version) (choice : ZeroSize)
+pub reads_back : (r : Record) → OfWidth r → (out : List ℕ) (n : ℕ) → (write_of r out).answer ≡ Length n → (v : Version) (choice : ZeroSize)
     → ReadsBack r v choice (take n (write_of r out).output)
 unfolding OfWidth write_of ReadsBack registration_write packet_write signal_write
-reads-back (register_state p x y z) s out n e v choice =
+reads_back (register_state p x y z) s out n e v choice =
     let d = registration.written_verdict p (length x) (length y) (length z) in
     let b = registration.bytes_of p x y z in
-    let front : take n (registration_write p x y z out).output ≡ b = written-front d b out n e in
-    rw front (register-state-back choice p x y z s (written-fits d b out n e) (rw front at (registration_trip.round_trip choice p x y z out n s e)) (registration.version_of p) v refl)
-reads-back (packet_service p) s out n e v choice =
+    let front : take n (registration_write p x y z out).output ≡ b = written_front d b out n e in
+    rw front (register_state_back choice p x y z s (written_fits d b out n e) (rw front at (registration_trip.round_trip choice p x y z out n s e)) (registration.version_of p) v refl)
+reads_back (packet_service p) s out n e v choice =
     let d = packet.verdict_of p in
     let b = packet.bytes_of p in
-    rw (written-front d b out n e) (packet-service-back p s (written-fits d b out n e) (packet.version_of p) v refl)
-reads-back (signal_state p es) s out n e v choice =
+    rw (written_front d b out n e) (packet_service_back p s (written_fits d b out n e) (packet.version_of p) v refl)
+reads_back (signal_state p es) s out n e v choice =
     let d = signal.written_verdict p es in
     let b = signal.bytes_of p es in
-    rw (written-front d b out n e) (signal-state-back choice p es s.0 s.1 (written-fits d b out n e) p.form v refl)
-reads-back (device_services p) s out n e v choice = services_trip.round_trip choice p out n s e
-reads-back (version_info i) s out n e v choice = version_trip.round_trip i out n e
-reads-back (set_pin p x y) s out n e v choice = set_pin_trip.round_trip choice p x y out n s e
-reads-back (pin_info i) s out n e v choice = pin_info_laws.round_trip i out n s e
+    rw (written_front d b out n e) (signal_state_back choice p es s.0 s.1 (written_fits d b out n e) p.form v refl)
+reads_back (device_services p) s out n e v choice = services_trip.round_trip choice p out n s e
+reads_back (version_info i) s out n e v choice = version_trip.round_trip i out n e
+reads_back (set_pin p x y) s out n e v choice = set_pin_trip.round_trip choice p x y out n s e
+reads_back (pin_info i) s out n e v choice = pin_info_laws.round_trip i out n s e
 
 -- ---- and it is no longer than a message can carry
 
-packet-few : (v : Version) → packet.length_of v ≤ 4096
-packet-few V1 = omega arith
-packet-few V2 = omega arith
+packet_few : (v : Version) → packet.length_of v ≤ 4096
+packet_few V1 = omega arith
+packet_few V2 = omega arith
 
-signal-few : (v : Version) (s : List ℕ) → SignalAcceptable v by_default s → length s ≤ 4096
-signal-few V1 s a = omega (arith, a.form)
-signal-few V2 s a = a.form.1.0
+signal_few : (v : Version) (s : List ℕ) → SignalAcceptable v by_default s → length s ≤ 4096
+signal_few V1 s a = omega (arith, a.form)
+signal_few V2 s a = a.form.1.0
 
 pub few : (r : Record) → OfWidth r → (out : List ℕ) (n : ℕ) → (write_of r out).answer ≡ Length n → length (take n (write_of r out).output) ≤ 4096
 unfolding OfWidth write_of packet_write
@@ -119,9 +119,9 @@ few (register_state p x y z) s out n e =
     let b = registration_trip.round_trip by_default p x y z out n s e in
     (registration_accepted.accepted (registration.version_of p) by_default _ p b.texts b.read).0.most
 few (packet_service p) s out n e =
-    rw (written-front (packet.verdict_of p) (packet.bytes_of p) out n e) (omega (arith, packet_laws.length-bytes p, packet-few (packet.version_of p)))
+    rw (written_front (packet.verdict_of p) (packet.bytes_of p) out n e) (omega (arith, packet_laws.length_bytes p, packet_few (packet.version_of p)))
 few (signal_state p es) s out n e =
-    signal-few (signal.version_of p) _ (signal_accepted.accepted (signal.version_of p) by_default _ p _ (signal_trip.round_trip by_default p es s.0 s.1 out n e)).0
+    signal_few (signal.version_of p) _ (signal_accepted.accepted (signal.version_of p) by_default _ p _ (signal_trip.round_trip by_default p es s.0 s.1 out n e)).0
 few (device_services p) s out n e = (services_accepted.accepted by_default _ (head_of p) (services_trip.round_trip by_default p out n s e).read).0.most
 few (version_info i) s out n e = omega (arith, (version_accepted.accepted _ i (version_trip.round_trip i out n e)).0.long)
 few (set_pin p x y) s out n e =

@@ -4,7 +4,7 @@
 use Rattle.std.specs.Prelude.{ℕ, ◌-◌, ◌≤◌, ◌<◌, ◌^◌, ◌≡◌, ◌⊎◌, List, ◌++◌, length, take}
 use Rattle.protocol.specs.Refusal.{refusal, too_short, wrong_length}
 use Rattle.protocol.specs.Verdict.{Writing}
-use Rattle.protocol.specs.MessageType.{COMMAND, COMMAND-DONE, INDICATE-STATUS, SET}
+use Rattle.protocol.specs.MessageType.{COMMAND, COMMAND_DONE, INDICATE_STATUS, SET}
 use Rattle.protocol.specs.Status as status
 use Rattle.protocol.specs.Service.{basic_connect, extensions, id_at}
 use Rattle.protocol.specs.declared.Version.{Version}
@@ -122,18 +122,18 @@ pub record SetCommand (m : MessageHeader) : Type 0 where
 
 -- a DONE of status 0
 pub record Reply (m : MessageHeader) : Type 0 where
-  pub done : m.message_type ≡ COMMAND-DONE
+  pub done : m.message_type ≡ COMMAND_DONE
   pub success : m.word ≡ status.success
   pub numbered : 0 < m.transaction
 
 -- a DONE of status 2
 pub record Failure (m : MessageHeader) : Type 0 where
-  pub done : m.message_type ≡ COMMAND-DONE
+  pub done : m.message_type ≡ COMMAND_DONE
   pub failure : m.word ≡ status.failure
   pub numbered : 0 < m.transaction
 
 pub record Indication (m : MessageHeader) : Type 0 where
-  pub indicates : m.message_type ≡ INDICATE-STATUS
+  pub indicates : m.message_type ≡ INDICATE_STATUS
   pub unnumbered : m.transaction ≡ 0
 
 abbrev pub Answer : MessageHeader → Type 0

@@ -1,7 +1,7 @@
 -- Messages over the wire: cut at a transfer size, fed to the receiver's assembly after whatever was fed there before, handed on as header and information.
 -- In this order: the way of a message; what arrives; a line of two ways; which messages are sent.
 use Rattle.std.specs.Prelude.{ℕ, ◌≤◌, ◌<◌, ◌≡◌, ◌⊎◌, false, List, [], ◌∷◌, length, take}
-use Rattle.protocol.specs.MessageType.{COMMAND, COMMAND-DONE}
+use Rattle.protocol.specs.MessageType.{COMMAND, COMMAND_DONE}
 use Rattle.message.specs.Message.{wrong_word}
 use Rattle.assembler.specs.Assembly.{empty}
 use Rattle.assembler.specs.Run.{Piece, Seen, run_of}
@@ -57,7 +57,7 @@ wire to back = record { to = arrives to; back = arrives back }
 -- ---- a message that is sent: a COMMAND or COMMAND_DONE of a transaction, as every value of the code's type, with at most 4,096 bytes of information
 
 pub record Sendable (m : Message) : Type 0 where
-  pub kind : (m.header.message_type ≡ COMMAND) ⊎ (m.header.message_type ≡ COMMAND-DONE)
+  pub kind : (m.header.message_type ≡ COMMAND) ⊎ (m.header.message_type ≡ COMMAND_DONE)
   pub numbered : 0 < m.header.transaction
   pub word : wrong_word m.header ≡ false
   pub width : OfWidth m.header

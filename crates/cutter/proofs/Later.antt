@@ -6,18 +6,18 @@ use lib.Seq.{sets}
 use Rattle.wire.proofs.Laws.{sets_then}
 use Rattle.message.specs.declared.MessageHeader.{MessageHeader}
 use Rattle.cutter.specs.Cut.{fragment_bytes, later_fragments, joined}
-use Rattle.cutter.proofs.Stored.{stored-length, length-fragment}
+use Rattle.cutter.proofs.Stored.{stored_length, length_fragment}
 
 either : (a b : ℕ) → (a ≤ b) ⊎ (b ≤ a)
 either a b = elim (dec_le a b) [ yes h ↦ inl h | no h ↦ inr (omega arith) ]
 
 -- a count cut to what there is takes and leaves the same
-pub cut-take : (xs : List ℕ) (n k : ℕ) → n ≡ min (length xs) k → take n xs ≡ take k xs
-cut-take xs n k e =
+pub cut_take : (xs : List ℕ) (n k : ℕ) → n ≡ min (length xs) k → take n xs ≡ take k xs
+cut_take xs n k e =
     ⊎_elim (λ h. let q : n ≡ k = omega arith in ap (λ (j : ℕ). take j xs) q) (λ h. take_all n xs (omega arith) ∙ sym (take_all k xs h)) (either k (length xs))
 
-pub cut-drop : (xs : List ℕ) (n k : ℕ) → n ≡ min (length xs) k → drop n xs ≡ drop k xs
-cut-drop xs n k e =
+pub cut_drop : (xs : List ℕ) (n k : ℕ) → n ≡ min (length xs) k → drop n xs ≡ drop k xs
+cut_drop xs n k e =
     ⊎_elim (λ h. let q : n ≡ k = omega arith in ap (λ (j : ℕ). drop j xs) q)
     (λ h. let q : length xs ≤ n = omega arith in drop_of_length-le xs q ∙ sym (drop_of_length-le xs h)) (either k (length xs))
 
@@ -25,7 +25,7 @@ cut-drop xs n k e =
 part : (xs : List ℕ) (at n k : ℕ) → n ≡ min (length xs - at) k → take (at + n - at) (drop at xs) ≡ take k (drop at xs)
 part xs at n k e =
     let q : at + n - at ≡ n = omega arith in
-    ap (λ (j : ℕ). take j (drop at xs)) q ∙ cut-take (drop at xs) n k (e ∙ ap (λ (l : ℕ). min l k) (sym (length-drop at xs)))
+    ap (λ (j : ℕ). take j (drop at xs)) q ∙ cut_take (drop at xs) n k (e ∙ ap (λ (l : ℕ). min l k) (sym (length-drop at xs)))
 
 next : (m : MessageHeader) (each total number : ℕ) (xs : List ℕ) → number < total
     → joined (later_fragments m each total number (total - number) xs)
@@ -55,7 +55,7 @@ module _ (m : MessageHeader) (each total : ℕ) (information : List ℕ) (from :
   takes number position n en =
       let xs = drop position information in
       let lb : length (take each xs) ≡ n = simp (length-take, length-drop) (omega arith) in
-      length-fragment m total number (take each xs) ∙ ap (λ (k : ℕ). 20 + k) lb
+      length_fragment m total number (take each xs) ∙ ap (λ (k : ℕ). 20 + k) lb
 
   -- where all fragments have room, the next one has
   pub room : {out : List ℕ} {number position end : ℕ} (n : ℕ) → Going out number position end → number < total
@@ -68,7 +68,7 @@ module _ (m : MessageHeader) (each total : ℕ) (information : List ℕ) (from :
       let here = joined (later_fragments m each total number (total - number) xs) in
       let a : length here ≡ length p + length after = ap length (next m each total number xs less) ∙ length-append p after in
       let b : length g.w + length here ≡ _ = sym (length-append g.w here) ∙ ap length g.rest in
-      let same : length out ≡ length s = stored-length s at g.w g.is in
+      let same : length out ≡ length s = stored_length s at g.w g.is in
       omega (arith, takes number position n en, a, b, same, g.ends)
 
   pub turn : {out out' : List ℕ} {number position end : ℕ} (n : ℕ) → each ≤ 4076 → Going out number position end → number < total
@@ -82,7 +82,7 @@ module _ (m : MessageHeader) (each total : ℕ) (information : List ℕ) (from :
       let eo' : out' ≡ sets out (at + length g.w) p = eo ∙ (λ i. sets out (g.ends i) (fragment_bytes m total number (part information position n each en i))) in
       let left = later_fragments m each total (number + 1) (total - (number + 1)) in
       let ed : drop (position + n) information ≡ drop each xs =
-      sym (drop-drop n position information) ∙ cut-drop xs n each (en ∙ ap (λ (l : ℕ). min l each) (sym (length-drop position information))) in
+      sym (drop-drop n position information) ∙ cut_drop xs n each (en ∙ ap (λ (l : ℕ). min l each) (sym (length-drop position information))) in
       record {
         w = g.w ++ p;
         is = sets_then g.w p at (length g.w) s refl g.is eo';

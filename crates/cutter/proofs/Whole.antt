@@ -10,17 +10,17 @@ use Rattle.protocol.specs.Verdict.{fault_if, first_of, with_room}
 use Rattle.message.specs.Message.{first_length}
 use Rattle.message.specs.declared.MessageHeader.{MessageHeader}
 use Rattle.cutter.specs.declared.Cutting.TheVariants.{Fragments, Refused}
-use Rattle.message.proofs.Headers.{place-most}
+use Rattle.message.proofs.Headers.{place_most}
 use Rattle.cutter.specs.Claims.{MostCut}
 use Rattle.cutter.specs.Cut.{first_bytes, later_count, later_fragments, fragments_by, fragments_of, joined, cut_by, cut_after, fitting_of, wrong_size}
-use Rattle.cutter.proofs.Stored.{length-fragment, length-first}
-use Rattle.cutter.proofs.Later.{cut-take, cut-drop}
+use Rattle.cutter.proofs.Stored.{length_fragment, length_first}
+use Rattle.cutter.proofs.Later.{cut_take, cut_drop}
 
 -- ---- sizes and counts
 
-pub size-right : (size : ℕ) → wrong_size size ≡ false → (64 ≤ size) × (size ≤ 4096)
+pub size_right : (size : ℕ) → wrong_size size ≡ false → (64 ≤ size) × (size ≤ 4096)
 unfolding wrong_size
-size-right size = go (ltb size 64) refl
+size_right size = go (ltb size 64) refl
   where
     go : (b : Bool) → ltb size 64 ≡ b → (b || ltb 4096 size) ≡ false → (64 ≤ size) × (size ≤ 4096)
     go true h e = let z : ◌≡◌ {A = ℕ} 0 1 = cc in absurd (omega arith)
@@ -28,18 +28,18 @@ size-right size = go (ltb size 64) refl
 
 -- the later fragments hold what the first leaves, and there are at most 127
 module _ (first each n : ℕ) (wide : 44 ≤ each) (small : n ≤ 4096) where
-  pub count-holds : n - first ≤ later_count first each n * each
+  pub count_holds : n - first ≤ later_count first each n * each
   unfolding later_count
-  count-holds = omega (arith, lt-div-mul-add {a = n - first + (each - 1)} {b = each} (omega arith))
+  count_holds = omega (arith, lt-div-mul-add {a = n - first + (each - 1)} {b = each} (omega arith))
 
-  pub count-few : later_count first each n < 128
+  pub count_few : later_count first each n < 128
   unfolding later_count
-  count-few = (div-lt_iff_lt-mul {k = each} (omega arith)).1 (omega arith)
+  count_few = (div-lt_iff_lt-mul {k = each} (omega arith)).1 (omega arith)
 
-pub later-many : (m : MessageHeader) (each total left number : ℕ) (xs : List ℕ) → length (later_fragments m each total number left xs) ≡ left
+pub later_many : (m : MessageHeader) (each total left number : ℕ) (xs : List ℕ) → length (later_fragments m each total number left xs) ≡ left
 unfolding later_fragments
-later-many m each total zero number xs = refl
-later-many m each total (suc left) number xs = ap suc (later-many m each total left (number + 1) (drop each xs))
+later_many m each total zero number xs = refl
+later_many m each total (suc left) number xs = ap suc (later_many m each total left (number + 1) (drop each xs))
 
 pub many : (m : MessageHeader) (size : ℕ) (information : List ℕ)
     → length (fragments_of m size information) ≡ 1 + later_count (size - first_length m.message_type) (size - 20) (length information)
@@ -47,20 +47,20 @@ unfolding fragments_of fragments_by
 many m size information =
     let first = size - first_length m.message_type in
     let k = later_count first (size - 20) (length information) in
-    omega (arith, later-many m (size - 20) (1 + k) k 1 (drop first information))
+    omega (arith, later_many m (size - 20) (1 + k) k 1 (drop first information))
 
 -- ---- lengths
 
-split-length : (n : ℕ) (xs : List ℕ) → length (take n xs) + length (drop n xs) ≡ length xs
-split-length n xs = sym (length-append (take n xs) (drop n xs)) ∙ ap length (take-append-drop n xs)
+split_length : (n : ℕ) (xs : List ℕ) → length (take n xs) + length (drop n xs) ≡ length xs
+split_length n xs = sym (length-append (take n xs) (drop n xs)) ∙ ap length (take-append-drop n xs)
 
-later-length : (m : MessageHeader) (each total left number : ℕ) (xs : List ℕ) → length xs ≤ left * each
+later_length : (m : MessageHeader) (each total left number : ℕ) (xs : List ℕ) → length xs ≤ left * each
     → length (joined (later_fragments m each total number left xs)) ≡ 20 * left + length xs
 unfolding later_fragments joined
-later-length m each total zero number xs h = omega arith
-later-length m each total (suc left) number xs h =
+later_length m each total zero number xs h = omega arith
+later_length m each total (suc left) number xs h =
     let i : length (drop each xs) ≤ left * each = simp length-drop (omega (arith, suc-mul left each)) in
-    simp (length-append, length-fragment) (omega (arith, later-length m each total left (number + 1) (drop each xs) i, split-length each xs))
+    simp (length-append, length_fragment) (omega (arith, later_length m each total left (number + 1) (drop each xs) i, split_length each xs))
 
 -- all fragments have their headers and the information
 pub whole_length : (m : MessageHeader) (size : ℕ) (information : List ℕ) → 64 ≤ size → length information ≤ 4096
@@ -72,23 +72,23 @@ whole_length m size information low small =
     let k = later_count first (size - 20) (length information) in
     let xs = take first information in
     let ys = drop first information in
-    let holds : length ys ≤ k * (size - 20) = simp length-drop (count-holds first (size - 20) (length information) (omega arith) small) in
+    let holds : length ys ≤ k * (size - 20) = simp length-drop (count_holds first (size - 20) (length information) (omega arith) small) in
     length-append (first_bytes m (1 + k) (length information) xs) (joined (later_fragments m (size - 20) (1 + k) 1 k ys))
-    ∙ omega (arith, length-first m (1 + k) (length information) xs, later-length m (size - 20) (1 + k) k 1 ys holds, split-length first information)
+    ∙ omega (arith, length_first m (1 + k) (length information) xs, later_length m (size - 20) (1 + k) k 1 ys holds, split_length first information)
 
-later-most : (first each n : ℕ) → 44 ≤ each → each ≤ first + 28 → n ≤ 4096 → later_count first each n < 94
+later_most : (first each n : ℕ) → 44 ≤ each → each ≤ first + 28 → n ≤ 4096 → later_count first each n < 94
 unfolding later_count
-later-most first each n h f s = (div-lt_iff_lt-mul {k = each} (omega arith)).1 (omega arith)
+later_most first each n h f s = (div-lt_iff_lt-mul {k = each} (omega arith)).1 (omega arith)
 
-pub most-cut : MostCut
-most-cut m size information low small =
-    let p = place-most m.message_type in
-    let k = later-most (size - first_length m.message_type) (size - 20) (length information) (omega arith) (omega arith) small in
+pub most_cut : MostCut
+most_cut m size information low small =
+    let p = place_most m.message_type in
+    let k = later_most (size - first_length m.message_type) (size - 20) (length information) (omega arith) (omega arith) small in
     omega (arith, whole_length m size information low small, p.1, k)
 
 -- ---- the stores: the first fragment and then the others
 
-pub all-stored : (m : MessageHeader) (size : ℕ) (information s : List ℕ) (total amount end : ℕ) {s₁ s₂ : List ℕ}
+pub all_stored : (m : MessageHeader) (size : ℕ) (information s : List ℕ) (total amount end : ℕ) {s₁ s₂ : List ℕ}
     → length (joined (fragments_of m size information)) ≤ length s
     → total ≡ 1 + later_count (size - first_length m.message_type) (size - 20) (length information)
     → amount ≡ min (length information) (size - first_length m.message_type)
@@ -97,34 +97,34 @@ pub all-stored : (m : MessageHeader) (size : ℕ) (information s : List ℕ) (to
     → s₂ ≡ sets s₁ end (joined (later_fragments m (size - 20) total 1 (total - 1) (drop amount information)))
     → s₂ ≡ over (joined (fragments_of m size information)) s
 unfolding fragments_of fragments_by joined
-all-stored m size information s total amount end {s₁} room et ec ee p q =
+all_stored m size information s total amount end {s₁} room et ec ee p q =
     let first = size - first_length m.message_type in
     let k = later_count first (size - 20) (length information) in
     let a = first_bytes m (1 + k) (length information) (take first information) in
     let b = joined (later_fragments m (size - 20) (1 + k) 1 k (drop first information)) in
     let less : total - 1 ≡ k = omega arith in
     let lt : length (take first information) ≡ amount = simp length-take (omega arith) in
-    let la : length a ≡ end = length-first m (1 + k) (length information) (take first information) ∙ omega arith in
-    let p' : s₁ ≡ sets s 0 a = p ∙ (λ i. sets s 0 (first_bytes m (et i) (length information) (cut-take information amount first ec i))) in
-    let q' : _ ≡ sets s₁ (0 + end) b = q ∙ (λ i. sets s₁ end (joined (later_fragments m (size - 20) (et i) 1 (less i) (cut-drop information amount first ec i)))) ∙ ap (λ (j : ℕ). sets s₁ j b) (omega arith) in
+    let la : length a ≡ end = length_first m (1 + k) (length information) (take first information) ∙ omega arith in
+    let p' : s₁ ≡ sets s 0 a = p ∙ (λ i. sets s 0 (first_bytes m (et i) (length information) (cut_take information amount first ec i))) in
+    let q' : _ ≡ sets s₁ (0 + end) b = q ∙ (λ i. sets s₁ end (joined (later_fragments m (size - 20) (et i) 1 (less i) (cut_drop information amount first ec i)))) ∙ ap (λ (j : ℕ). sets s₁ j b) (omega arith) in
     sets_then a b 0 end s la p' q' ∙ sets_over (a ++ b) s room
 
 -- the first fragment and the others have the length of all
-pub rest-length : (m : MessageHeader) (size : ℕ) (information : List ℕ) (total amount end : ℕ)
+pub rest_length : (m : MessageHeader) (size : ℕ) (information : List ℕ) (total amount end : ℕ)
     → total ≡ 1 + later_count (size - first_length m.message_type) (size - 20) (length information)
     → amount ≡ min (length information) (size - first_length m.message_type)
     → end ≡ first_length m.message_type + amount
     → end + length (joined (later_fragments m (size - 20) total 1 (total - 1) (drop amount information))) ≡ length (joined (fragments_of m size information))
 unfolding fragments_of fragments_by joined
-rest-length m size information total amount end et ec ee =
+rest_length m size information total amount end et ec ee =
     let first = size - first_length m.message_type in
     let k = later_count first (size - 20) (length information) in
     let a = first_bytes m (1 + k) (length information) (take first information) in
     let b = joined (later_fragments m (size - 20) (1 + k) 1 k (drop first information)) in
     let less : total - 1 ≡ k = omega arith in
     let lt : length (take first information) ≡ amount = simp length-take (omega arith) in
-    let la : length a ≡ end = length-first m (1 + k) (length information) (take first information) ∙ omega arith in
-    let lb : length (joined (later_fragments m (size - 20) total 1 (total - 1) (drop amount information))) ≡ length b = λ i. length (joined (later_fragments m (size - 20) (et i) 1 (less i) (cut-drop information amount first ec i))) in
+    let la : length a ≡ end = length_first m (1 + k) (length information) (take first information) ∙ omega arith in
+    let lb : length (joined (later_fragments m (size - 20) total 1 (total - 1) (drop amount information))) ≡ length b = λ i. length (joined (later_fragments m (size - 20) (et i) 1 (less i) (cut_drop information amount first ec i))) in
     omega (arith, la, lb, length-append a b)
 
 -- ---- the two answers about room

@@ -5,7 +5,7 @@ use Rattle.wire.specs.Numbers.{digits}
 use Rattle.wire.specs.Output.{over}
 use Rattle.protocol.specs.Refusal.{unknown, too_long, outside_table, wrong_transfer_size}
 use Rattle.protocol.specs.Verdict.{Rule, rule, judge, with_room}
-use Rattle.protocol.specs.MessageType.{INDICATE-STATUS, is_fragmented}
+use Rattle.protocol.specs.MessageType.{INDICATE_STATUS, is_fragmented}
 use Rattle.protocol.specs.Service.{id_bytes}
 use Rattle.protocol.specs.declared.Verdict.{Verdict}
 use Rattle.protocol.specs.declared.Verdict.TheVariants.{Fits, Fault}
@@ -27,7 +27,7 @@ fragment_bytes m total number xs = header_bytes m (20 + length xs) total number 
 
 -- a command's type or a reply's status; an indication has no such word
 unfoldable pub word_bytes : MessageHeader → List ℕ
-word_bytes m = cond (m.message_type == INDICATE-STATUS) [] (digits 4 m.word)
+word_bytes m = cond (m.message_type == INDICATE_STATUS) [] (digits 4 m.word)
 
 -- "the service at 20 and CID at 36", the word, and the length n of the information
 unfoldable pub opening_bytes : MessageHeader → ℕ → List ℕ
@@ -75,7 +75,7 @@ wrong_size size = nat_lt size least_transfer || nat_lt most_transfer size
 
 -- "0 for COMMAND or DONE, nonzero for INDICATE"
 unfoldable pub wrong_transaction : MessageHeader → Bool
-wrong_transaction m = cond (m.message_type == INDICATE-STATUS) (not (m.transaction == 0)) (m.transaction == 0)
+wrong_transaction m = cond (m.message_type == INDICATE_STATUS) (not (m.transaction == 0)) (m.transaction == 0)
 
 abbrev pub message_rules : MessageHeader → ℕ → ℕ → List Rule
 message_rules m size n =

@@ -6,13 +6,13 @@ use Prim.Native.Nat.{ℕ, ◌*◌, ◌≤◌}
 use native.Mathlib.Omega.{arith}
 use lib.ListN.{length, length-append}
 use Rattle.ascii.specs.Ascii.{ascii}
-use Rattle.ascii.proofs.Laws.{length-decimal, length-hexed}
+use Rattle.ascii.proofs.Laws.{length_decimal, length_hexed}
 use Rattle.protocol.specs.Service.{id_bytes}
 use Rattle.protocol.specs.declared.Version.{Version}
 use Rattle.protocol.specs.declared.service.ServiceId.{ServiceId}
-use Rattle.protocol.proofs.Services.{length-id}
+use Rattle.protocol.proofs.Services.{length_id}
 use Rattle.rows.specs.Rows.{header}
-use Rattle.rows.proofs.Lengths.{field-le, row-le, indexed-le, refused-le, joined-le}
+use Rattle.rows.proofs.Lengths.{field_le, row_le, indexed_le, refused_le, joined_le}
 use Rattle.pairs.specs.declared.ZeroSize.{ZeroSize}
 use Rattle.signal_state.specs.SignalState.{entry_in, read_with as signal_read}
 use Rattle.signal_state.specs.declared.RsrpSnr.{RsrpSnr}
@@ -24,60 +24,60 @@ use Rattle.device_services.specs.declared.DeviceServicesRead.{DeviceServicesRead
 use Rattle.device_services.specs.declared.DeviceServicesRead.TheVariants.{Info as ServicesInfo, Refused as ServicesRefused}
 use Rattle.entry_rows.specs.Signals.{count_of, number_rows, entry_rows, entries_rows, answer_text, signal_text}
 use Rattle.entry_rows.specs.Services.{id_row, cid_row, cid_rows, element_rows, elements_rows, services_text}
-use Rattle.entry_rows.proofs.Signals.{few-entries}
-use Rattle.entry_rows.proofs.Services.{few-cids}
+use Rattle.entry_rows.proofs.Signals.{few_entries}
+use Rattle.entry_rows.proofs.Services.{few_cids}
 
 -- ---- signal state
 
-numbers-le : (p : SignalState) → length (number_rows p) ≤ 360
+numbers_le : (p : SignalState) → length (number_rows p) ≤ 360
 unfolding number_rows
-numbers-le p =
-    simp length-append (omega (arith, row-le (ascii "Rssi") p.rssi (omega arith), row-le (ascii "ErrorRate") p.error_rate (omega arith), row-le (ascii "SignalStrengthInterval") p.signal_strength_interval (omega arith), row-le (ascii "RssiThreshold") p.rssi_threshold (omega arith), row-le (ascii "ErrorRateThreshold") p.error_rate_threshold (omega arith)))
+numbers_le p =
+    simp length-append (omega (arith, row_le (ascii "Rssi") p.rssi (omega arith), row_le (ascii "ErrorRate") p.error_rate (omega arith), row_le (ascii "SignalStrengthInterval") p.signal_strength_interval (omega arith), row_le (ascii "RssiThreshold") p.rssi_threshold (omega arith), row_le (ascii "ErrorRateThreshold") p.error_rate_threshold (omega arith)))
 
-entry-le : (i : ℕ) (e : RsrpSnr) → length (entry_rows i e) ≤ 470
+entry_le : (i : ℕ) (e : RsrpSnr) → length (entry_rows i e) ≤ 470
 unfolding entry_rows
-entry-le i e =
-    simp length-append (omega (arith, indexed-le (ascii "RSRP") i e.rsrp (omega arith), indexed-le (ascii "SNR") i e.snr (omega arith), indexed-le (ascii "RSRPThreshold") i e.rsrp_threshold (omega arith), indexed-le (ascii "SNRThreshold") i e.snr_threshold (omega arith), indexed-le (ascii "SystemType") i e.system_type (omega arith)))
+entry_le i e =
+    simp length-append (omega (arith, indexed_le (ascii "RSRP") i e.rsrp (omega arith), indexed_le (ascii "SNR") i e.snr (omega arith), indexed_le (ascii "RSRPThreshold") i e.rsrp_threshold (omega arith), indexed_le (ascii "SNRThreshold") i e.snr_threshold (omega arith), indexed_le (ascii "SystemType") i e.system_type (omega arith)))
 
-entries-le : (es : List RsrpSnr) (n : ℕ) → length (entries_rows es n) ≤ 470 * n
+entries_le : (es : List RsrpSnr) (n : ℕ) → length (entries_rows es n) ≤ 470 * n
 unfolding entries_rows
-entries-le es n = joined-le (λ i. entry_rows i (entry_in es i)) 470 n (λ i l. entry-le i (entry_in es i))
+entries_le es n = joined_le (λ i. entry_rows i (entry_in es i)) 470 n (λ i l. entry_le i (entry_in es i))
 
-pub signal-le : (v : Version) (z : ZeroSize) (s : List ℕ) → length (signal_text (signal_read v z s)) ≤ 10000
+pub signal_le : (v : Version) (z : ZeroSize) (s : List ℕ) → length (signal_text (signal_read v z s)) ≤ 10000
 unfolding answer_text header
-signal-le v z s = go (signal_read v z s).answer refl
+signal_le v z s = go (signal_read v z s).answer refl
   where
     go : (r : SignalStateRead) → (signal_read v z s).answer ≡ r → length (answer_text r (signal_read v z s).entries) ≤ 10000
-    go (SignalRefused r) e = omega (arith, refused-le r)
-    go (SignalInfo p) e = simp length-append (omega (arith, numbers-le p, entries-le (signal_read v z s).entries (count_of p.form), few-entries v z s e))
+    go (SignalRefused r) e = omega (arith, refused_le r)
+    go (SignalInfo p) e = simp length-append (omega (arith, numbers_le p, entries_le (signal_read v z s).entries (count_of p.form), few_entries v z s e))
 
 -- ---- device services
 
-id-le : (i : ℕ) (id : ServiceId) → length (id_row i id) ≤ 100
+id_le : (i : ℕ) (id : ServiceId) → length (id_row i id) ≤ 100
 unfolding id_row
-id-le i id = simp length-append (omega (arith, length-decimal 20 i, length-hexed (length (id_bytes id)) (id_bytes id), length-id id))
+id_le i id = simp length-append (omega (arith, length_decimal 20 i, length_hexed (length (id_bytes id)) (id_bytes id), length_id id))
 
-cid-le : (i j cid : ℕ) → length (cid_row i j cid) ≤ 100
+cid_le : (i j cid : ℕ) → length (cid_row i j cid) ≤ 100
 unfolding cid_row
-cid-le i j cid = simp length-append (omega (arith, length-decimal 20 i, length-decimal 20 j, field-le cid))
+cid_le i j cid = simp length-append (omega (arith, length_decimal 20 i, length_decimal 20 j, field_le cid))
 
-cids-le : (s : List ℕ) (at i n : ℕ) → length (cid_rows s at i n) ≤ 100 * n
+cids_le : (s : List ℕ) (at i n : ℕ) → length (cid_rows s at i n) ≤ 100 * n
 unfolding cid_rows
-cids-le s at i n = joined-le (λ j. cid_row i j (cid_at s at j)) 100 n (λ j l. cid-le i j (cid_at s at j))
+cids_le s at i n = joined_le (λ j. cid_row i j (cid_at s at j)) 100 n (λ j l. cid_le i j (cid_at s at j))
 
-element-le : (s : List ℕ) (at i : ℕ) → cid_count_at s at ≤ 128 → length (element_rows s at i) ≤ 13500
+element_le : (s : List ℕ) (at i : ℕ) → cid_count_at s at ≤ 128 → length (element_rows s at i) ≤ 13500
 unfolding element_rows element_at
-element-le s at i h =
-    simp length-append (omega (arith, id-le i (element_at s at).device_service_id, indexed-le (ascii "DssPayload") i (element_at s at).dss_payload (omega arith), indexed-le (ascii "MaxDssInstances") i (element_at s at).max_dss_instances (omega arith), indexed-le (ascii "CidCount") i (element_at s at).cid_count (omega arith), cids-le s at i (element_at s at).cid_count))
+element_le s at i h =
+    simp length-append (omega (arith, id_le i (element_at s at).device_service_id, indexed_le (ascii "DssPayload") i (element_at s at).dss_payload (omega arith), indexed_le (ascii "MaxDssInstances") i (element_at s at).max_dss_instances (omega arith), indexed_le (ascii "CidCount") i (element_at s at).cid_count (omega arith), cids_le s at i (element_at s at).cid_count))
 
-pub services-le : (z : ZeroSize) (s : List ℕ) → length (services_text s (services_read z s)) ≤ 524288
+pub services_le : (z : ZeroSize) (s : List ℕ) → length (services_text s (services_read z s)) ≤ 524288
 unfolding services_text header elements_rows
-services-le z s = go (services_read z s) refl
+services_le z s = go (services_read z s) refl
   where
     go : (r : DeviceServicesRead) → services_read z s ≡ r → length (services_text s r) ≤ 524288
-    go (ServicesRefused r) e = omega (arith, refused-le r)
+    go (ServicesRefused r) e = omega (arith, refused_le r)
     go (ServicesInfo p) e =
-        let k = few-cids z s e in
+        let k = few_cids z s e in
         let n = p.device_services_count in
         simp length-append
-        (omega (arith, k.0, row-le (ascii "DeviceServicesCount") n (omega arith), row-le (ascii "MaxDssSessions") p.max_dss_sessions (omega arith), joined-le (λ i. element_rows s (offset_of s i) i) 13500 n (λ i l. element-le s (offset_of s i) i (k.1 i l))))
+        (omega (arith, k.0, row_le (ascii "DeviceServicesCount") n (omega arith), row_le (ascii "MaxDssSessions") p.max_dss_sessions (omega arith), joined_le (λ i. element_rows s (offset_of s i) i) 13500 n (λ i l. element_le s (offset_of s i) i (k.1 i l))))

@@ -11,8 +11,8 @@ use Rattle.device_services.specs.declared.DeviceServicesRead.TheVariants.{Info}
 use Rattle.device_services.proofs.Acceptance.{accepted}
 use Rattle.entry_rows.specs.Services.{Few}
 
-pub few-cids : (z : ZeroSize) (s : List ℕ) {p : DeviceServices} → read_with z s ≡ Info p → (p.device_services_count ≤ 32) × Few s p.device_services_count
+pub few_cids : (z : ZeroSize) (s : List ℕ) {p : DeviceServices} → read_with z s ≡ Info p → (p.device_services_count ≤ 32) × Few s p.device_services_count
 unfolding head_at range_at
-few-cids z s {p} e =
+few_cids z s {p} e =
     let k = accepted z s p e in
     rw k.1 (k.0.few, λ i h. (k.0.elements i h).few)

@@ -21,12 +21,12 @@ few : (s : List ℕ) → ((range_at s 20).length ≡ 0) ⊎ CountFits (range_at 
 few s (inl e) = rw (eq-eqb (range_at s 20).length 0 e) (omega arith)
 few s (inr f) = f.most
 
-few-at : (v : Version) (z : ZeroSize) (s : List ℕ) → Acceptable v z s → count_of (record_at v s).form ≤ 16
+few_at : (v : Version) (z : ZeroSize) (s : List ℕ) → Acceptable v z s → count_of (record_at v s).form ≤ 16
 unfolding state_at
-few-at V1 z s a = omega arith
-few-at V2 z s a = few s a.form.1.1.list
+few_at V1 z s a = omega arith
+few_at V2 z s a = few s a.form.1.1.list
 
-pub few-entries : (v : Version) (z : ZeroSize) (s : List ℕ) {p : SignalState} → (read_with v z s).answer ≡ Info p → count_of p.form ≤ 16
-few-entries v z s {p} e =
+pub few_entries : (v : Version) (z : ZeroSize) (s : List ℕ) {p : SignalState} → (read_with v z s).answer ≡ Info p → count_of p.form ≤ 16
+few_entries v z s {p} e =
     let k = accepted v z s p (read_with v z s).entries (λ i. record { answer = e i; entries = (read_with v z s).entries }) in
-    rw k.1.0 (few-at v z s k.0)
+    rw k.1.0 (few_at v z s k.0)

@@ -9,7 +9,7 @@ use lib.Seq.{drop-drop}
 use Rattle.wire.specs.Output.{over}
 use Rattle.assembler.specs.Assembly.{assembly_of, in_place, step_of}
 use Rattle.assembler.specs.declared.FedInPlace.{FedInPlace}
-use Rattle.cutter.proofs.Later.{cut-take, cut-drop}
+use Rattle.cutter.proofs.Later.{cut_take, cut_drop}
 use Rattle.exchange.specs.Messages.{parts}
 use Rattle.exchange.specs.Collected.{Collected, after, collected}
 
@@ -38,9 +38,9 @@ module _ (start : Collected) (stream : List ℕ) (size count : ℕ) where
   turn {f} {f'} {bytes} {bytes'} {out} {out'} {at} {k} {end} g less ee ef eb eo el =
       let xs = drop at stream in
       let n : end - at ≡ min (length xs) size = rw length-drop (omega (arith, ee, g.within)) in
-      let p : take (end - at) xs ≡ take size xs = cut-take xs (end - at) size n in
+      let p : take (end - at) xs ≡ take size xs = cut_take xs (end - at) size n in
       let place : at + (end - at) ≡ end = omega (arith, ee) in
-      let d : drop end stream ≡ drop size xs = ap (λ (j : ℕ). drop j stream) (sym place) ∙ sym (drop-drop (end - at) at stream) ∙ cut-drop xs (end - at) size n in
+      let d : drop end stream ≡ drop size xs = ap (λ (j : ℕ). drop j stream) (sym place) ∙ sym (drop-drop (end - at) at stream) ∙ cut_drop xs (end - at) size n in
       let here : now f' bytes' out' ≡ after (now f bytes out) (take (end - at) xs) =
       (λ i. record { assembly = record { progress = (ef i).progress; bytes = eb i }; answer = (ef i).answer; output = eo i }) in
       record {

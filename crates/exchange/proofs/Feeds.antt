@@ -18,20 +18,20 @@ use Rattle.message.specs.declared.FragmentHeader.{FragmentHeader}
 use Rattle.message.specs.declared.FirstHeader.{FirstHeader}
 use Rattle.message.specs.declared.Fragment.{Fragment}
 use Rattle.message.specs.declared.Fragment.TheVariants as fragment
-use Rattle.message.proofs.Headers.{Accepted, FragmentView, refuses as no-fragment, opens, follows, fragment-view}
+use Rattle.message.proofs.Headers.{Accepted, FragmentView, refuses as no_fragment, opens, follows, fragment_view}
 use Rattle.assembler.specs.Assembly.{Step, assembly_of, is_pending, refused, begun_progress, begun_bytes, continues, join_rules, join_of, judged_by, judged_of, step_by, step_of}
 use Rattle.assembler.specs.Run.{Clean}
 use Rattle.assembler.specs.declared.Progress.{Progress}
 use Rattle.assembler.specs.declared.Assembly.{Assembly}
-use Rattle.assembler.proofs.Laws.{Gathers, Continues, continues-says, brings}
-use Rattle.assembler.proofs.View.{GatherView, gather-view}
-use Rattle.assembler.proofs.Clean.{begun-zeros}
+use Rattle.assembler.proofs.Laws.{Gathers, Continues, continues_says, brings}
+use Rattle.assembler.proofs.View.{GatherView, gather_view}
+use Rattle.assembler.proofs.Clean.{begun_zeros}
 use Rattle.exchange.specs.Damage.{FragmentOf, carried}
 
 -- a piece that is judged as a fragment has a header that breaks no rule
-header-fits : (s : List ℕ) (f : Fragment) → fragment_of s ≡ f → ((r : Refusal) → f ≡ fragment.Refused r → ⊥) → judge (header_rules s) ≡ Fits
+header_fits : (s : List ℕ) (f : Fragment) → fragment_of s ≡ f → ((r : Refusal) → f ≡ fragment.Refused r → ⊥) → judge (header_rules s) ≡ Fits
 unfolding fragment_of fragment_by header_of header_by
-header-fits s f = go (judge (header_rules s)) refl
+header_fits s f = go (judge (header_rules s)) refl
   where
     go : (v : Verdict) → judge (header_rules s) ≡ v → fragment_by s (header_by v s) ≡ f → ((r : Refusal) → f ≡ fragment.Refused r → ⊥) → judge (header_rules s) ≡ Fits
     go Fits j e n = j
@@ -64,10 +64,10 @@ pub data FeedView (a : Assembly) (s : List ℕ) (x : Step) : Type 0 where
   joins : 0 < a.progress.next → Next a.progress s → GatherView a (carried s) false x → FeedView a s x
 
 -- the header of a first piece is that of the message that it begins
-first-header : (s : List ℕ) (h : FragmentHeader) (f : FirstHeader) → header_at s ≡ h → h.number ≡ 0 → f.message ≡ message_at s
+first_header : (s : List ℕ) (h : FragmentHeader) (f : FirstHeader) → header_at s ≡ h → h.number ≡ 0 → f.message ≡ message_at s
     → header_at s ≡ record { message_type = f.message.message_type; transaction = f.message.transaction; total = h.total; number = 0 }
 unfolding message_at
-first-header s h f e z m = λ i. record {
+first_header s h f e z m = λ i. record {
   message_type = (sym m i).message_type;
   transaction = (sym m i).transaction;
   total = (e i).total;
@@ -75,38 +75,38 @@ first-header s h f e z m = λ i. record {
 }
 
 -- the header of a later piece is the one that the message waits for
-joined-header : (p : Progress) (h : FragmentHeader) → Continues p h
+joined_header : (p : Progress) (h : FragmentHeader) → Continues p h
     → h ≡ record { message_type = p.message.message_type; transaction = p.message.transaction; total = p.total; number = p.next }
-joined-header p h c = λ i. record { message_type = sym c.type i; transaction = sym c.transaction i; total = sym c.total i; number = sym c.number i }
+joined_header p h c = λ i. record { message_type = sym c.type i; transaction = sym c.transaction i; total = sym c.total i; number = sym c.number i }
 
-pub feed-view : (a : Assembly) → Clean a → (s : List ℕ) (room : ℕ) → FeedView a s (step_of a s room)
+pub feed_view : (a : Assembly) → Clean a → (s : List ℕ) (room : ℕ) → FeedView a s (step_of a s room)
 unfolding step_of step_by judged_of judged_by join_of begun_bytes
-feed-view a C s room = go (fragment-view s) refl
+feed_view a C s room = go (fragment_view s) refl
   where
     joining : (h : FragmentHeader) → Accepted s h → (h.number ≡ 0 → ⊥) → fragment_of s ≡ fragment.Later h → (v : Verdict) → judge (join_rules a.progress h (length s)) ≡ v
         → FeedView a s (step_by a.bytes s room (join_of v a.progress))
     joining h A z e (Fault r) j = bad r refl
     joining h A z e Fits j =
-        let c = continues-says a.progress h (not-false (continues a.progress h) (fits_kept (join_rules a.progress h (length s)) j).0) in
+        let c = continues_says a.progress h (not-false (continues a.progress h) (fits_kept (join_rules a.progress h (length s)) j).0) in
         let b = carried_later s h A.is z in
         let g = brings a.progress a.progress s 20 false (rw (e, j) refl) in
         joins (omega (arith, c.number, z))
         (record {
-          fragment = record { accepted = header-fits s _ e (λ r q. let w : ◌≡◌ {A = ℕ} 0 1 = cc in absurd (omega arith)); says = A.is ∙ joined-header a.progress h c };
+          fragment = record { accepted = header_fits s _ e (λ r q. let w : ◌≡◌ {A = ℕ} 0 1 = cc in absurd (omega arith)); says = A.is ∙ joined_header a.progress h c };
           gathers = rw b g.1;
         })
-        (rw b (gather-view a (drop 20 s) false room))
+        (rw b (gather_view a (drop 20 s) false room))
 
     go : {f : Fragment} → FragmentView s f → fragment_of s ≡ f → FeedView a s (step_of a s room)
-    go (no-fragment r) e = rw e (bad r refl)
+    go (no_fragment r) e = rw e (bad r refl)
     go (opens h f A z O) e =
         let b = carried_first s h A.is z in
         let g = brings a.progress (begun_progress h f) s (first_length h.message_type) (is_pending a.progress) (rw e refl) in
         rw e (starts (begun_progress h f) (begun_bytes (is_pending a.progress) a.bytes) (is_pending a.progress) refl refl
-        (ap length (begun-zeros a C) ∙ length-replicate {A = ℕ} 4096 0) O.message
+        (ap length (begun_zeros a C) ∙ length-replicate {A = ℕ} 4096 0) O.message
         (record {
-          fragment = record { accepted = header-fits s _ e (λ r q. let w : ◌≡◌ {A = ℕ} 0 1 = cc in absurd (omega arith)); says = first-header s h f A.is z O.message };
+          fragment = record { accepted = header_fits s _ e (λ r q. let w : ◌≡◌ {A = ℕ} 0 1 = cc in absurd (omega arith)); says = first_header s h f A.is z O.message };
           gathers = rw b g.1;
         })
-        (rw b (gather-view (assembly_of (begun_progress h f) (begun_bytes (is_pending a.progress) a.bytes)) (drop (first_length h.message_type) s) (is_pending a.progress) room)))
+        (rw b (gather_view (assembly_of (begun_progress h f) (begun_bytes (is_pending a.progress) a.bytes)) (drop (first_length h.message_type) s) (is_pending a.progress) room)))
     go (follows h A z) e = rw e (joining h A z e (judge (join_rules a.progress h (length s))) refl)

@@ -23,9 +23,9 @@ abbrev result : MessageHeader → List ℕ → ℕ → Bool → List ℕ → Col
 result m information room d out =
     gives empty (last_seen m information d room).answer (over (last_seen m information d room).information out)
 
-pub false-says : (n : ℕ) → last_says n false ≡ false
-false-says zero = refl
-false-says (suc n) = refl
+pub false_says : (n : ℕ) → last_says n false ≡ false
+false_says zero = refl
+false_says (suc n) = refl
 
 heads : {x y : Seen} {xs ys : List Seen} → x ∷ xs ≡ y ∷ ys → x ≡ y
 heads e = cc
@@ -33,8 +33,8 @@ heads e = cc
 tails : {x y : Seen} {xs ys : List Seen} → x ∷ xs ≡ y ∷ ys → xs ≡ ys
 tails e = cc
 
-some-none : {x : Seen} {xs : List Seen} → x ∷ xs ≡ [] → ⊥
-some-none e = let z : ◌≡◌ {A = ℕ} 0 1 = cc in omega arith
+some_none : {x : Seen} {xs : List Seen} → x ∷ xs ≡ [] → ⊥
+some_none e = let z : ◌≡◌ {A = ℕ} 0 1 = cc in omega arith
 
 -- what a part gives where the caller's output has the room
 after_is : (a : Assembly) (t : Answer) (p out : List ℕ) (room : ℕ) → length out ≡ room
@@ -50,22 +50,22 @@ unfolding over
 over_nothing out = refl
 
 module _ (m : MessageHeader) (information : List ℕ) (room : ℕ) where
-  pub collected-run : (ps : List (List ℕ)) (n k : ℕ) (d : Bool) (a : Assembly) (t : Answer) (out : List ℕ) → length out ≡ room
+  pub collected_run : (ps : List (List ℕ)) (n k : ℕ) (d : Bool) (a : Assembly) (t : Answer) (out : List ℕ) → length out ≡ room
       → run_of a (pieces (λ _. room) k ps) ≡ received m information d room n → collected (gives a t out) ps ≡ result m information room (last_says n d) out
   unfolding run_of pieces received collected
-  collected-run [] zero k d a t out e r = absurd (some-none (sym (ap (λ (x : Run). x.seen) r)))
-  collected-run [] (suc n) k d a t out e r = absurd (some-none (sym (ap (λ (x : Run). x.seen) r)))
-  collected-run (p ∷ []) zero k d a t out e r =
+  collected_run [] zero k d a t out e r = absurd (some_none (sym (ap (λ (x : Run). x.seen) r)))
+  collected_run [] (suc n) k d a t out e r = absurd (some_none (sym (ap (λ (x : Run). x.seen) r)))
+  collected_run (p ∷ []) zero k d a t out e r =
       let h = heads (ap (λ (x : Run). x.seen) r) in
       after_is a t p out room e
       ∙ (λ i. record { assembly = (r i).end; answer = (h i).answer; output = over (h i).information out })
-  collected-run (p ∷ q ∷ ps) zero k d a t out e r = absurd (some-none (tails (ap (λ (x : Run). x.seen) r)))
-  collected-run (p ∷ ps) (suc n) k d a t out e r =
+  collected_run (p ∷ q ∷ ps) zero k d a t out e r = absurd (some_none (tails (ap (λ (x : Run). x.seen) r)))
+  collected_run (p ∷ ps) (suc n) k d a t out e r =
       let h = heads (ap (λ (x : Run). x.seen) r) in
       let l = tails (ap (λ (x : Run). x.seen) r) in
       let s = step_of a p room in
       let here : after (gives a t out) p ≡ gives s.assembly s.answer out =
       after_is a t p out room e ∙ ap (gives s.assembly s.answer) (ap (λ (x : Seen). over x.information out) h ∙ over_nothing out) in
       ap (λ (c : Collected). collected c ps) here
-      ∙ collected-run ps n (k + 1) false s.assembly s.answer out e (λ i. record { seen = l i; end = (r i).end })
-      ∙ ap (λ (b : Bool). result m information room b out) (false-says n)
+      ∙ collected_run ps n (k + 1) false s.assembly s.answer out e (λ i. record { seen = l i; end = (r i).end })
+      ∙ ap (λ (b : Bool). result m information room b out) (false_says n)

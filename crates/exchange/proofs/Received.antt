@@ -14,11 +14,11 @@ use Rattle.assembler.specs.declared.Answer.TheVariants.{Pending, Complete, Refus
 use Rattle.exchange.specs.Received.{fed, answered, answers, FedRun, ReceivedAsFed}
 
 -- what the door shows of a fed piece is what the assembler answered
-answered-fed : (s : List ℕ) (x : Answer) (information : List ℕ) → answered (fed_shown s x) information ≡ record { answer = x; information = information } ∷ []
+answered_fed : (s : List ℕ) (x : Answer) (information : List ℕ) → answered (fed_shown s x) information ≡ record { answer = x; information = information } ∷ []
 unfolding fed_shown
-answered-fed s (Pending d) information = refl
-answered-fed s (Complete m n d) information = refl
-answered-fed s (Refused r) information = refl
+answered_fed s (Pending d) information = refl
+answered_fed s (Complete m n d) information = refl
+answered_fed s (Refused r) information = refl
 
 -- one piece, by whether it is a whole message
 one_more : (a : Assembly) (p : Piece) (ps : List Piece) → FedRun a ps → FedRun (step_of a p.bytes p.room).assembly ps → FedRun a (p ∷ ps)
@@ -31,20 +31,20 @@ one_more a p ps whole fragment = go (is_whole_piece p.bytes) refl
     go : (w : Bool) → is_whole_piece p.bytes ≡ w → FedRun a (p ∷ ps)
     go true e = record { seen = rw e whole.seen; end = rw e whole.end }
     go false e = record {
-      seen = rw (e, answered-fed p.bytes s.answer s.information) (ap (λ (l : List Seen). seen_of s ∷ l) fragment.seen);
+      seen = rw (e, answered_fed p.bytes s.answer s.information) (ap (λ (l : List Seen). seen_of s ∷ l) fragment.seen);
       end = rw e fragment.end;
     }
 
-pub received-as-fed : ReceivedAsFed
+pub received_as_fed : ReceivedAsFed
 unfolding fed answers receive_all run_of
-received-as-fed a [] = record { seen = refl; end = refl }
-received-as-fed a (p ∷ ps) = one_more a p ps (received-as-fed a ps) (received-as-fed (step_of a p.bytes p.room).assembly ps)
+received_as_fed a [] = record { seen = refl; end = refl }
+received_as_fed a (p ∷ ps) = one_more a p ps (received_as_fed a ps) (received_as_fed (step_of a p.bytes p.room).assembly ps)
 
 -- what is fed of one list and then another
-pub fed-append : (ps qs : List Piece) → fed (ps ++ qs) ≡ fed ps ++ fed qs
+pub fed_append : (ps qs : List Piece) → fed (ps ++ qs) ≡ fed ps ++ fed qs
 unfolding fed
-fed-append [] qs = refl
-fed-append (p ∷ ps) qs = go (is_whole_piece p.bytes) (fed-append ps qs)
+fed_append [] qs = refl
+fed_append (p ∷ ps) qs = go (is_whole_piece p.bytes) (fed_append ps qs)
   where
     go : (w : Bool) → fed (ps ++ qs) ≡ fed ps ++ fed qs → cond w (fed (ps ++ qs)) (p ∷ fed (ps ++ qs)) ≡ cond w (fed ps) (p ∷ fed ps) ++ fed qs
     go true e = e

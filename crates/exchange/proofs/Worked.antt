@@ -15,6 +15,6 @@ pub worked : Worked
 unfolding lengths_of fragments_of fragments_by later_fragments later_count first_bytes opening_bytes word_bytes fragment_bytes header_bytes id_bytes length_place
 worked = refl
 
-pub thin-completes : ThinCompletes
+pub thin_completes : ThinCompletes
 unfolding first_bytes opening_bytes word_bytes fragment_bytes header_bytes id_bytes id_at u32_at length_place word_at message_at wrong_total wrong_word wrong_amount is_fragmented fault_if first_of judge_from header_by header_of first_by first_header_of opened_by fragment_by fragment_of continues join_of judged_by judged_of begun_bytes grown waiting completed gather_of step_by step_of empty run_of
-thin-completes = refl
+thin_completes = refl

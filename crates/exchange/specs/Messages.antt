@@ -2,7 +2,7 @@
 -- In this order: headers of the code's own type; the fragments as pieces; what a receiver sees of a message.
 use Rattle.std.specs.Prelude.{ℕ, zero, suc, ◌+◌, ◌^◌, ◌<◌, Bool, false, cond, List, [], ◌∷◌, eqb, ltb, length, take, drop}
 use Rattle.protocol.specs.Refusal.{refusal, output_too_small}
-use Rattle.protocol.specs.MessageType.{INDICATE-STATUS}
+use Rattle.protocol.specs.MessageType.{INDICATE_STATUS}
 use Rattle.message.specs.declared.MessageHeader.{MessageHeader}
 use Rattle.assembler.specs.Assembly.{empty}
 use Rattle.assembler.specs.Run.{Piece, Seen, Run, and_then}
@@ -26,7 +26,7 @@ header_seen m = record {
   transaction = m.transaction;
   service = m.service;
   cid = m.cid;
-  word = cond (eqb m.message_type INDICATE-STATUS) 0 m.word;
+  word = cond (eqb m.message_type INDICATE_STATUS) 0 m.word;
 }
 
 -- a stream of bytes in n parts, each of `size` bytes but the last, which has what is left

@@ -6,7 +6,7 @@ use Prim.Native.Nat.{ℕ, ◌+◌, ◌^◌, ◌<◌}
 use native.Mathlib.Nat.{add-zero}
 use lib.ListN.{length, length-append}
 use Rattle.wire.specs.Numbers.{num, digits, u32_at}
-use Rattle.wire.proofs.Laws.{num-skip, num-digits}
+use Rattle.wire.proofs.Laws.{num_skip, num_digits}
 use Rattle.folds.specs.Folds.{joined}
 use Rattle.folds.specs.Stands.{Stands}
 use Rattle.folds.proofs.Laws.{split}
@@ -35,9 +35,9 @@ part {s} {at} f n i k l e h =
 -- a number is read from what stands there
 pub inside : {s : List ℕ} {at : ℕ} {x : List ℕ} (h : Stands s at x) (k : ℕ) → u32_at s (at + k) ≡ u32_at (x ++ h.after) k
 unfolding u32_at
-inside {s} {at} {x} h k = (λ i. num 4 (h.is i) (sym h.long i + k)) ∙ num-skip 4 h.before (x ++ h.after) k
+inside {s} {at} {x} h k = (λ i. num 4 (h.is i) (sym h.long i + k)) ∙ num_skip 4 h.before (x ++ h.after) k
 
 -- a number of four bytes
 pub word : {s : List ℕ} {at : ℕ} (v : ℕ) → v < 2 ^ 32 → Stands s at (digits 4 v) → u32_at s at ≡ v
 unfolding u32_at
-word {s} {at} v b h = ap (num 4 s) (sym (add-zero at)) ∙ inside h 0 ∙ num-digits 4 v h.after b
+word {s} {at} v b h = ap (num 4 s) (sym (add-zero at)) ∙ inside h 0 ∙ num_digits 4 v h.after b

@@ -10,7 +10,7 @@ use Rattle.protocol.specs.Verdict.{judge_from, first_of, fault_if}
 use Rattle.protocol.specs.declared.Version.{Version}
 use Rattle.protocol.specs.declared.Version.TheVariants.{V1, V2}
 use Rattle.pairs.specs.Pair.{by_default}
-use Rattle.services_query.proofs.Answers.{listed-exactly, not-listed-exactly}
+use Rattle.services_query.proofs.Answers.{listed_exactly, not_listed_exactly}
 use Rattle.services_ask.specs.ServicesAsk.{without_position}
 use Rattle.services_ask.proofs.Answers.{asked}
 use Rattle.handshake.specs.Commands.{version_cid, version_listed}
@@ -21,36 +21,36 @@ use Rattle.handshake_claims.specs.Claims.{AcceptedList, FaultBehind, FaultBefore
 use Rattle.host.specs.declared.HostStage.TheVariants.{Open}
 
 -- what the full question says of an accepted list the question says
-asked-listed : (listed : Bool) (s : List ℕ) → version_listed s ≡ listed_as listed → version_asked s ≡ listed_as listed
-asked-listed true s e =
-    (asked by_default s (id_at extensions 0) version_cid).accepted ((listed-exactly by_default s (id_at extensions 0) version_cid).0 e).0 ∙ e
-asked-listed false s e =
-    (asked by_default s (id_at extensions 0) version_cid).accepted ((not-listed-exactly by_default s (id_at extensions 0) version_cid).0 e).0 ∙ e
+asked_listed : (listed : Bool) (s : List ℕ) → version_listed s ≡ listed_as listed → version_asked s ≡ listed_as listed
+asked_listed true s e =
+    (asked by_default s (id_at extensions 0) version_cid).accepted ((listed_exactly by_default s (id_at extensions 0) version_cid).0 e).0 ∙ e
+asked_listed false s e =
+    (asked by_default s (id_at extensions 0) version_cid).accepted ((not_listed_exactly by_default s (id_at extensions 0) version_cid).0 e).0 ∙ e
 
 -- a list that the question answers is judged by the versions and by whether VERSION is listed
-list-judged : (h : Host) (listed : Bool) (s : List ℕ) → version_asked s ≡ listed_as listed → services_reply_of h 0 s ≡ list_at h.stage h listed
+list_judged : (h : Host) (listed : Bool) (s : List ℕ) → version_asked s ≡ listed_as listed → services_reply_of h 0 s ≡ list_at h.stage h listed
 unfolding services_reply_of list_reply
-list-judged h true s e = rw e
-list-judged h false s e = rw e
+list_judged h true s e = rw e
+list_judged h false s e = rw e
 
-pub accepted-list : AcceptedList
-accepted-list h listed s e = list-judged h listed s (asked-listed listed s e)
+pub accepted_list : AcceptedList
+accepted_list h listed s e = list_judged h listed s (asked_listed listed s e)
 
-pub fault-behind : FaultBehind
-fault-behind h s i k r = list-judged h true s ((asked by_default s (id_at extensions 0) version_cid).reached i k r)
+pub fault_behind : FaultBehind
+fault_behind h s i k r = list_judged h true s ((asked by_default s (id_at extensions 0) version_cid).reached i k r)
 
-pub fault-before : FaultBefore
+pub fault_before : FaultBefore
 unfolding services_reply_of list_reply
-fault-before h s r e none = rw (ap without_position (((asked by_default s (id_at extensions 0) version_cid).refused r).1 (e, none)))
+fault_before h s r e none = rw (ap without_position (((asked by_default s (id_at extensions 0) version_cid).refused r).1 (e, none)))
 
-pub refuses-exactly : RefusesExactly
+pub refuses_exactly : RefusesExactly
 unfolding list_at list_rules judge_from first_of fault_if
-refuses-exactly n k a listed s e = rw (list-judged (end n (Open a)) listed s e) (by-rule n a listed)
+refuses_exactly n k a listed s e = rw (list_judged (end n (Open a)) listed s e) (by_rule n a listed)
   where
-    by-rule : (n a : Version) (listed : Bool) → refused_with (list_at (Open a) (end n (Open a)) listed).answer ≡ number_refused (expected n k a listed)
-    by-rule V1 V1 listed = refl
-    by-rule V1 V2 listed = refl
-    by-rule V2 V1 true = refl
-    by-rule V2 V1 false = refl
-    by-rule V2 V2 true = refl
-    by-rule V2 V2 false = refl
+    by_rule : (n a : Version) (listed : Bool) → refused_with (list_at (Open a) (end n (Open a)) listed).answer ≡ number_refused (expected n k a listed)
+    by_rule V1 V1 listed = refl
+    by_rule V1 V2 listed = refl
+    by_rule V2 V1 true = refl
+    by_rule V2 V1 false = refl
+    by_rule V2 V2 true = refl
+    by_rule V2 V2 false = refl

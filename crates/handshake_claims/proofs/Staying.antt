@@ -19,8 +19,8 @@ use Rattle.services_query.specs.declared.ListedAnswer.{ListedAnswer}
 use Rattle.services_query.specs.declared.ListedAnswer.TheVariants as list
 use Rattle.handshake.specs.Commands.{role_of}
 use Rattle.host.specs.Host.{list_at, list_reply, version_asked, services_reply_of, answered_at, failed_at, answered_by, version_reply_of, reply_role, receive_by, receive_of}
-use Rattle.modem.specs.Modem.{at, listed_stage, services_of, can_answer, version_of_command, other_at, command_by, command_of, command_rules, receive_by as commanded_by, receive_of as modem_receives}
-use Rattle.handshake_claims.specs.Calls.{host-opens, host-closes, host-receives, host-asks, host_after, host_after_all, modem-opens, modem-closes, modem-receives, modem_after, modem_after_all}
+use Rattle.modem.specs.Modem.{at, listed_stage, services_of, can_answer, version_of_command, other_at, command_by, command_of, command_rules, receive_by as commanded_by, receive_of as modem_receive_of}
+use Rattle.handshake_claims.specs.Calls.{host_opens, host_closes, host_receives, host_asks, host_after, host_after_all, modem_opens, modem_closes, modem_receives, modem_after, modem_after_all}
 use Rattle.host.specs.declared.HostStage.TheVariants as host
 use Rattle.host.specs.declared.Host.{Host}
 use Rattle.host.specs.declared.HostStep.{HostStep}
@@ -37,68 +37,68 @@ either h true x y p q = p
 either h false x y p q = q
 
 module _ (h : Host) (v : Version) (e : h.stage ≡ host.Settled v) where
-  by-list : (a : ListedAnswer) → (list_reply h a).host ≡ h
+  by_list : (a : ListedAnswer) → (list_reply h a).host ≡ h
   unfolding list_reply list_at
-  by-list list.Listed = rw e
-  by-list list.NotListed = rw e
-  by-list (list.Refused r) = refl
+  by_list list.Listed = rw e
+  by_list list.NotListed = rw e
+  by_list (list.Refused r) = refl
 
-  by-payload : (a : VersionInfoRead) → (answered_by h a).host ≡ h
+  by_payload : (a : VersionInfoRead) → (answered_by h a).host ≡ h
   unfolding answered_by answered_at
-  by-payload (read.Info i) = rw e
-  by-payload (read.Refused r) = refl
+  by_payload (read.Info i) = rw e
+  by_payload (read.Refused r) = refl
 
-  by-failure : (failed_at h.stage h).host ≡ h
+  by_failure : (failed_at h.stage h).host ≡ h
   unfolding failed_at
-  by-failure = rw e
+  by_failure = rw e
 
-  keeps-list : (status : ℕ) (s : List ℕ) → (services_reply_of h status s).host ≡ h
+  keeps_list : (status : ℕ) (s : List ℕ) → (services_reply_of h status s).host ≡ h
   unfolding services_reply_of
-  keeps-list status s = either h (eqb status 0) _ _ (by-list (version_asked s)) refl
+  keeps_list status s = either h (eqb status 0) _ _ (by_list (version_asked s)) refl
 
-  keeps-version : (status : ℕ) (s : List ℕ) → (version_reply_of h status s).host ≡ h
+  keeps_version : (status : ℕ) (s : List ℕ) → (version_reply_of h status s).host ≡ h
   unfolding version_reply_of
-  keeps-version status s = either h (eqb status 0) _ _ (by-payload (read_of s)) by-failure
+  keeps_version status s = either h (eqb status 0) _ _ (by_payload (read_of s)) by_failure
 
-  keeps-message : (k : Role) (status : ℕ) (s : List ℕ) → (receive_by k h status s).host ≡ h
+  keeps_message : (k : Role) (status : ℕ) (s : List ℕ) → (receive_by k h status s).host ≡ h
   unfolding receive_by
-  keeps-message role.Services status s = keeps-list status s
-  keeps-message role.Version status s = keeps-version status s
-  keeps-message role.Other status s = refl
+  keeps_message role.Services status s = keeps_list status s
+  keeps_message role.Version status s = keeps_version status s
+  keeps_message role.Other status s = refl
 
-pub host-stays : HostStays
+pub host_stays : HostStays
 unfolding host_after_all host_after receive_of
-host-stays h v e [] q = refl
-host-stays h v e (host-opens a ∷ cs) q = absurd q
-host-stays h v e (host-closes ∷ cs) q = absurd q
-host-stays h v e (host-receives m s ∷ cs) q = rw (keeps-message h v e (reply_role m) m.word s) (host-stays h v e cs q)
-host-stays h v e (host-asks out ∷ cs) q = host-stays h v e cs q
+host_stays h v e [] q = refl
+host_stays h v e (host_opens a ∷ cs) q = absurd q
+host_stays h v e (host_closes ∷ cs) q = absurd q
+host_stays h v e (host_receives m s ∷ cs) q = rw (keeps_message h v e (reply_role m) m.word s) (host_stays h v e cs q)
+host_stays h v e (host_asks out ∷ cs) q = host_stays h v e cs q
 
 -- ---- the modem
 
 module _ (m : Modem) (v : Version) (e : m.stage ≡ modem.Settled v) where
-  keeps-services : (c : Carried) → (services_of m c).modem ≡ m
+  keeps_services : (c : Carried) → (services_of m c).modem ≡ m
   unfolding services_of
-  keeps-services c = let q : listed_stage m.stage ≡ m.stage = rw e in ap (at m) q
+  keeps_services c = let q : listed_stage m.stage ≡ m.stage = rw e in ap (at m) q
 
-  refuses-version : (type : ℕ) → can_answer m type ≡ false
+  refuses_version : (type : ℕ) → can_answer m type ≡ false
   unfolding can_answer
-  refuses-version type = rw e
+  refuses_version type = rw e
 
-  by-role : (k : Role) (c : Carried) (type : ℕ) (s out : List ℕ) → (command_by k m c type s out).step.modem ≡ m
+  by_role : (k : Role) (c : Carried) (type : ℕ) (s out : List ℕ) → (command_by k m c type s out).step.modem ≡ m
   unfolding command_by version_of_command other_at
-  by-role role.Services c type s out = keeps-services c
-  by-role role.Version c type s out = rw (refuses-version type)
-  by-role role.Other c type s out = rw e
+  by_role role.Services c type s out = keeps_services c
+  by_role role.Version c type s out = rw (refuses_version type)
+  by_role role.Other c type s out = rw e
 
-  by-verdict : (d : Verdict) (h : MessageHeader) (s out : List ℕ) → (commanded_by d m h s out).step.modem ≡ m
+  by_verdict : (d : Verdict) (h : MessageHeader) (s out : List ℕ) → (commanded_by d m h s out).step.modem ≡ m
   unfolding commanded_by command_of
-  by-verdict Fits h s out = by-role (role_of (kind_of h.service h.cid)) (kind_of h.service h.cid) h.word s out
-  by-verdict (Fault r) h s out = refl
+  by_verdict Fits h s out = by_role (role_of (kind_of h.service h.cid)) (kind_of h.service h.cid) h.word s out
+  by_verdict (Fault r) h s out = refl
 
-pub modem-stays : ModemStays
-unfolding modem_after_all modem_after modem_receives
-modem-stays m v e [] q = refl
-modem-stays m v e (modem-opens ∷ cs) q = absurd q
-modem-stays m v e (modem-closes ∷ cs) q = absurd q
-modem-stays m v e (modem-receives h s out ∷ cs) q = rw (by-verdict m v e (judge (command_rules h)) h s out) (modem-stays m v e cs q)
+pub modem_stays : ModemStays
+unfolding modem_after_all modem_after modem_receive_of
+modem_stays m v e [] q = refl
+modem_stays m v e (modem_opens ∷ cs) q = absurd q
+modem_stays m v e (modem_closes ∷ cs) q = absurd q
+modem_stays m v e (modem_receives h s out ∷ cs) q = rw (by_verdict m v e (judge (command_rules h)) h s out) (modem_stays m v e cs q)

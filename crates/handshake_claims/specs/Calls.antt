@@ -5,7 +5,7 @@ use Rattle.protocol.specs.declared.Version.TheVariants.{V2}
 use Rattle.message.specs.declared.MessageHeader.{MessageHeader}
 use Rattle.handshake.specs.Versions.{above, is_later}
 use Rattle.host.specs.Host.{opened_of, closed_of, receive_of}
-use Rattle.modem.specs.Modem.{start_of, receive_of as modem_receives}
+use Rattle.modem.specs.Modem.{start_of, receive_of as modem_receive_of}
 use Rattle.host.specs.declared.HostStage.{HostStage}
 use Rattle.host.specs.declared.HostStage.TheVariants as host
 use Rattle.host.specs.declared.Host.{Host}
@@ -17,16 +17,16 @@ use Rattle.modem.specs.declared.Modem.{Modem}
 
 -- OPEN with an advertised number, CLOSE, a message as a header and its information, and what it asks next, with the lent output
 pub data HostCall : Type 0 where
-  host-opens : ℕ → HostCall
-  host-closes : HostCall
-  host-receives : MessageHeader → List ℕ → HostCall
-  host-asks : List ℕ → HostCall
+  host_opens : ℕ → HostCall
+  host_closes : HostCall
+  host_receives : MessageHeader → List ℕ → HostCall
+  host_asks : List ℕ → HostCall
 
 unfoldable pub host_after : Host → HostCall → Host
-host_after h (host-opens advertised) = (opened_of h advertised).host
-host_after h host-closes = closed_of h
-host_after h (host-receives m s) = (receive_of h m s).host
-host_after h (host-asks out) = h
+host_after h (host_opens advertised) = (opened_of h advertised).host
+host_after h host_closes = closed_of h
+host_after h (host_receives m s) = (receive_of h m s).host
+host_after h (host_asks out) = h
 
 unfoldable pub host_after_all : Host → List HostCall → Host
 host_after_all h [] = h
@@ -35,10 +35,10 @@ host_after_all h (c ∷ cs) = host_after_all (host_after h c) cs
 -- neither OPEN nor CLOSE is among the calls
 abbrev pub HostQuiet : List HostCall → Type 0
 HostQuiet [] = Unit
-HostQuiet (host-opens advertised ∷ cs) = ⊥
-HostQuiet (host-closes ∷ cs) = ⊥
-HostQuiet (host-receives m s ∷ cs) = HostQuiet cs
-HostQuiet (host-asks out ∷ cs) = HostQuiet cs
+HostQuiet (host_opens advertised ∷ cs) = ⊥
+HostQuiet (host_closes ∷ cs) = ⊥
+HostQuiet (host_receives m s ∷ cs) = HostQuiet cs
+HostQuiet (host_asks out ∷ cs) = HostQuiet cs
 
 -- what holds of a host at each stage: only one of 2.00 asks VERSION, and none settles above its native version
 abbrev pub HostSound : Version → HostStage → Type 0
@@ -51,14 +51,14 @@ HostSound native (host.Settled v) = above v native ≡ false
 
 -- a header, its information and the lent output
 pub data ModemCall : Type 0 where
-  modem-opens : ModemCall
-  modem-closes : ModemCall
-  modem-receives : MessageHeader → List ℕ → List ℕ → ModemCall
+  modem_opens : ModemCall
+  modem_closes : ModemCall
+  modem_receives : MessageHeader → List ℕ → List ℕ → ModemCall
 
 unfoldable pub modem_after : Modem → ModemCall → Modem
-modem_after m modem-opens = start_of m
-modem_after m modem-closes = start_of m
-modem_after m (modem-receives h s out) = (modem_receives m h s out).step.modem
+modem_after m modem_opens = start_of m
+modem_after m modem_closes = start_of m
+modem_after m (modem_receives h s out) = (modem_receive_of m h s out).step.modem
 
 unfoldable pub modem_after_all : Modem → List ModemCall → Modem
 modem_after_all m [] = m
@@ -66,9 +66,9 @@ modem_after_all m (c ∷ cs) = modem_after_all (modem_after m c) cs
 
 abbrev pub ModemQuiet : List ModemCall → Type 0
 ModemQuiet [] = Unit
-ModemQuiet (modem-opens ∷ cs) = ⊥
-ModemQuiet (modem-closes ∷ cs) = ⊥
-ModemQuiet (modem-receives h s out ∷ cs) = ModemQuiet cs
+ModemQuiet (modem_opens ∷ cs) = ⊥
+ModemQuiet (modem_closes ∷ cs) = ⊥
+ModemQuiet (modem_receives h s out ∷ cs) = ModemQuiet cs
 
 -- what holds of a modem at each stage, by its native and advertised versions and by whether it lists VERSION:
 -- it settles neither above the one nor below the other, and at 2.00 only where VERSION can be asked

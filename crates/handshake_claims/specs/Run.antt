@@ -4,7 +4,7 @@
 -- Each call is given its end as the one before left it.
 use Rattle.std.specs.Prelude.{ℕ, ◌≤◌, ◌<◌, ◌≡◌, Bool, false, not, cond, ◌&&◌, List, [], length, take}
 use Rattle.protocol.specs.Refusal.{refusal, above_host, version_not_listed}
-use Rattle.protocol.specs.MessageType.{COMMAND, COMMAND-DONE, QUERY}
+use Rattle.protocol.specs.MessageType.{COMMAND, COMMAND_DONE, QUERY}
 use Rattle.protocol.specs.Service.{id_at, basic_connect, extensions, kind_of}
 use Rattle.protocol.specs.declared.Version.{Version}
 use Rattle.protocol.specs.declared.Version.TheVariants.{V1}
@@ -17,7 +17,7 @@ use Rattle.handshake.specs.Versions.{info_of, larger, lower, above, is_later}
 use Rattle.handshake.specs.Commands.{services_cid, version_cid, role_of, version_listed}
 use Rattle.host.specs.Host.{end, unchanged, Asking, ask_of, receive_of}
 use Rattle.protocol.specs.Status.{no_device_support}
-use Rattle.modem.specs.Modem.{Commanding, receive_of as modem_receives}
+use Rattle.modem.specs.Modem.{Commanding, receive_of as modem_receive_of}
 use Rattle.handshake.specs.declared.Role.TheVariants as role
 use Rattle.host.specs.declared.HostStage.TheVariants as stage
 use Rattle.host.specs.declared.Host.{Host}
@@ -53,7 +53,7 @@ asks_version transaction s = query transaction (id_at extensions 0) version_cid 
 
 -- the COMMAND_DONE of a command
 abbrev pub reply_to : MessageHeader → ℕ → List ℕ → Message
-reply_to c status s = record { header = headed COMMAND-DONE c.transaction c.service c.cid status; information = s }
+reply_to c status s = record { header = headed COMMAND_DONE c.transaction c.service c.cid status; information = s }
 
 -- ---- what is sent
 
@@ -119,7 +119,7 @@ answered l h c arrived d services = both (after_reply h (reaches l.back (reply_o
 
 unfoldable pub taken : Line → Message → Sent → Host → Modem → List ℕ → List ℕ → Both
 taken l c nothing h m room services = both (unchanged h) m (sends c)
-taken l c (sends a) h m room services = answered l h c a.header (modem_receives m a.header a.information room) services
+taken l c (sends a) h m room services = answered l h c a.header (modem_receive_of m a.header a.information room) services
 
 unfoldable pub command_over : Line → Sent → Host → Modem → List ℕ → List ℕ → Both
 command_over l nothing h m room services = both (unchanged h) m nothing
@@ -174,8 +174,8 @@ pub record Settles (native_host native_modem version : Version) (command : Messa
   pub sent : b.sent ≡ sends command
   pub host : b.host.stage ≡ stage.Settled version
   pub modem : b.modem.stage ≡ modem_stage.Settled version
-  pub below-host : above version native_host ≡ false
-  pub below-modem : above version native_modem ≡ false
+  pub below_host : above version native_host ≡ false
+  pub below_modem : above version native_modem ≡ false
 
 -- a host that refuses is as it was opened, the modem still waits, and DEVICE_SERVICES was the last command
 pub record Refuses (native advertised : Version) (number transaction : ℕ) (b : Both) : Type 0 where
@@ -205,11 +205,11 @@ pub record Ready (host modem advertised : Version) (listed : Bool) (l₁ l₂ : 
   pub below : above advertised modem ≡ false
   pub list : version_listed services ≡ listed_as listed
   pub other : OtherCommand given
-  pub first-numbered : 0 < t₁
-  pub second-numbered : 0 < t₂
-  pub services-passes : Passes l₁ (asks_services t₁) 0 services
-  pub version-passes : Passes l₂ (asks_version t₂ (bytes_of (info_of host))) 0 (bytes_of (info_of (larger advertised (lower host modem))))
-  pub served-passes : Passes l₂ given 0 services
-  pub unknown-passes : Passes l₂ given no_device_support []
-  pub room-host : 4 ≤ length room.host
-  pub room-modem : 4 ≤ length room.modem
+  pub first_numbered : 0 < t₁
+  pub second_numbered : 0 < t₂
+  pub services_passes : Passes l₁ (asks_services t₁) 0 services
+  pub version_passes : Passes l₂ (asks_version t₂ (bytes_of (info_of host))) 0 (bytes_of (info_of (larger advertised (lower host modem))))
+  pub served_passes : Passes l₂ given 0 services
+  pub unknown_passes : Passes l₂ given no_device_support []
+  pub room_host : 4 ≤ length room.host
+  pub room_modem : 4 ≤ length room.modem

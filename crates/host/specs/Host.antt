@@ -4,7 +4,7 @@
 use Rattle.std.specs.Prelude.{ℕ, Bool, true, false, not, cond, ◌&&◌, List, [], ◌∷◌, eqb}
 use Rattle.protocol.specs.Refusal.{above_host, version_not_listed}
 use Rattle.protocol.specs.Verdict.{Rule, rule, judge, Writing}
-use Rattle.protocol.specs.MessageType.{COMMAND-DONE}
+use Rattle.protocol.specs.MessageType.{COMMAND_DONE}
 use Rattle.protocol.specs.Service.{id_at, extensions, kind_of}
 use Rattle.protocol.specs.declared.Refusal.{Refusal}
 use Rattle.protocol.specs.declared.Verdict.{Verdict}
@@ -169,7 +169,7 @@ version_reply_of h status s = cond (eqb status 0) (answered_by h (read_of s)) (f
 
 -- only a COMMAND_DONE is a reply
 unfoldable pub reply_role : MessageHeader → Role
-reply_role m = cond (eqb m.message_type COMMAND-DONE) (role_of (kind_of m.service m.cid)) role.Other
+reply_role m = cond (eqb m.message_type COMMAND_DONE) (role_of (kind_of m.service m.cid)) role.Other
 
 -- with its status and information; what is no reply to DEVICE_SERVICES or VERSION changes nothing
 unfoldable pub receive_by : Role → Host → ℕ → List ℕ → HostStep

@@ -12,7 +12,7 @@ use lib.ListN.{length, get_or, set, take, drop, replicate, take-append-drop, len
 use lib.Seq.{sets, set-get_or, take_all, take_at, take-append-le, drop_at, drop-drop, drop-length}
 use Rattle.wire.specs.Numbers.{digits}
 use Rattle.wire.specs.Output.{over}
-use Rattle.wire.proofs.Laws.{sets_over, sets_then, four-to}
+use Rattle.wire.proofs.Laws.{sets_over, sets_then, four_to}
 use Rattle.protocol.specs.Service.{id_bytes}
 use Rattle.message.specs.declared.MessageHeader.{MessageHeader}
 use Rattle.assembler.specs.Assembly.{assembly_of, empty, step_of, lent_step_of}
@@ -21,24 +21,24 @@ use Rattle.assembler.specs.declared.Assembly.{Assembly}
 use Rattle.assembler.proofs.Left.{begun, joined, Left, nothing, pending}
 use Rattle.lent.specs.LentAssembly.{assembly_size, buffer_in, message_bytes, count_bytes, progress_bytes, changed_in, cleared}
 
-pub length-message : (h : MessageHeader) → length (message_bytes h) ≡ 32
+pub length_message : (h : MessageHeader) → length (message_bytes h) ≡ 32
 unfolding message_bytes id_bytes
-length-message h = refl
+length_message h = refl
 
-pub length-progress : (p : Progress) → length (progress_bytes p) ≡ 48
+pub length_progress : (p : Progress) → length (progress_bytes p) ≡ 48
 unfolding progress_bytes message_bytes count_bytes id_bytes
-length-progress p = refl
+length_progress p = refl
 
 -- the front filled with zeros
-pub front-cleared : (m : List ℕ) → assembly_size ≤ length m → replicate (length (take assembly_size m)) 0 ++ drop assembly_size m ≡ cleared m
+pub front_cleared : (m : List ℕ) → assembly_size ≤ length m → replicate (length (take assembly_size m)) 0 ++ drop assembly_size m ≡ cleared m
 unfolding cleared over
-front-cleared m room =
+front_cleared m room =
     let e : length (take assembly_size m) ≡ assembly_size = length-take assembly_size m ∙ omega (arith, room) in
     ap (λ (k : ℕ). replicate k 0 ++ drop assembly_size m) e
 
 -- what stands behind the numbers of an assembly
-drop-front : (n : ℕ) (m r : List ℕ) → n ≤ length m → drop n (take n m ++ r) ≡ r
-drop-front n m r room = drop_at (take n m) r n (length-take n m ∙ omega (arith, room))
+drop_front : (n : ℕ) (m r : List ℕ) → n ≤ length m → drop n (take n m ++ r) ≡ r
+drop_front n m r room = drop_at (take n m) r n (length-take n m ∙ omega (arith, room))
 
 -- k bytes behind the first n given back, and then n put before them
 pub put_front : (n k : ℕ) (m b xs : List ℕ) {s : List ℕ} → n + k ≤ length m → length b ≡ k → length xs ≡ n → s ≡ sets (take n m ++ (b ++ drop k (drop n m))) 0 xs → s ≡ over (xs ++ b) m
@@ -50,7 +50,7 @@ put_front n k m b xs room eb ex e =
     e ∙ ap (λ (t : List ℕ). sets (take n m ++ (b ++ t)) 0 xs) (drop-drop k n m)
     ∙ sets_over xs (take n m ++ rest) fits
     ∙ ap (λ (j : ℕ). xs ++ drop j (take n m ++ rest)) ex
-    ∙ ap (λ (t : List ℕ). xs ++ t) (drop-front n m rest (omega (arith, room)))
+    ∙ ap (λ (t : List ℕ). xs ++ t) (drop_front n m rest (omega (arith, room)))
     ∙ sym (append_assoc xs b (drop (n + k) m))
     ∙ ap (λ (j : ℕ). (xs ++ b) ++ drop j m) (sym all)
 
@@ -59,8 +59,8 @@ pub put_back : (m b xs : List ℕ) {s : List ℕ} → assembly_size ≤ length m
     → s ≡ over (xs ++ b) m
 put_back m b xs room eb ex e = put_front 48 4096 m b xs room eb ex e
 
-pub length-buffer : (m : List ℕ) → assembly_size ≤ length m → length (buffer_in m) ≡ 4096
-length-buffer m room = length-take 4096 (drop 48 m) ∙ simp length-drop (omega (arith, room))
+pub length_buffer : (m : List ℕ) → assembly_size ≤ length m → length (buffer_in m) ≡ 4096
+length_buffer m room = length-take 4096 (drop 48 m) ∙ simp length-drop (omega (arith, room))
 
 -- ---- a number put back where it was read
 
@@ -71,8 +71,8 @@ lowest n x y l =
     let f : (x + 256 * y) / 256 ≡ y = omega (arith, l) in
     λ i. e i ∷ digits n (f i)
 
-four-digits : (a b c d : ℕ) → a < 256 → b < 256 → c < 256 → d < 256 → digits 4 (a + 256 * (b + 256 * (c + 256 * d))) ≡ a ∷ b ∷ c ∷ d ∷ []
-four-digits a b c d la lb lc ld =
+four_digits : (a b c d : ℕ) → a < 256 → b < 256 → c < 256 → d < 256 → digits 4 (a + 256 * (b + 256 * (c + 256 * d))) ≡ a ∷ b ∷ c ∷ d ∷ []
+four_digits a b c d la lb lc ld =
     let e : d % 256 ≡ d = omega (arith, ld) in
     lowest 3 a _ la
     ∙ ap (λ (t : List ℕ). a ∷ t) (lowest 2 b _ lb)
@@ -83,8 +83,8 @@ pub word_kept : (m : List ℕ) (at : ℕ) {a b c d : ℕ} → a ≡ get_or m at 
     → a < 256 → b < 256 → c < 256 → d < 256 → sets m at (digits 4 (a + 256 * (b + 256 * (c + 256 * d)))) ≡ m
 word_kept m at {a} {b} {c} {d} ea eb ec ed la lb lc ld =
     let same : (i x : ℕ) → x ≡ get_or m i 0 → m ≡ set m i x = λ i x e. sym (ap (set m i) e ∙ set-get_or m i 0) in
-    ap (sets m at) (four-digits a b c d la lb lc ld)
-    ∙ sym (four-to m at a b c d (same at a ea) (same (at + 1) b eb) (same (at + 2) c ec) (same (at + 3) d ed))
+    ap (sets m at) (four_digits a b c d la lb lc ld)
+    ∙ sym (four_to m at a b c d (same at a ea) (same (at + 1) b eb) (same (at + 2) c ec) (same (at + 3) d ed))
 
 -- what the memory holds already is put back behind what it holds already
 pub kept_then : (xs ys : List ℕ) (at k : ℕ) (m : List ℕ) → length xs ≡ k → sets m at xs ≡ m → sets m (at + k) ys ≡ m → sets m at (xs ++ ys) ≡ m
@@ -106,38 +106,38 @@ front_kept m r xs room n kept =
     sets_over xs (f ++ r) fits₁ ∙ ap (λ (k : ℕ). xs ++ drop k (f ++ r)) n ∙ ap (λ (t : List ℕ). t ++ drop 32 (f ++ r)) same ∙ take-append-drop 32 (f ++ r)
 
 -- where only the counts were put, the message was there before
-pub changed-all : (m r : List ℕ) (p q : Progress) → assembly_size ≤ length m → sets m 0 (message_bytes p.message) ≡ m → (q.next < 2) ⊎ (q.message ≡ p.message)
+pub changed_all : (m r : List ℕ) (p q : Progress) → assembly_size ≤ length m → sets m 0 (message_bytes p.message) ≡ m → (q.next < 2) ⊎ (q.message ≡ p.message)
     → changed_in q (take 48 m ++ r) ≡ sets (take 48 m ++ r) 0 (progress_bytes q)
 unfolding changed_in progress_bytes
-changed-all m r p q room kept (inl l) = rw (lt-ltb q.next 2 l)
-changed-all m r p q room kept (inr e) = by-test (ltb q.next 2)
+changed_all m r p q room kept (inl l) = rw (lt-ltb q.next 2 l)
+changed_all m r p q room kept (inr e) = by_test (ltb q.next 2)
   where
     s : List ℕ
     s = take 48 m ++ r
 
     put : sets s 32 (count_bytes q) ≡ sets s 0 (message_bytes q.message ++ count_bytes q)
     put =
-        let k : sets s 0 (message_bytes q.message) ≡ s = ap (λ (h : MessageHeader). sets s 0 (message_bytes h)) e ∙ front_kept m r (message_bytes p.message) room (length-message p.message) kept in
-        sets_then (message_bytes q.message) (count_bytes q) 0 32 s (length-message q.message) (sym k) refl
+        let k : sets s 0 (message_bytes q.message) ≡ s = ap (λ (h : MessageHeader). sets s 0 (message_bytes h)) e ∙ front_kept m r (message_bytes p.message) room (length_message p.message) kept in
+        sets_then (message_bytes q.message) (count_bytes q) 0 32 s (length_message q.message) (sym k) refl
 
-    by-test : (b : Bool) → cond b (sets s 0 (message_bytes q.message ++ count_bytes q)) (sets s 32 (count_bytes q)) ≡ sets s 0 (message_bytes q.message ++ count_bytes q)
-    by-test true = refl
-    by-test false = put
+    by_test : (b : Bool) → cond b (sets s 0 (message_bytes q.message ++ count_bytes q)) (sets s 32 (count_bytes q)) ≡ sets s 0 (message_bytes q.message ++ count_bytes q)
+    by_test true = refl
+    by_test false = put
 
 -- what feeding leaves is of one or the other kind
-pub left-kind : (a : Assembly) (s : List ℕ) (q : Progress) → Left a s q → (q.next < 2) ⊎ (q.message ≡ a.progress.message)
+pub left_kind : (a : Assembly) (s : List ℕ) (q : Progress) → Left a s q → (q.next < 2) ⊎ (q.message ≡ a.progress.message)
 unfolding empty
-left-kind a s q (nothing e) = inl (let z : q.next ≡ 0 = ap (λ (p : Progress). p.next) e in omega (arith, z))
-left-kind a s q (pending w (begun e v n c)) = inl (omega (arith, n))
-left-kind a s q (pending w (joined e n)) = inr e
+left_kind a s q (nothing e) = inl (let z : q.next ≡ 0 = ap (λ (p : Progress). p.next) e in omega (arith, z))
+left_kind a s q (pending w (begun e v n c)) = inl (omega (arith, n))
+left_kind a s q (pending w (joined e n)) = inr e
 
 -- a feed in the buffer of an assembly in memory is one of the whole buffer
-pub whole-step : (p : Progress) (m s : List ℕ) (room : ℕ) → assembly_size ≤ length m → lent_step_of p (buffer_in m) s room ≡ step_of (assembly_of p (buffer_in m)) s room
+pub whole_step : (p : Progress) (m s : List ℕ) (room : ℕ) → assembly_size ≤ length m → lent_step_of p (buffer_in m) s room ≡ step_of (assembly_of p (buffer_in m)) s room
 unfolding lent_step_of
-whole-step p m s room h =
-    let e = length-buffer m h in
+whole_step p m s room h =
+    let e = length_buffer m h in
     rw (le-ltb (length (buffer_in m)) 4096 (omega (arith, e)), take_all 4096 (buffer_in m) (omega (arith, e)))
 
-pub whole-over : (x b : List ℕ) → length x ≡ 4096 → length b ≡ 4096 → over x b ≡ x
+pub whole_over : (x b : List ℕ) → length x ≡ 4096 → length b ≡ 4096 → over x b ≡ x
 unfolding over
-whole-over x b e f = rw (e, ← f, drop-length b) (append-nil x)
+whole_over x b e f = rw (e, ← f, drop-length b) (append-nil x)

@@ -19,7 +19,7 @@ use Rattle.handshake_claims.specs.Run.{headed, listed_as}
 use Rattle.handshake.specs.declared.Role.TheVariants as role
 use Rattle.lent_claims.specs.Given.{WordsOfWidth, Bytes, message_words}
 use Rattle.lent_claims.proofs.AssemblyServes.{word_small}
-use Rattle.lent_claims.proofs.Fields.{bytes-of}
+use Rattle.lent_claims.proofs.Fields.{bytes_of_lem}
 
 -- ---- lists of services
 
@@ -37,30 +37,30 @@ pub listing : Bool → List ℕ
 listing true = with_version
 listing false = without
 
-pub listing-says : (b : Bool) → version_listed (listing b) ≡ listed_as b
+pub listing_says : (b : Bool) → version_listed (listing b) ≡ listed_as b
 unfolding listing with_version without listed_with verdict_with length_verdict open_length first_fault any_of element_verdict pair_verdict rules if_strict content_rules range_at element_at is_of has_cid holds id_at same_id extensions u32_at fault_if first_of judge_from
-listing-says true = refl
-listing-says false = refl
+listing_says true = refl
+listing_says false = refl
 
-pub listing-bytes : (b : Bool) → Bytes (listing b)
+pub listing_bytes : (b : Bool) → Bytes (listing b)
 unfolding listing with_version without extensions
-listing-bytes true = bytes-of with_version refl
-listing-bytes false = bytes-of without refl
+listing_bytes true = bytes_of_lem with_version refl
+listing_bytes false = bytes_of_lem without refl
 
 -- ---- headers, each in transaction 1
 
-bytes-basic : Bytes basic_connect
+bytes_basic : Bytes basic_connect
 unfolding basic_connect
-bytes-basic = bytes-of basic_connect refl
+bytes_basic = bytes_of_lem basic_connect refl
 
-bytes-extensions : Bytes extensions
+bytes_extensions : Bytes extensions
 unfolding extensions
-bytes-extensions = bytes-of extensions refl
+bytes_extensions = bytes_of_lem extensions refl
 
 -- a header with the id that the bytes s are, and numbers below 2 ^ 32
-header-small : (s : List ℕ) (t cid word : ℕ) → Bytes s → t < 2 ^ 32 → cid < 2 ^ 32 → word < 2 ^ 32 → WordsOfWidth (message_words (headed t 1 (id_at s 0) cid word))
+header_small : (s : List ℕ) (t cid word : ℕ) → Bytes s → t < 2 ^ 32 → cid < 2 ^ 32 → word < 2 ^ 32 → WordsOfWidth (message_words (headed t 1 (id_at s 0) cid word))
 unfolding id_at u32_at
-header-small s t cid word b lt lc lw =
+header_small s t cid word b lt lc lw =
     (lt, (omega arith, (word_small s 0 b, (word_small s 4 b, (word_small s 8 b, (word_small s 12 b, (lc, (lw, tt))))))))
 
 -- the command DEVICE_SERVICES, its reply of status 0, the query VERSION, its reply of status 1, and a command of no known CID
@@ -73,25 +73,25 @@ version type word = headed type 1 (id_at extensions 0) version_cid word
 abbrev pub other : MessageHeader
 other = headed COMMAND 1 (id_at basic_connect 0) 0 0
 
-pub services-small : (t : ℕ) → t < 2 ^ 32 → WordsOfWidth (message_words (services t))
-services-small t l = header-small basic_connect t services_cid 0 bytes-basic l (omega arith) (omega arith)
+pub services_small : (t : ℕ) → t < 2 ^ 32 → WordsOfWidth (message_words (services t))
+services_small t l = header_small basic_connect t services_cid 0 bytes_basic l (omega arith) (omega arith)
 
-pub version-small : (t w : ℕ) → t < 2 ^ 32 → w < 2 ^ 32 → WordsOfWidth (message_words (version t w))
-version-small t w l k = header-small extensions t version_cid w bytes-extensions l (omega arith) k
+pub version_small : (t w : ℕ) → t < 2 ^ 32 → w < 2 ^ 32 → WordsOfWidth (message_words (version t w))
+version_small t w l k = header_small extensions t version_cid w bytes_extensions l (omega arith) k
 
-pub other-small : WordsOfWidth (message_words other)
-other-small = header-small basic_connect COMMAND 0 0 bytes-basic (omega arith) (omega arith) (omega arith)
+pub other_small : WordsOfWidth (message_words other)
+other_small = header_small basic_connect COMMAND 0 0 bytes_basic (omega arith) (omega arith) (omega arith)
 
 -- ---- what they are to the handshake
 
-pub services-role : role_of (kind_of (id_at basic_connect 0) services_cid) ≡ role.Services
+pub services_role : role_of (kind_of (id_at basic_connect 0) services_cid) ≡ role.Services
 unfolding role_of role_of_kind kind_of among same_id id_at basic_connect extensions u32_at
-services-role = refl
+services_role = refl
 
-pub version-role : role_of (kind_of (id_at extensions 0) version_cid) ≡ role.Version
+pub version_role : role_of (kind_of (id_at extensions 0) version_cid) ≡ role.Version
 unfolding role_of role_of_kind kind_of among same_id id_at basic_connect extensions u32_at
-version-role = refl
+version_role = refl
 
-pub other-role : role_of (kind_of (id_at basic_connect 0) 0) ≡ role.Other
+pub other_role : role_of (kind_of (id_at basic_connect 0) 0) ≡ role.Other
 unfolding role_of role_of_kind kind_of among same_id id_at basic_connect extensions u32_at
-other-role = refl
+other_role = refl

@@ -10,11 +10,11 @@ use borrow.Author.Tests.{eqb-true, eqb-false, ne_eqb, le-ltb, lt-leb}
 use lib.Dec.{eqb}
 use Rattle.wire.specs.Numbers.{u32_at}
 use Rattle.protocol.specs.Refusal.{contradiction}
-use Rattle.protocol.specs.MessageType.{INDICATE-STATUS, is_fragmented}
+use Rattle.protocol.specs.MessageType.{INDICATE_STATUS, is_fragmented}
 use Rattle.protocol.specs.Verdict.{judge_from, fault_if, first_of, rule, judge}
 use Rattle.protocol.specs.declared.Verdict.TheVariants.{Fits}
-use Rattle.protocol.proofs.Tests.{and_both, cases-and, not-kept}
-use Rattle.protocol.proofs.Verdicts.{fits_kept, kept-fits}
+use Rattle.protocol.proofs.Tests.{and_both, cases_and, not_kept}
+use Rattle.protocol.proofs.Verdicts.{fits_kept, kept_fits}
 use Rattle.message.specs.Message.{most_transfer, first_length, word_at, message_at, wrong_word}
 use Rattle.assembler.specs.Assembly.{empty, step_of}
 use Rattle.assembler.specs.Run.{Piece, run_of}
@@ -25,14 +25,14 @@ use Rattle.lent_progress.specs.LentProgress.{is_none, stray_word, above_carried,
 
 -- ---- no message
 
-pub none-fits : progress_verdict empty.progress ≡ Fits
+pub none_fits : progress_verdict empty.progress ≡ Fits
 unfolding progress_verdict is_none empty judge_from fault_if first_of
-none-fits = refl
+none_fits = refl
 
 -- numbers that are all 0 beside a total of 0
-pub none-says : (p : Progress) → p.total ≡ 0 → is_none p ≡ true → p ≡ empty.progress
+pub none_says : (p : Progress) → p.total ≡ 0 → is_none p ≡ true → p ≡ empty.progress
 unfolding is_none empty
-none-says p t e =
+none_says p t e =
     let h = p.message in
     let ids = h.service.word0 + h.service.word1 + h.service.word2 + h.service.word3 in
     let headers = h.message_type + h.transaction + h.cid + h.word in
@@ -78,22 +78,22 @@ unfolding progress_verdict
 taken p = go (eqb p.total 0) refl
   where
     go : (b : Bool) → eqb p.total 0 ≡ b → cond b (judge (rule (not (is_none p)) contradiction 32 ∷ [])) (judge (pending_rules p)) ≡ Fits → Taken p
-    go true t e = none (none-says p (eqb-true p.total 0 t) (not-kept (is_none p) (fits_kept (rule (not (is_none p)) contradiction 32 ∷ []) e).0))
+    go true t e = none (none_says p (eqb-true p.total 0 t) (not_kept (is_none p) (fits_kept (rule (not (is_none p)) contradiction 32 ∷ []) e).0))
     go false t e = waiting (eqb-false p.total 0 t) e
 
 -- ---- words
 
 read_word : (s : List ℕ) → wrong_word (message_at s) ≡ false → stray_word (message_at s) ≡ false
 unfolding stray_word message_at word_at
-read_word s k = go (eqb (u32_at s 0) INDICATE-STATUS) refl
+read_word s k = go (eqb (u32_at s 0) INDICATE_STATUS) refl
   where
-    go : (b : Bool) → eqb (u32_at s 0) INDICATE-STATUS ≡ b → stray_word (message_at s) ≡ false
+    go : (b : Bool) → eqb (u32_at s 0) INDICATE_STATUS ≡ b → stray_word (message_at s) ≡ false
     go true e = rw e
     go false e = rw e (rw e at k)
 
-no-type : is_fragmented 0 ≡ true → ⊥
+no_type : is_fragmented 0 ≡ true → ⊥
 unfolding is_fragmented
-no-type e = let z : ◌≡◌ {A = ℕ} 0 1 = cc in absurd (omega arith)
+no_type e = let z : ◌≡◌ {A = ℕ} 0 1 = cc in absurd (omega arith)
 
 -- a message that was pending has the word of a first fragment
 kept_word : (p : Progress) → progress_verdict p ≡ Fits → is_fragmented p.message.message_type ≡ true → stray_word p.message ≡ false
@@ -101,37 +101,37 @@ unfolding empty
 kept_word p e known = go (taken p e)
   where
     go : Taken p → stray_word p.message ≡ false
-    go (none q) = absurd (no-type (rw q at known))
+    go (none q) = absurd (no_type (rw q at known))
     go (waiting t q) = (fits_kept (pending_rules p) q).1.0
 
 -- ---- one feed
 
-waits-fits : (p : Progress) → Waits p → stray_word p.message ≡ false → above_carried p ≡ false → progress_verdict p ≡ Fits
+waits_fits : (p : Progress) → Waits p → stray_word p.message ≡ false → above_carried p ≡ false → progress_verdict p ≡ Fits
 unfolding progress_verdict
-waits-fits p w word header_seen =
+waits_fits p w word header_seen =
     let some : p.total ≡ 0 → ⊥ = λ e. omega (arith, w.unfinished, e) in
     let begun : p.next ≡ 0 → ⊥ = λ e. omega (arith, w.begun, e) in
     rw (ne_eqb _ _ some)
-    (kept-fits (pending_rules p) (
+    (kept_fits (pending_rules p) (
       ap not w.known,
       (word, (le-ltb _ _ w.few, (ne_eqb _ _ begun, (lt-leb _ _ w.unfinished, (le-ltb _ _ w.declared, (le-ltb _ _ w.within, (header_seen, tt))))))),
     ))
 
-pub left-fits : (a : Assembly) (s : List ℕ) (p : Progress) → progress_verdict a.progress ≡ Fits → Left a s p → progress_verdict p ≡ Fits
+pub left_fits : (a : Assembly) (s : List ℕ) (p : Progress) → progress_verdict a.progress ≡ Fits → Left a s p → progress_verdict p ≡ Fits
 unfolding above_carried
-left-fits a s p e (nothing q) = rw q none-fits
-left-fits a s p e (pending w (begun q v n c)) =
-    waits-fits p w (rw q (read_word s (rw q at v))) (cases-and (eqb p.next 1) _ (inr (le-ltb most_transfer (first_length p.message.message_type + p.gathered) c)))
-left-fits a s p e (pending w (joined q n)) =
+left_fits a s p e (nothing q) = rw q none_fits
+left_fits a s p e (pending w (begun q v n c)) =
+    waits_fits p w (rw q (read_word s (rw q at v))) (cases_and (eqb p.next 1) _ (inr (le-ltb most_transfer (first_length p.message.message_type + p.gathered) c)))
+left_fits a s p e (pending w (joined q n)) =
     let more : p.next ≡ 1 → ⊥ = λ k. omega (arith, n, k) in
-    waits-fits p w (rw q (kept_word a.progress e (rw q at w.known))) (cases-and (eqb p.next 1) _ (inl (ne_eqb p.next 1 more)))
+    waits_fits p w (rw q (kept_word a.progress e (rw q at w.known))) (cases_and (eqb p.next 1) _ (inl (ne_eqb p.next 1 more)))
 
 -- ---- a run
 
 run_fits : (a : Assembly) (ps : List Piece) → progress_verdict a.progress ≡ Fits → progress_verdict (run_of a ps).end.progress ≡ Fits
 unfolding run_of
 run_fits a [] e = e
-run_fits a (p ∷ ps) e = run_fits (step_of a p.bytes p.room).assembly ps (left-fits a p.bytes _ e (left a p.bytes p.room))
+run_fits a (p ∷ ps) e = run_fits (step_of a p.bytes p.room).assembly ps (left_fits a p.bytes _ e (left a p.bytes p.room))
 
-pub reached-fits : (ps : List Piece) → progress_verdict (run_of empty ps).end.progress ≡ Fits
-reached-fits ps = run_fits empty ps none-fits
+pub reached_fits : (ps : List Piece) → progress_verdict (run_of empty ps).end.progress ≡ Fits
+reached_fits ps = run_fits empty ps none_fits

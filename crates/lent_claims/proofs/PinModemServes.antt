@@ -9,7 +9,7 @@ use Rattle.protocol.specs.declared.Verdict.TheVariants.{Fits}
 use Rattle.protocol.specs.declared.Written.{Written}
 use Rattle.protocol.specs.declared.Written.TheVariants as written
 use Rattle.message.specs.declared.MessageHeader.{MessageHeader}
-use Rattle.handshake_claims.specs.Calls.{ModemCall, modem-opens, modem-closes, modem-receives}
+use Rattle.handshake_claims.specs.Calls.{ModemCall, modem_opens, modem_closes, modem_receives}
 use Rattle.modem.specs.Modem as modem
 use Rattle.modem.specs.Modem.{Commanding, start_of}
 use Rattle.modem.specs.declared.Modem.{Modem}
@@ -46,7 +46,7 @@ module _ (m p : List ℕ) (x y : Modem) (t : Table) (H : end.Holds m x) (K : end
   Kept v = Holds (pin_memory (kept_modem v.serving m) (kept_pins v.serving p)) (pin_modem v.serving.modem v.serving.table)
 
   after : pins.PinsHold (sets p 0 (table_bytes (enter_of t s).table)) (enter_of t s).table
-  after = pins.kept-holds p (enter_of t s).table P.long (pins.entry-fits t s P.fits)
+  after = pins.kept_holds p (enter_of t s).table P.long (pins.entry_fits t s P.fits)
 
   by_written : (w : Written) (out : List ℕ) (status : ℕ) → Kept (record { serving = reply_by w x t y (enter_of t s).table status; output = out })
   by_written (written.Length n) out status = record { modem = K; pins = after }
@@ -55,41 +55,41 @@ module _ (m p : List ℕ) (x y : Modem) (t : Table) (H : end.Holds m x) (K : end
   by_answer : (a : PinAnswer) (out : List ℕ) → (enter_of t s).answer ≡ a → Kept (serve_by a x t y (enter_of t s).table out)
   unfolding serve_by reply_of
   by_answer (pin.Info status i) out e = by_written (write_of i out).answer (write_of i out).output status
-  by_answer (pin.Failed status) out e = record { modem = K; pins = pins.hidden-holds p t s P (λ h. rw e at h) }
-  by_answer (pin.Refused r) out e = record { modem = K; pins = pins.hidden-holds p t s P (λ h. rw e at h) }
+  by_answer (pin.Failed status) out e = record { modem = K; pins = pins.hidden_holds p t s P (λ h. rw e at h) }
+  by_answer (pin.Refused r) out e = record { modem = K; pins = pins.hidden_holds p t s P (λ h. rw e at h) }
 
-  entry-alike : (out : List ℕ) → Alike (replied (served_in m p x y s out)) (served (serve_of x y t s out))
+  entry_alike : (out : List ℕ) → Alike (replied (served_in m p x y s out)) (served (serve_of x y t s out))
   unfolding served_in serve_of
-  entry-alike out = rw (P.takes.0, P.takes.1) (refl, by_answer (enter_of t s).answer out refl)
+  entry_alike out = rw (P.takes.0, P.takes.1) (refl, by_answer (enter_of t s).answer out refl)
 
 -- ---- any call
 
-message-alike : (m p : List ℕ) (x : Modem) (t : Table) (h : MessageHeader) (s out : List ℕ) → end.Holds m x → pins.PinsHold p t
+message_alike : (m p : List ℕ) (x : Modem) (t : Table) (h : MessageHeader) (s out : List ℕ) → end.Holds m x → pins.PinsHold p t
     → Alike (replied (receive_in m p h s out)) (served (receive_of x t h s out))
 unfolding receive_in held_in receive_of modem_in modem_call
-message-alike m p x t h s out H P = rw (H.2.0, H.2.1) (go (is_entry h c.step.answer))
+message_alike m p x t h s out H P = rw (H.2.0, H.2.1) (go (is_entry h c.step.answer))
   where
     c : Commanding
     c = modem.receive_of x h s out
 
     K : end.Holds (sets m 0 (modem_bytes c.step.modem)) c.step.modem
-    K = end.kept-holds m c.step.modem H.0 (end.one-sound x (modem-receives h s out) H.1)
+    K = end.kept_holds m c.step.modem H.0 (end.one_sound x (modem_receives h s out) H.1)
 
     go : (b : Bool) → Alike (replied (commanded_by b m p x c s)) (served (receive_by b c x t s))
-    go true = entry-alike m p x c.step.modem t H K P s c.output
+    go true = entry_alike m p x c.step.modem t H K P s c.output
     go false = (refl, record { modem = K; pins = P })
 
-restart-alike : (m p : List ℕ) (x : Modem) (t : Table) → end.Holds m x → pins.PinsHold p t → Alike (restarted (restart_in m) p) (turn (restarts Fits) (pin_modem (start_of x) t))
+restart_alike : (m p : List ℕ) (x : Modem) (t : Table) → end.Holds m x → pins.PinsHold p t → Alike (restarted (restart_in m) p) (turn (restarts Fits) (pin_modem (start_of x) t))
 unfolding restart_in modem_in
-restart-alike m p x t H P = rw (H.2.0, H.2.1) (refl, record { modem = end.kept-holds m (start_of x) H.0 (H.1.0, tt); pins = P })
+restart_alike m p x t H P = rw (H.2.0, H.2.1) (refl, record { modem = end.kept_holds m (start_of x) H.0 (H.1.0, tt); pins = P })
 
 one_alike : (m : PinModemMemory) (e : PinModem) (c : ModemCall) → Holds m e → Alike (pin_modem_call_in m c) (pin_modem_call e c)
 unfolding pin_modem_call_in pin_modem_call
-one_alike m e modem-opens H = restart-alike m.modem m.pins e.modem e.table H.modem H.pins
-one_alike m e modem-closes H = restart-alike m.modem m.pins e.modem e.table H.modem H.pins
-one_alike m e (modem-receives h s out) H = message-alike m.modem m.pins e.modem e.table h s out H.modem H.pins
+one_alike m e modem_opens H = restart_alike m.modem m.pins e.modem e.table H.modem H.pins
+one_alike m e modem_closes H = restart_alike m.modem m.pins e.modem e.table H.modem H.pins
+one_alike m e (modem_receives h s out) H = message_alike m.modem m.pins e.modem e.table h s out H.modem H.pins
 
-pub pin-modem-memory-serves : PinModemMemoryServes
-pin-modem-memory-serves m p l k native advertised services x e rows w f cs =
+pub pin_modem_memory_serves : PinModemMemoryServes
+pin_modem_memory_serves m p l k native advertised services x e rows w f cs =
     let r = run_holds pin_modem_call pin_modem_call_in Holds one_alike _ _ cs (record { modem = end.made_holds m l native advertised services x e; pins = pins.made_holds p k rows w f }) in
     record { answers = r.0; held = record { modem = r.1.modem.2; pins = r.1.pins.takes } }

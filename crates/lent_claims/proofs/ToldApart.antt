@@ -45,31 +45,31 @@ module _ (P : ℕ → Type 0) where
   says_first Fits w x y = y
   says_first (Fault r) w x y = x
 
-  says-from : (v : Verdict) (rs : List Rule) → Says v → Each rs → Says (judge_from v rs)
+  says_from : (v : Verdict) (rs : List Rule) → Says v → Each rs → Says (judge_from v rs)
   unfolding judge_from
-  says-from v [] x y = x
-  says-from v (r ∷ rs) x y =
-      says-from (first_of v (fault_if r.broken r.number r.place)) rs
+  says_from v [] x y = x
+  says_from v (r ∷ rs) x y =
+      says_from (first_of v (fault_if r.broken r.number r.place)) rs
       (says_first v (fault_if r.broken r.number r.place) x (says_if r.broken r.number r.place y.0)) y.1
 
   says : (rs : List Rule) → Each rs → Says (judge rs)
-  says rs y = says-from Fits rs tt y
+  says rs y = says_from Fits rs tt y
 
 -- ---- the memory's
 
 abbrev Ten : ℕ → Type 0
 Ten n = n ≡ contradiction
 
-progress-says : (p : Progress) → Says Ten (progress_verdict p)
+progress_says : (p : Progress) → Says Ten (progress_verdict p)
 unfolding progress_verdict
-progress-says p = go (eqb p.total 0)
+progress_says p = go (eqb p.total 0)
   where
     go : (b : Bool) → Says Ten (cond b (judge (rule (not (is_none p)) contradiction 32 ∷ [])) (judge (pending_rules p)))
     go true = says Ten (rule (not (is_none p)) contradiction 32 ∷ []) (refl, tt)
     go false = says Ten (pending_rules p) (refl, (refl, (refl, (refl, (refl, (refl, (refl, (refl, tt))))))))
 
-memory-ten : (p : Progress) (r : Refusal) → progress_verdict p ≡ Fault r → r.number ≡ contradiction
-memory-ten p r e = rw e at (progress-says p)
+memory_ten : (p : Progress) (r : Refusal) → progress_verdict p ≡ Fault r → r.number ≡ contradiction
+memory_ten p r e = rw e at (progress_says p)
 
 -- ---- the piece's
 
@@ -81,9 +81,9 @@ Other (Pending d) = Unit
 Other (Complete m n d) = Unit
 Other (Refused r) = NotTen r.number
 
-gather-other : (a : Assembly) (xs : List ℕ) (d : Bool) (room : ℕ) → Other (gather_of a xs d room).answer
+gather_other : (a : Assembly) (xs : List ℕ) (d : Bool) (room : ℕ) → Other (gather_of a xs d room).answer
 unfolding gather_of refused waiting completed
-gather-other a xs d room = go (eqb (a.progress.next + 1) a.progress.total) (ltb room a.progress.information_length)
+gather_other a xs d room = go (eqb (a.progress.next + 1) a.progress.total) (ltb room a.progress.information_length)
   where
     go : (last small : Bool)
         → Other (cond last (cond small (refused (refusal output_too_small a.progress.information_length)) (completed a xs d)) (waiting (grown a xs) d)).answer
@@ -97,17 +97,17 @@ FragmentSays (fragment.First h f) = Unit
 FragmentSays (fragment.Later h) = Unit
 FragmentSays (fragment.Refused r) = NotTen r.number
 
-header-says : (s : List ℕ) → Says NotTen (judge (header_rules s))
-header-says s =
+header_says : (s : List ℕ) → Says NotTen (judge (header_rules s))
+header_says s =
     says NotTen (header_rules s)
     ((λ e. omega (arith, e)), ((λ e. omega (arith, e)), ((λ e. omega (arith, e)), ((λ e. omega (arith, e)), ((λ e. omega (arith, e)), ((λ e. omega (arith, e)), tt))))))
 
 first_says : (s : List ℕ) → Says NotTen (judge (first_rules s))
 first_says s = says NotTen (first_rules s) ((λ e. omega (arith, e)), ((λ e. omega (arith, e)), ((λ e. omega (arith, e)), ((λ e. omega (arith, e)), tt))))
 
-fragment-says : (s : List ℕ) → FragmentSays (fragment_of s)
+fragment_says : (s : List ℕ) → FragmentSays (fragment_of s)
 unfolding fragment_of fragment_by header_of header_by opened_by first_header_of first_by
-fragment-says s = go (judge (header_rules s)) (header-says s)
+fragment_says s = go (judge (header_rules s)) (header_says s)
   where
     opened : (v : Verdict) → Says NotTen v → FragmentSays (opened_by (header_at s) (first_by v s))
     opened Fits x = tt
@@ -123,21 +123,21 @@ fragment-says s = go (judge (header_rules s)) (header-says s)
 
 step_other : (a : Assembly) (s : List ℕ) (room : ℕ) → Other (step_of a s room).answer
 unfolding step_of step_by judged_of judged_by join_of refused
-step_other a s room = go (fragment_of s) (fragment-says s)
+step_other a s room = go (fragment_of s) (fragment_says s)
   where
     joined : (h : FragmentHeader) (v : Verdict) → Says NotTen v → Other (step_by a.bytes s room (join_of v a.progress)).answer
-    joined h Fits x = gather-other (assembly_of a.progress (begun_bytes false a.bytes)) (drop 20 s) false room
+    joined h Fits x = gather_other (assembly_of a.progress (begun_bytes false a.bytes)) (drop 20 s) false room
     joined h (Fault r) x = x
 
     go : (f : Fragment) → FragmentSays f → Other (step_by a.bytes s room (judged_by a.progress (length s) f)).answer
     go (fragment.First h f) x =
-        gather-other (assembly_of (begun_progress h f) (begun_bytes (is_pending a.progress) a.bytes)) (drop (first_length h.message_type) s) (is_pending a.progress) room
+        gather_other (assembly_of (begun_progress h f) (begun_bytes (is_pending a.progress) a.bytes)) (drop (first_length h.message_type) s) (is_pending a.progress) room
     go (fragment.Later h) x =
         joined h (judge (join_rules a.progress h (length s))) (says NotTen (join_rules a.progress h (length s)) ((λ e. omega (arith, e)), ((λ e. omega (arith, e)), tt)))
     go (fragment.Refused r) x = x
 
-piece-other : (a : Assembly) (s : List ℕ) (room : ℕ) (r : Refusal) → (step_of a s room).answer ≡ Refused r → r.number ≡ contradiction → ⊥
-piece-other a s room r e = rw e at (step_other a s room)
+piece_other : (a : Assembly) (s : List ℕ) (room : ℕ) (r : Refusal) → (step_of a s room).answer ≡ Refused r → r.number ≡ contradiction → ⊥
+piece_other a s room r e = rw e at (step_other a s room)
 
-pub told-apart : ToldApart
-told-apart = record { memory = memory-ten; piece = piece-other }
+pub told_apart : ToldApart
+told_apart = record { memory = memory_ten; piece = piece_other }

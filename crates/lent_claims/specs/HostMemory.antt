@@ -2,7 +2,7 @@
 use Rattle.std.specs.Prelude.{ℕ, ◌≤◌, ◌<◌, ◌^◌, ◌≡◌, List, length}
 use Rattle.protocol.specs.Verdict.{judge}
 use Rattle.protocol.specs.declared.Verdict.TheVariants.{Fits}
-use Rattle.handshake_claims.specs.Calls.{HostCall, host-opens, host-closes, host-receives, host-asks}
+use Rattle.handshake_claims.specs.Calls.{HostCall, host_opens, host_closes, host_receives, host_asks}
 use Rattle.host.specs.Host.{Asking, made_of, opened_of, closed_of, ask_of, receive_of}
 use Rattle.host.specs.declared.Host.{Host}
 use Rattle.host.specs.declared.HostMade.TheVariants as made
@@ -15,10 +15,10 @@ use Rattle.lent_claims.specs.Turns.{Turn, turn, Reached, TakenExactly, Serves}
 -- ---- calls
 
 abbrev pub HostGiven : HostCall → Type 0
-HostGiven (host-opens advertised) = advertised < 2 ^ 16
-HostGiven host-closes = Unit
-HostGiven (host-receives h s) = WordsOfWidth (message_words h) × Bytes s
-HostGiven (host-asks out) = Bytes out
+HostGiven (host_opens advertised) = advertised < 2 ^ 16
+HostGiven host_closes = Unit
+HostGiven (host_receives h s) = WordsOfWidth (message_words h) × Bytes s
+HostGiven (host_asks out) = Bytes out
 
 -- what a call is answered; closing by 'unchanged'
 pub data HostSaid : Type 0 where
@@ -26,16 +26,16 @@ pub data HostSaid : Type 0 where
   shows : Asking → HostSaid
 
 unfoldable pub host_call : Host → HostCall → Turn Host HostSaid
-host_call h (host-opens advertised) = turn (answers (opened_of h advertised).answer) (opened_of h advertised).host
-host_call h host-closes = turn (answers Unchanged) (closed_of h)
-host_call h (host-receives m s) = turn (answers (receive_of h m s).answer) (receive_of h m s).host
-host_call h (host-asks out) = turn (shows (ask_of h out)) h
+host_call h (host_opens advertised) = turn (answers (opened_of h advertised).answer) (opened_of h advertised).host
+host_call h host_closes = turn (answers Unchanged) (closed_of h)
+host_call h (host_receives m s) = turn (answers (receive_of h m s).answer) (receive_of h m s).host
+host_call h (host_asks out) = turn (shows (ask_of h out)) h
 
 unfoldable pub host_call_in : List ℕ → HostCall → Turn (List ℕ) HostSaid
-host_call_in m (host-opens advertised) = turn (answers (open_in m advertised).answer) (open_in m advertised).memory
-host_call_in m host-closes = turn (answers (close_in m).answer) (close_in m).memory
-host_call_in m (host-receives h s) = turn (answers (receive_in m h s).answer) (receive_in m h s).memory
-host_call_in m (host-asks out) = turn (shows (ask_in m out)) m
+host_call_in m (host_opens advertised) = turn (answers (open_in m advertised).answer) (open_in m advertised).memory
+host_call_in m host_closes = turn (answers (close_in m).answer) (close_in m).memory
+host_call_in m (host_receives h s) = turn (answers (receive_in m h s).answer) (receive_in m h s).memory
+host_call_in m (host_asks out) = turn (shows (ask_in m out)) m
 
 -- ---- which memory is taken
 

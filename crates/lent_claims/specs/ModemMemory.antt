@@ -3,7 +3,7 @@ use Rattle.std.specs.Prelude.{ℕ, ◌≤◌, ◌<◌, ◌^◌, ◌≡◌, List,
 use Rattle.protocol.specs.Verdict.{judge}
 use Rattle.protocol.specs.declared.Verdict.{Verdict}
 use Rattle.protocol.specs.declared.Verdict.TheVariants.{Fits}
-use Rattle.handshake_claims.specs.Calls.{ModemCall, modem-opens, modem-closes, modem-receives}
+use Rattle.handshake_claims.specs.Calls.{ModemCall, modem_opens, modem_closes, modem_receives}
 use Rattle.modem.specs.Modem.{made_of, start_of, Commanding, receive_of}
 use Rattle.modem.specs.declared.Modem.{Modem}
 use Rattle.modem.specs.declared.ModemMade.TheVariants as made
@@ -16,9 +16,9 @@ use Rattle.lent_claims.specs.Turns.{Turn, turn, Reached, TakenExactly, Serves}
 -- ---- calls: OPEN, CLOSE, and a message with its information and the lent output
 
 abbrev pub ModemGiven : ModemCall → Type 0
-ModemGiven modem-opens = Unit
-ModemGiven modem-closes = Unit
-ModemGiven (modem-receives h s out) = WordsOfWidth (message_words h) × Bytes s × Bytes out
+ModemGiven modem_opens = Unit
+ModemGiven modem_closes = Unit
+ModemGiven (modem_receives h s out) = WordsOfWidth (message_words h) × Bytes s × Bytes out
 
 -- what a call is answered: OPEN and CLOSE by a verdict, a message by a reply and the output
 pub data ModemSaid : Type 0 where
@@ -29,9 +29,9 @@ abbrev pub commanded : Commanding → Turn Modem ModemSaid
 commanded c = turn (replies record { answer = c.step.answer; stage = c.step.modem.stage } c.output) c.step.modem
 
 unfoldable pub modem_call : Modem → ModemCall → Turn Modem ModemSaid
-modem_call x modem-opens = turn (restarts Fits) (start_of x)
-modem_call x modem-closes = turn (restarts Fits) (start_of x)
-modem_call x (modem-receives h s out) = commanded (receive_of x h s out)
+modem_call x modem_opens = turn (restarts Fits) (start_of x)
+modem_call x modem_closes = turn (restarts Fits) (start_of x)
+modem_call x (modem_receives h s out) = commanded (receive_of x h s out)
 
 abbrev pub restarted : Stored → Turn (List ℕ) ModemSaid
 restarted r = turn (restarts r.verdict) r.memory
@@ -40,9 +40,9 @@ abbrev pub replied : ModemCalled → Turn (List ℕ) ModemSaid
 replied r = turn (replies r.reply r.output) r.memory
 
 unfoldable pub modem_call_in : List ℕ → ModemCall → Turn (List ℕ) ModemSaid
-modem_call_in m modem-opens = restarted (restart_in m)
-modem_call_in m modem-closes = restarted (restart_in m)
-modem_call_in m (modem-receives h s out) = replied (receive_in m h s out)
+modem_call_in m modem_opens = restarted (restart_in m)
+modem_call_in m modem_closes = restarted (restart_in m)
+modem_call_in m (modem_receives h s out) = replied (receive_in m h s out)
 
 -- ---- which memory is taken
 
@@ -55,9 +55,9 @@ pub record ModemMadeFrom (x : Modem) : Type 0 where
   pub native : ℕ
   pub advertised : ℕ
   pub services : List ℕ
-  pub native-small : native < 2 ^ 16
-  pub advertised-small : advertised < 2 ^ 16
-  pub services-bytes : Bytes services
+  pub native_small : native < 2 ^ 16
+  pub advertised_small : advertised < 2 ^ 16
+  pub services_bytes : Bytes services
   pub made : made_of native advertised services ≡ made.Made x
 
 abbrev pub ModemReached : Modem → Type 0

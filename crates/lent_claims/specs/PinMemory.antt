@@ -3,7 +3,7 @@
 use Rattle.std.specs.Prelude.{ℕ, ◌≤◌, ◌<◌, ◌^◌, ◌≡◌, List, map, length, get_or}
 use Rattle.protocol.specs.declared.Verdict.{Verdict}
 use Rattle.protocol.specs.declared.Verdict.TheVariants.{Fits}
-use Rattle.handshake_claims.specs.Calls.{ModemCall, modem-opens, modem-closes, modem-receives}
+use Rattle.handshake_claims.specs.Calls.{ModemCall, modem_opens, modem_closes, modem_receives}
 use Rattle.modem.specs.Modem.{made_of as modem_made_of, start_of}
 use Rattle.modem.specs.declared.Modem.{Modem}
 use Rattle.modem.specs.declared.ModemMade.TheVariants as made
@@ -73,9 +73,9 @@ abbrev pub served : Served → Turn PinModem PinModemSaid
 served v = turn (replies (kept_reply v.serving) v.output) (pin_modem v.serving.modem v.serving.table)
 
 unfoldable pub pin_modem_call : PinModem → ModemCall → Turn PinModem PinModemSaid
-pin_modem_call e modem-opens = turn (restarts Fits) (pin_modem (start_of e.modem) e.table)
-pin_modem_call e modem-closes = turn (restarts Fits) (pin_modem (start_of e.modem) e.table)
-pin_modem_call e (modem-receives h s out) = served (receive_of e.modem e.table h s out)
+pin_modem_call e modem_opens = turn (restarts Fits) (pin_modem (start_of e.modem) e.table)
+pin_modem_call e modem_closes = turn (restarts Fits) (pin_modem (start_of e.modem) e.table)
+pin_modem_call e (modem_receives h s out) = served (receive_of e.modem e.table h s out)
 
 abbrev pub restarted : Stored → List ℕ → Turn PinModemMemory PinModemSaid
 restarted r p = turn (restarts r.verdict) (pin_memory r.memory p)
@@ -84,9 +84,9 @@ abbrev pub replied : PinModemCalled → Turn PinModemMemory PinModemSaid
 replied r = turn (replies r.reply r.output) (pin_memory r.modem r.pins)
 
 unfoldable pub pin_modem_call_in : PinModemMemory → ModemCall → Turn PinModemMemory PinModemSaid
-pin_modem_call_in m modem-opens = restarted (restart_in m.modem) m.pins
-pin_modem_call_in m modem-closes = restarted (restart_in m.modem) m.pins
-pin_modem_call_in m (modem-receives h s out) = replied (receive_in m.modem m.pins h s out)
+pin_modem_call_in m modem_opens = restarted (restart_in m.modem) m.pins
+pin_modem_call_in m modem_closes = restarted (restart_in m.modem) m.pins
+pin_modem_call_in m (modem_receives h s out) = replied (receive_in m.modem m.pins h s out)
 
 pub record PinModemTakes (m : PinModemMemory) (e : PinModem) : Type 0 where
   pub modem : ModemTakes m.modem e.modem

@@ -11,24 +11,24 @@ use lib.ListN.{length, take, drop, set, length-append, length-take, drop_of_leng
 use lib.Seq.{sets, sets-eq, take_all}
 use Rattle.wire.specs.Numbers.{digits}
 use Rattle.wire.specs.Output.{fitted}
-use Rattle.wire.proofs.Laws.{sets_then, length-fitted}
+use Rattle.wire.proofs.Laws.{sets_then, length_fitted}
 use Rattle.protocol.specs.Refusal.{refusal, output_too_small}
 use Rattle.protocol.specs.declared.Verdict.TheVariants.{Fits, Fault}
 use Rattle.folds.specs.Folds.{joined}
-use Rattle.folds.proofs.Laws.{join-next, length-joined}
+use Rattle.folds.proofs.Laws.{join_next, length_joined}
 use Rattle.pin_entry.specs.PinTable.{Row, Table}
 use Rattle.lent_modem.specs.LentModem.{flag_number}
 use Rattle.lent_pins.specs.LentPins.{pins_size, rows_verdict, pins_verdict, row_bytes, row_bytes_at}
 
-pub length-row : (r : Row) → length (row_bytes r) ≡ 44
+pub length_row : (r : Row) → length (row_bytes r) ≡ 44
 unfolding row_bytes
-length-row r = omega (arith, length-append (digits 4 r.tries) (digits 4 r.start ++ fitted 32 r.secret), length-append (digits 4 r.start) (fitted 32 r.secret), length-fitted 32 r.secret)
+length_row r = omega (arith, length-append (digits 4 r.tries) (digits 4 r.start ++ fitted 32 r.secret), length-append (digits 4 r.start) (fitted 32 r.secret), length_fitted 32 r.secret)
 
 -- one row more is stored
-pub row-stored : (t : Table) (i : ℕ) (m : List ℕ) {m₁ m₂ : List ℕ} → m₁ ≡ sets m 0 (joined (row_bytes_at t) i) → m₂ ≡ sets m₁ (i * 44) (row_bytes_at t i)
+pub row_stored : (t : Table) (i : ℕ) (m : List ℕ) {m₁ m₂ : List ℕ} → m₁ ≡ sets m 0 (joined (row_bytes_at t) i) → m₂ ≡ sets m₁ (i * 44) (row_bytes_at t i)
     → m₂ ≡ sets m 0 (joined (row_bytes_at t) (i + 1))
-row-stored t i m p q =
-    join-next (row_bytes_at t) i 0 m p (omega (arith, length-joined (row_bytes_at t) 44 i (λ k. length-row (t (suc k))))) q
+row_stored t i m p q =
+    join_next (row_bytes_at t) i 0 m p (omega (arith, length_joined (row_bytes_at t) 44 i (λ k. length_row (t (suc k))))) q
 
 -- four bytes stored one after another
 four_bytes : (a b c d : ℕ) (m : List ℕ) (at : ℕ) → set (set (set (set m at a) (at + 1) b) (at + 2) c) (at + 3) d ≡ sets m at (a ∷ b ∷ c ∷ d ∷ [])
@@ -39,11 +39,11 @@ four_bytes a b c d m at =
     rw (x, y, z)
 
 -- the parts of a row stored one after another
-pub parts-stored : (r : Row) (m : List ℕ) (at : ℕ) {m₁ m₂ m₃ m₄ m₅ m₆ m₇ : List ℕ} → m₁ ≡ set m at (flag_number r.present) → m₂ ≡ set m₁ (at + 1) (flag_number r.enabled)
+pub parts_stored : (r : Row) (m : List ℕ) (at : ℕ) {m₁ m₂ m₃ m₄ m₅ m₆ m₇ : List ℕ} → m₁ ≡ set m at (flag_number r.present) → m₂ ≡ set m₁ (at + 1) (flag_number r.enabled)
     → m₃ ≡ set m₂ (at + 2) (flag_number r.entered) → m₄ ≡ set m₃ (at + 3) (length r.secret) → m₅ ≡ sets m₄ (at + 4) (digits 4 r.tries)
     → m₆ ≡ sets m₅ (at + 8) (digits 4 r.start) → m₇ ≡ sets m₆ (at + 12) (fitted 32 r.secret) → m₇ ≡ sets m at (row_bytes r)
 unfolding row_bytes
-parts-stored r m at {m₁} {m₂} {m₃} {m₄} {m₅} {m₆} p₁ p₂ p₃ p₄ p₅ p₆ p₇ =
+parts_stored r m at {m₁} {m₂} {m₃} {m₄} {m₅} {m₆} p₁ p₂ p₃ p₄ p₅ p₆ p₇ =
     let flags = flag_number r.present ∷ flag_number r.enabled ∷ flag_number r.entered ∷ length r.secret ∷ [] in
     let a = digits 4 r.tries in
     let b = digits 4 r.start in
@@ -56,8 +56,8 @@ parts-stored r m at {m₁} {m₂} {m₃} {m₄} {m₅} {m₆} p₁ p₂ p₃ p�
     sets_then flags (a ++ (b ++ f)) at 4 m refl front back
 
 -- a secret of so many bytes
-pub length-secret : (n : ℕ) (s : List ℕ) → length s ≡ 32 → length (take n s) ≡ min n 32
-length-secret n s e = rw (length-take, e)
+pub length_secret : (n : ℕ) (s : List ℕ) → length s ≡ 32 → length (take n s) ≡ min n 32
+length_secret n s e = rw (length-take, e)
 
 pub take_counted : (n : ℕ) (s : List ℕ) → length s ≡ 32 → take (min n 32) s ≡ take n s
 take_counted n s e = by_order (leb n 32) refl
@@ -67,16 +67,16 @@ take_counted n s e = by_order (leb n 32) refl
     by_order false h = let l = leb-false n 32 h in let m : min n 32 ≡ 32 = omega arith in rw (m, take_all n s (omega arith)) (take_all 32 s (omega arith))
 
 -- bytes stored over all
-pub all-stored : (l s : List ℕ) → length s ≡ length l → sets l 0 s ≡ s
-all-stored l s e =
+pub all_stored : (l s : List ℕ) → length s ≡ length l → sets l 0 s ≡ s
+all_stored l s e =
     let p : drop (0 + length s) l ≡ [] = drop_of_length-le l {i = 0 + length s} (omega arith) in
     rw (sets-eq s l 0 (omega arith), p, append-nil s)
 
 -- memory that holds a table has room for it
 pub room : (m : List ℕ) → pins_verdict m ≡ Fits → pins_size ≤ length m
 unfolding pins_verdict
-room m e = by-room (ltb (length m) pins_size) refl e
+room m e = by_room (ltb (length m) pins_size) refl e
   where
-    by-room : (b : Bool) → ltb (length m) pins_size ≡ b → cond b (Fault (refusal output_too_small pins_size)) (rows_verdict m) ≡ Fits → pins_size ≤ length m
-    by-room true h f = let z : ◌≡◌ {A = ℕ} 0 1 = cc in absurd (omega arith)
-    by-room false h f = ltb-false (length m) pins_size h
+    by_room : (b : Bool) → ltb (length m) pins_size ≡ b → cond b (Fault (refusal output_too_small pins_size)) (rows_verdict m) ≡ Fits → pins_size ≤ length m
+    by_room true h f = let z : ◌≡◌ {A = ℕ} 0 1 = cc in absurd (omega arith)
+    by_room false h f = ltb-false (length m) pins_size h

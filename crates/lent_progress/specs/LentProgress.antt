@@ -3,7 +3,7 @@
 use Rattle.std.specs.Prelude.{◌+◌, Bool, not, cond, ◌&&◌, List, [], ◌∷◌, ltb, leb, eqb}
 use Rattle.protocol.specs.Refusal.{contradiction}
 use Rattle.protocol.specs.Verdict.{Rule, rule, judge}
-use Rattle.protocol.specs.MessageType.{INDICATE-STATUS, is_fragmented}
+use Rattle.protocol.specs.MessageType.{INDICATE_STATUS, is_fragmented}
 use Rattle.protocol.specs.declared.Verdict.{Verdict}
 use Rattle.message.specs.Message.{most_information, most_transfer, most_fragments, first_length, wrong_word}
 use Rattle.message.specs.declared.MessageHeader.{MessageHeader}
@@ -18,7 +18,7 @@ is_none p =
 
 -- the word of a message that no first fragment has: an indication has none, and shows 0
 unfoldable pub stray_word : MessageHeader → Bool
-stray_word h = cond (eqb h.message_type INDICATE-STATUS) (not (eqb h.word 0)) (wrong_word h)
+stray_word h = cond (eqb h.message_type INDICATE_STATUS) (not (eqb h.word 0)) (wrong_word h)
 
 -- more than the one fragment that came can carry; two can carry any message's information
 unfoldable pub above_carried : Progress → Bool

@@ -10,26 +10,26 @@ use lib.Dec.{leb}
 use lib.ListN.{length, take, length-take}
 use lib.Seq.{take_all}
 use Rattle.ascii.specs.Ascii.{unhexed}
-use Rattle.text_parts.proofs.Cut.{part-front}
+use Rattle.text_parts.proofs.Cut.{part_front}
 use Rattle.request_line.specs.Request.{request_of}
 use Rattle.request_line.specs.declared.Request.{Request}
 use Rattle.request_line.specs.declared.Request.TheVariants.{Payload, BadLine}
 use Rattle.request_line.proofs.Requests.{within}
-use Rattle.request_line.proofs.Cut.{request-cut}
+use Rattle.request_line.proofs.Cut.{request_cut}
 use Rattle.listing.specs.Listing.{payload_text, spelled_text, request_text, line_text, LineCut}
 
-text-cut : (n : ℕ) (s : List ℕ) (r : Request) → request_of (take n s) ≡ r → request_text (take n s) r ≡ request_text s r
+text_cut : (n : ℕ) (s : List ℕ) (r : Request) → request_of (take n s) ≡ r → request_text (take n s) r ≡ request_text s r
 unfolding request_text spelled_text
-text-cut n s (BadLine c) e = refl
-text-cut n s (Payload k v f m) e =
+text_cut n s (BadLine c) e = refl
+text_cut n s (Payload k v f m) e =
     let w = within (take n s) k v f m e in
-    ap (λ (x : List ℕ). payload_text k v (unhexed (m / 2) x)) (part-front f m n s (omega (arith, w.0, length-take n s)))
+    ap (λ (x : List ℕ). payload_text k v (unhexed (m / 2) x)) (part_front f m n s (omega (arith, w.0, length-take n s)))
 
 -- a line and its front of at least 16,407 bytes have the same listing
-pub line-cut : LineCut
+pub line_cut : LineCut
 unfolding line_text
-line-cut n s h = go (leb n (length s)) refl
+line_cut n s h = go (leb n (length s)) refl
   where
     go : (t : Bool) → leb n (length s) ≡ t → request_text (take n s) (request_of (take n s)) ≡ request_text s (request_of s)
-    go true e = text-cut n s (request_of (take n s)) refl ∙ ap (request_text s) (request-cut n s h (leb-true n (length s) e))
+    go true e = text_cut n s (request_of (take n s)) refl ∙ ap (request_text s) (request_cut n s h (leb-true n (length s) e))
     go false e = let l : length s ≤ n = omega (arith, leb-false n (length s) e) in rw (take_all n s l)

@@ -12,8 +12,8 @@ use lib.Dec.{ltb, eqb}
 use lib.ListN.{length}
 use Rattle.protocol.specs.Verdict.{Kept}
 use Rattle.protocol.specs.declared.Verdict.TheVariants.{Fits}
-use Rattle.protocol.proofs.Tests.{or-none, none_or, cases-and, equal-kept, kept-equal}
-use Rattle.protocol.proofs.Verdicts.{left-fits, right-fits, fits_kept, kept_then}
+use Rattle.protocol.proofs.Tests.{or_none, none_or, cases_and, equal_kept, kept_equal}
+use Rattle.protocol.proofs.Verdicts.{left_fits, right_fits, fits_kept, kept_then}
 use Rattle.pairs.specs.declared.Range.{Range}
 use Rattle.pairs.specs.declared.PairKind.TheVariants.{List as ListKind}
 use Rattle.pairs.specs.declared.ZeroSize.{ZeroSize}
@@ -30,25 +30,25 @@ product a b h k = mul-le-mul {n₁ = a} {m₁ = b} {n₂ = 4294967295} {m₂ = 4
 
 module _ (f : ListForm) (place : ℕ) (p : Range) (n : ℕ) where
   -- a list that fits is absent or whole
-  pub list-said : Kept (list_rules f place p n) → (absent_in f p ≡ true) ⊎ Whole f p n
-  list-said k = by-absent (absent_in f p) refl
+  pub list_said : Kept (list_rules f place p n) → (absent_in f p ≡ true) ⊎ Whole f p n
+  list_said k = by_absent (absent_in f p) refl
     where
-      by-absent : (b : Bool) → absent_in f p ≡ b → (absent_in f p ≡ true) ⊎ Whole f p n
-      by-absent true e = inl e
-      by-absent false e =
+      by_absent : (b : Bool) → absent_in f p ≡ b → (absent_in f p ≡ true) ⊎ Whole f p n
+      by_absent true e = inl e
+      by_absent false e =
           let within : outside f.fewest f.most n ≡ false = rw e at k.1.0 in
-          let w = or-none (ltb n f.fewest) (ltb f.most n) within in
-          inr (record { some = ltb-false n f.fewest w.0; most = ltb-false f.most n w.1; size = equal-kept p.length (f.least + f.each * n) (rw e at k.1.1.0) })
+          let w = or_none (ltb n f.fewest) (ltb f.most n) within in
+          inr (record { some = ltb-false n f.fewest w.0; most = ltb-false f.most n w.1; size = equal_kept p.length (f.least + f.each * n) (rw e at k.1.1.0) })
 
-  pub said-list : (absent_in f p ≡ true) ⊎ Whole f p n → Kept (list_rules f place p n)
-  said-list (inl e) = (rw e refl, (rw e refl, (rw e refl, tt)))
-  said-list (inr w) =
+  pub said_list : (absent_in f p ≡ true) ⊎ Whole f p n → Kept (list_rules f place p n)
+  said_list (inl e) = (rw e refl, (rw e refl, (rw e refl, tt)))
+  said_list (inr w) =
       let there = not (absent_in f p) in
       let few = none_or (ltb n f.fewest) (ltb f.most n) (le-ltb n f.fewest w.some) (le-ltb f.most n w.most) in (
-        cases-and there (ltb p.length f.least) (inr (le-ltb p.length f.least (omega (arith, w.size)))),
+        cases_and there (ltb p.length f.least) (inr (le-ltb p.length f.least (omega (arith, w.size)))),
         (
-          cases-and there (outside f.fewest f.most n) (inr few),
-          (cases-and there (not (eqb p.length (f.least + f.each * n))) (inr (kept-equal p.length (f.least + f.each * n) w.size)), tt),
+          cases_and there (outside f.fewest f.most n) (inr few),
+          (cases_and there (not (eqb p.length (f.least + f.each * n))) (inr (kept_equal p.length (f.least + f.each * n) w.size)), tt),
         ),
       )
 
@@ -57,18 +57,18 @@ module _ (z : ZeroSize) (f : ListForm) (fixed place : ℕ) (s : List ℕ) where
   abbrev pub behind : Range
   behind = range_at s place
 
-  pub behind-said : list_verdict z f fixed place s ≡ Fits
+  pub behind_said : list_verdict z f fixed place s ≡ Fits
       → PairFits z ListKind fixed f.limit (length s) behind × ((absent_in f behind ≡ true) ⊎ Whole f behind (count_in f s behind))
-  behind-said e = (
-    fits_said z ListKind fixed f.limit place (length s) behind (left-fits _ _ e),
-    list-said f place behind (count_in f s behind) (fits_kept (list_rules f place behind (count_in f s behind)) (right-fits (verdict_of z ListKind fixed f.limit place (length s) behind) _ e)),
+  behind_said e = (
+    fits_said z ListKind fixed f.limit place (length s) behind (left_fits _ _ e),
+    list_said f place behind (count_in f s behind) (fits_kept (list_rules f place behind (count_in f s behind)) (right_fits (verdict_of z ListKind fixed f.limit place (length s) behind) _ e)),
   )
 
-  pub said-behind : PairFits z ListKind fixed f.limit (length s) behind → (absent_in f behind ≡ true) ⊎ Whole f behind (count_in f s behind)
+  pub said_behind : PairFits z ListKind fixed f.limit (length s) behind → (absent_in f behind ≡ true) ⊎ Whole f behind (count_in f s behind)
       → list_verdict z f fixed place s ≡ Fits
-  said-behind a b =
+  said_behind a b =
       kept_then (verdict_of z ListKind fixed f.limit place (length s) behind) (list_rules f place behind (count_in f s behind))
-      (said_fits z ListKind fixed f.limit place (length s) behind a) (said-list f place behind (count_in f s behind) b)
+      (said_fits z ListKind fixed f.limit place (length s) behind a) (said_list f place behind (count_in f s behind) b)
 
-pub list-exactly : ListExactly
-list-exactly z f fixed place s = (behind-said z f fixed place s, λ k. said-behind z f fixed place s k.0 k.1)
+pub list_exactly : ListExactly
+list_exactly z f fixed place s = (behind_said z f fixed place s, λ k. said_behind z f fixed place s k.0 k.1)

@@ -10,12 +10,12 @@ use borrow.Author.Tests.{ltb-false, leb-false, eqb-true, eqb-false, eq-eqb, ne_e
 use lib.Dec.{ltb, eqb}
 use lib.ListN.{length}
 use Rattle.wire.specs.Numbers.{u32_at}
-use Rattle.protocol.specs.MessageType.{INDICATE-STATUS, is_fragmented}
+use Rattle.protocol.specs.MessageType.{INDICATE_STATUS, is_fragmented}
 use Rattle.protocol.specs.Verdict.{judge}
 use Rattle.protocol.specs.declared.Refusal.{Refusal}
 use Rattle.protocol.specs.declared.Verdict.{Verdict}
 use Rattle.protocol.specs.declared.Verdict.TheVariants.{Fits, Fault}
-use Rattle.protocol.proofs.Verdicts.{fits_kept, kept-fits}
+use Rattle.protocol.proofs.Verdicts.{fits_kept, kept_fits}
 use Rattle.message.specs.Message.{most_information, most_transfer, header_at, wrong_total, header_rules, header_by, header_of, length_place, first_length, message_at, declared_at, carried_by, wrong_word, wrong_amount, first_rules, first_by, first_header_of, opened_by, fragment_by, fragment_of}
 use Rattle.message.specs.declared.FragmentHeader.{FragmentHeader}
 use Rattle.message.specs.declared.FirstHeader.{FirstHeader}
@@ -29,16 +29,16 @@ use Rattle.message.specs.declared.Fragment.TheVariants as fragment
 -- ---- places
 
 -- the information length stands at 40 or at 44
-pub place-cases : (t : ℕ) → (length_place t ≡ 40) ⊎ (length_place t ≡ 44)
+pub place_cases : (t : ℕ) → (length_place t ≡ 40) ⊎ (length_place t ≡ 44)
 unfolding length_place
-place-cases t = go (eqb t INDICATE-STATUS)
+place_cases t = go (eqb t INDICATE_STATUS)
   where
     go : (b : Bool) → (◌≡◌ {A = ℕ} (cond b 40 44) 40) ⊎ (◌≡◌ {A = ℕ} (cond b 40 44) 44)
     go true = inl refl
     go false = inr refl
 
-pub place-most : (t : ℕ) → (40 ≤ length_place t) × (length_place t ≤ 44)
-place-most t = elim (place-cases t) [ inl e ↦ omega arith | inr e ↦ omega arith ]
+pub place_most : (t : ℕ) → (40 ≤ length_place t) × (length_place t ≤ 44)
+place_most t = elim (place_cases t) [ inl e ↦ omega arith | inr e ↦ omega arith ]
 
 pub type_at : (s : List ℕ) → (message_at s).message_type ≡ u32_at s 0
 unfolding message_at
@@ -47,9 +47,9 @@ type_at s = refl
 -- ---- amounts
 
 -- a right amount is at most the declared one, and all of it at the last fragment
-pub amount-right : (last : Bool) (g d : ℕ) → wrong_amount last g d ≡ false → (g ≤ d) × (last ≡ true → g ≡ d)
+pub amount_right : (last : Bool) (g d : ℕ) → wrong_amount last g d ≡ false → (g ≤ d) × (last ≡ true → g ≡ d)
 unfolding wrong_amount
-amount-right last g d = go (ltb d g) refl last
+amount_right last g d = go (ltb d g) refl last
   where
     go : (b : Bool) → ltb d g ≡ b → (l : Bool) → (b || (l && not (eqb g d))) ≡ false → (g ≤ d) × (l ≡ true → g ≡ d)
     go true h l e = let z : ◌≡◌ {A = ℕ} 0 1 = cc in absurd (omega arith)
@@ -57,14 +57,14 @@ amount-right last g d = go (ltb d g) refl last
     go false h false e = (ltb-false d g h, λ f. let z : ◌≡◌ {A = ℕ} 0 1 = cc in absurd (omega arith))
 
 -- as much as the declared, or less before the last fragment, is right
-pub right-all : (last : Bool) (g d : ℕ) → g ≡ d → wrong_amount last g d ≡ false
+pub right_all : (last : Bool) (g d : ℕ) → g ≡ d → wrong_amount last g d ≡ false
 unfolding wrong_amount
-right-all true g d e = let h : g ≤ d = omega arith in rw (le-ltb d g h, eq-eqb g d e)
-right-all false g d e = let h : g ≤ d = omega arith in rw (le-ltb d g h)
+right_all true g d e = let h : g ≤ d = omega arith in rw (le-ltb d g h, eq-eqb g d e)
+right_all false g d e = let h : g ≤ d = omega arith in rw (le-ltb d g h)
 
-pub right-less : (last : Bool) (g d : ℕ) → last ≡ false → g ≤ d → wrong_amount last g d ≡ false
+pub right_less : (last : Bool) (g d : ℕ) → last ≡ false → g ≤ d → wrong_amount last g d ≡ false
 unfolding wrong_amount
-right-less last g d e h = rw (e, le-ltb d g h)
+right_less last g d e h = rw (e, le-ltb d g h)
 
 -- ---- the header of every fragment
 
@@ -76,9 +76,9 @@ total_right n = go (eqb n 0) refl
     go true h e = let z : ◌≡◌ {A = ℕ} 0 1 = cc in absurd (omega arith)
     go false h e = let z : n ≡ 0 → ⊥ = eqb-false n 0 h in (omega arith, ltb-false 128 n e)
 
-right-total : (n : ℕ) → 0 < n → n ≤ 128 → wrong_total n ≡ false
+right_total : (n : ℕ) → 0 < n → n ≤ 128 → wrong_total n ≡ false
 unfolding wrong_total
-right-total n h l = let z : n ≡ 0 → ⊥ = λ e. omega arith in rw (ne_eqb n 0 z, le-ltb 128 n l)
+right_total n h l = let z : n ≡ 0 → ⊥ = λ e. omega arith in rw (ne_eqb n 0 z, le-ltb 128 n l)
 
 -- the header h of a fragment s that is accepted
 pub record Accepted (s : List ℕ) (h : FragmentHeader) : Type 0 where
@@ -90,9 +90,9 @@ pub record Accepted (s : List ℕ) (h : FragmentHeader) : Type 0 where
   pub few : h.total ≤ 128
   pub within : h.number < h.total
 
-header-accepted : (s : List ℕ) (h : FragmentHeader) → header_of s ≡ header.Fits h → Accepted s h
+header_accepted : (s : List ℕ) (h : FragmentHeader) → header_of s ≡ header.Fits h → Accepted s h
 unfolding header_of header_by
-header-accepted s h e = go (judge (header_rules s)) refl e
+header_accepted s h e = go (judge (header_rules s)) refl e
   where
     go : (v : Verdict) → judge (header_rules s) ≡ v → header_by v s ≡ header.Fits h → Accepted s h
     go Fits j q =
@@ -111,12 +111,12 @@ header-accepted s h e = go (judge (header_rules s)) refl e
     go (Fault r) j q = let z : ◌≡◌ {A = ℕ} 0 1 = cc in absurd (omega arith)
 
 -- a fragment whose header keeps the rules is accepted
-accepted-header : (s : List ℕ) → 20 ≤ length s → u32_at s 4 ≡ length s → length s ≤ most_transfer → is_fragmented (u32_at s 0) ≡ true → 0 < u32_at s 12 → u32_at s 12 ≤ 128
+accepted_header : (s : List ℕ) → 20 ≤ length s → u32_at s 4 ≡ length s → length s ≤ most_transfer → is_fragmented (u32_at s 0) ≡ true → 0 < u32_at s 12 → u32_at s 12 ≤ 128
     → u32_at s 16 < u32_at s 12 → header_of s ≡ header.Fits (header_at s)
 unfolding header_of header_by
-accepted-header s long all short known some few within =
-    rw (kept-fits (header_rules s)
-    (le-ltb _ _ long, (rw (eq-eqb _ _ all) refl, (le-ltb _ _ short, (rw known refl, (right-total _ some few, (lt-leb _ _ within, tt)))))))
+accepted_header s long all short known some few within =
+    rw (kept_fits (header_rules s)
+    (le-ltb _ _ long, (rw (eq-eqb _ _ all) refl, (le-ltb _ _ short, (rw known refl, (right_total _ some few, (lt-leb _ _ within, tt)))))))
 
 -- ---- the header of a first fragment
 
@@ -129,9 +129,9 @@ pub record Opened (s : List ℕ) (f : FirstHeader) : Type 0 where
   pub small : f.information_length ≤ most_information
   pub amount : wrong_amount (eqb (u32_at s 12) 1) (carried_by s) f.information_length ≡ false
 
-first-accepted : (s : List ℕ) (f : FirstHeader) → first_header_of s ≡ first.Header f → Opened s f
+first_accepted : (s : List ℕ) (f : FirstHeader) → first_header_of s ≡ first.Header f → Opened s f
 unfolding first_header_of first_by
-first-accepted s f e = go (judge (first_rules s)) refl e
+first_accepted s f e = go (judge (first_rules s)) refl e
   where
     go : (v : Verdict) → judge (first_rules s) ≡ v → first_by v s ≡ first.Header f → Opened s f
     go Fits j q =
@@ -148,11 +148,11 @@ first-accepted s f e = go (judge (first_rules s)) refl e
     go (Fault r) j q = let z : ◌≡◌ {A = ℕ} 0 1 = cc in absurd (omega arith)
 
 -- a first header that keeps the rules is accepted
-accepted-first : (s : List ℕ) → first_length (u32_at s 0) ≤ length s → wrong_word (message_at s) ≡ false → declared_at s ≤ most_information
+accepted_first : (s : List ℕ) → first_length (u32_at s 0) ≤ length s → wrong_word (message_at s) ≡ false → declared_at s ≤ most_information
     → wrong_amount (eqb (u32_at s 12) 1) (carried_by s) (declared_at s) ≡ false
     → first_header_of s ≡ first.Header (record { message = message_at s; information_length = declared_at s })
 unfolding first_header_of first_by
-accepted-first s long word small amount = rw (kept-fits (first_rules s) (le-ltb _ _ long, (word, (le-ltb _ _ small, (amount, tt)))))
+accepted_first s long word small amount = rw (kept_fits (first_rules s) (le-ltb _ _ long, (word, (le-ltb _ _ small, (amount, tt)))))
 
 -- ---- one fragment: refused, or the headers that it has
 
@@ -161,13 +161,13 @@ pub data FragmentView (s : List ℕ) : Fragment → Type 0 where
   opens : (h : FragmentHeader) (f : FirstHeader) → Accepted s h → h.number ≡ 0 → Opened s f → FragmentView s (fragment.First h f)
   follows : (h : FragmentHeader) → Accepted s h → (h.number ≡ 0 → ⊥) → FragmentView s (fragment.Later h)
 
-pub fragment-view : (s : List ℕ) → FragmentView s (fragment_of s)
+pub fragment_view : (s : List ℕ) → FragmentView s (fragment_of s)
 unfolding fragment_of fragment_by opened_by
-fragment-view s = go (header_of s) refl
+fragment_view s = go (header_of s) refl
   where
     opened : (h : FragmentHeader) → Accepted s h → h.number ≡ 0 → (o : First) → first_header_of s ≡ o → FragmentView s (opened_by h o)
     opened h a z (first.Refused r) e = refuses r
-    opened h a z (first.Header f) e = opens h f a z (first-accepted s f e)
+    opened h a z (first.Header f) e = opens h f a z (first_accepted s f e)
 
     numbered : (h : FragmentHeader) → Accepted s h → (b : Bool) → eqb h.number 0 ≡ b → FragmentView s (cond b (opened_by h (first_header_of s)) (fragment.Later h))
     numbered h a true z = opened h a (eqb-true _ _ z) (first_header_of s) refl
@@ -175,10 +175,10 @@ fragment-view s = go (header_of s) refl
 
     go : (x : Header) → header_of s ≡ x → FragmentView s (fragment_by s x)
     go (header.Refused r) e = refuses r
-    go (header.Fits h) e = numbered h (header-accepted s h e) (eqb h.number 0) refl
+    go (header.Fits h) e = numbered h (header_accepted s h e) (eqb h.number 0) refl
 
-pub later-accepted : (s : List ℕ) (h : FragmentHeader) → fragment_of s ≡ fragment.Later h → Accepted s h
-later-accepted s h e = go (fragment-view s) e
+pub later_accepted : (s : List ℕ) (h : FragmentHeader) → fragment_of s ≡ fragment.Later h → Accepted s h
+later_accepted s h e = go (fragment_view s) e
   where
     go : {f : Fragment} → FragmentView s f → f ≡ fragment.Later h → Accepted s h
     go (refuses r) q = let z : ◌≡◌ {A = ℕ} 0 1 = cc in absurd (omega arith)
@@ -186,18 +186,18 @@ later-accepted s h e = go (fragment-view s) e
     go (follows g a n) q = let k : g ≡ h = cc in rw k at a
 
 -- a fragment that keeps the rules is accepted: a later one with its header, a first one with both
-pub accepted-later : (s : List ℕ) → 20 ≤ length s → u32_at s 4 ≡ length s → length s ≤ most_transfer → is_fragmented (u32_at s 0) ≡ true → 0 < u32_at s 12 → u32_at s 12 ≤ 128
+pub accepted_later : (s : List ℕ) → 20 ≤ length s → u32_at s 4 ≡ length s → length s ≤ most_transfer → is_fragmented (u32_at s 0) ≡ true → 0 < u32_at s 12 → u32_at s 12 ≤ 128
     → u32_at s 16 < u32_at s 12 → 0 < u32_at s 16 → fragment_of s ≡ fragment.Later (header_at s)
 unfolding fragment_of fragment_by
-accepted-later s long all short known some few within later =
+accepted_later s long all short known some few within later =
     let z : u32_at s 16 ≡ 0 → ⊥ = λ e. omega arith in
-    rw (accepted-header s long all short known some few within, ne_eqb (u32_at s 16) 0 z)
+    rw (accepted_header s long all short known some few within, ne_eqb (u32_at s 16) 0 z)
 
-pub accepted-opening : (s : List ℕ) → u32_at s 4 ≡ length s → length s ≤ most_transfer → is_fragmented (u32_at s 0) ≡ true → 0 < u32_at s 12 → u32_at s 12 ≤ 128
+pub accepted_opening : (s : List ℕ) → u32_at s 4 ≡ length s → length s ≤ most_transfer → is_fragmented (u32_at s 0) ≡ true → 0 < u32_at s 12 → u32_at s 12 ≤ 128
     → u32_at s 16 ≡ 0 → first_length (u32_at s 0) ≤ length s → wrong_word (message_at s) ≡ false → declared_at s ≤ most_information
     → wrong_amount (eqb (u32_at s 12) 1) (carried_by s) (declared_at s) ≡ false
     → fragment_of s ≡ fragment.First (header_at s) (record { message = message_at s; information_length = declared_at s })
 unfolding fragment_of fragment_by opened_by
-accepted-opening s all short known some few zero long word small amount =
-    let l : 20 ≤ length s = omega (arith, long, place-most (u32_at s 0)) in
-    rw (accepted-header s l all short known some few (omega arith), eq-eqb (u32_at s 16) 0 zero, accepted-first s long word small amount)
+accepted_opening s all short known some few zero long word small amount =
+    let l : 20 ≤ length s = omega (arith, long, place_most (u32_at s 0)) in
+    rw (accepted_header s l all short known some few (omega arith), eq-eqb (u32_at s 16) 0 zero, accepted_first s long word small amount)

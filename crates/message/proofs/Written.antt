@@ -9,19 +9,19 @@ use borrow.Author.Tests.{eq-eqb, le-ltb}
 use lib.Dec.{eqb}
 use lib.ListN.{length}
 use Rattle.wire.specs.Numbers.{u32_at, digits}
-use Rattle.wire.proofs.Laws.{num-digits}
+use Rattle.wire.proofs.Laws.{num_digits}
 use Rattle.protocol.specs.MessageType.{CLOSE, is_whole}
 use Rattle.protocol.specs.Verdict.{Kept}
-use Rattle.protocol.proofs.Tests.{not-kept}
-use Rattle.protocol.proofs.Verdicts.{fits_kept, kept-fits, written-fits, written-front}
+use Rattle.protocol.proofs.Tests.{not_kept}
+use Rattle.protocol.proofs.Verdicts.{fits_kept, kept_fits, written_fits, written_front}
 use Rattle.message.specs.Message.{whole_length, whole_rules, whole_word_at, whole_by, whole_of, head_bytes, whole_bytes, write_whole_of}
 use Rattle.message.specs.Claims.{WholeBack}
 use Rattle.message.specs.declared.Whole.TheVariants.{Message}
 
 -- the bytes are as many as the type has
-pub length-whole_bytes : (t x w : ℕ) → length (whole_bytes t x w) ≡ whole_length t
+pub length_whole_bytes : (t x w : ℕ) → length (whole_bytes t x w) ≡ whole_length t
 unfolding whole_bytes head_bytes whole_length
-length-whole_bytes t x w = go (eqb t CLOSE)
+length_whole_bytes t x w = go (eqb t CLOSE)
   where
     go : (b : Bool) → length (head_bytes t x ++ cond b [] (digits 4 w)) ≡ cond b 12 16
     go true = refl
@@ -36,13 +36,13 @@ least t = go (eqb t CLOSE)
     go false = omega arith
 
 module _ (t x w : ℕ) (t32 : t < 2 ^ 32) (x32 : x < 2 ^ 32) (w32 : w < 2 ^ 32) where
-  at-0 : u32_at (whole_bytes t x w) 0 ≡ t
+  at_0 : u32_at (whole_bytes t x w) 0 ≡ t
   unfolding whole_bytes head_bytes u32_at
-  at-0 = num-digits 4 t [] t32
+  at_0 = num_digits 4 t [] t32
 
-  at-4 : u32_at (whole_bytes t x w) 4 ≡ whole_length t
+  at_4 : u32_at (whole_bytes t x w) 4 ≡ whole_length t
   unfolding whole_bytes head_bytes u32_at whole_length
-  at-4 = go (eqb t CLOSE)
+  at_4 = go (eqb t CLOSE)
     where
       go : (b : Bool) → u32_at (digits 4 t ++ (digits 4 (cond b 12 16) ++ (digits 4 x ++ []))) 4 ≡ cond b 12 16
       go true = refl
@@ -50,26 +50,26 @@ module _ (t x w : ℕ) (t32 : t < 2 ^ 32) (x32 : x < 2 ^ 32) (w32 : w < 2 ^ 32) 
 
   at_8 : u32_at (whole_bytes t x w) 8 ≡ x
   unfolding whole_bytes head_bytes u32_at
-  at_8 = num-digits 4 x [] x32
+  at_8 = num_digits 4 x [] x32
 
-  at-word : whole_word_at t (whole_bytes t x w) ≡ cond (eqb t CLOSE) 0 w
+  at_word : whole_word_at t (whole_bytes t x w) ≡ cond (eqb t CLOSE) 0 w
   unfolding whole_bytes head_bytes u32_at whole_word_at
-  at-word = go (eqb t CLOSE)
+  at_word = go (eqb t CLOSE)
     where
       go : (b : Bool) → cond b 0 (u32_at (head_bytes t x ++ cond b [] (digits 4 w)) 12) ≡ cond b 0 w
       go true = refl
-      go false = num-digits 4 w [] w32
+      go false = num_digits 4 w [] w32
 
   kept : is_whole t ≡ true → Kept (whole_rules (whole_bytes t x w))
   kept known =
-      rw (at-0, at-4, length-whole_bytes t x w, known, eq-eqb (whole_length t) (whole_length t) refl) (le-ltb _ _ (least t), (refl, (refl, (refl, tt))))
+      rw (at_0, at_4, length_whole_bytes t x w, known, eq-eqb (whole_length t) (whole_length t) refl) (le-ltb _ _ (least t), (refl, (refl, (refl, tt))))
 
   judged : is_whole t ≡ true → whole_of (whole_bytes t x w) ≡ Message t x (cond (eqb t CLOSE) 0 w)
   unfolding whole_of whole_by
-  judged known = rw (kept-fits (whole_rules (whole_bytes t x w)) (kept known), at-0, at_8, at-word)
+  judged known = rw (kept_fits (whole_rules (whole_bytes t x w)) (kept known), at_0, at_8, at_word)
 
 pub whole_back : WholeBack
 unfolding write_whole_of
 whole_back t x w t32 x32 w32 out n e =
-    rw (written-front _ (whole_bytes t x w) out n e)
-    (judged t x w t32 x32 w32 (not-kept (is_whole t) (fits_kept _ (written-fits _ (whole_bytes t x w) out n e)).0))
+    rw (written_front _ (whole_bytes t x w) out n e)
+    (judged t x w t32 x32 w32 (not_kept (is_whole t) (fits_kept _ (written_fits _ (whole_bytes t x w) out n e)).0))

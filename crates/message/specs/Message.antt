@@ -4,7 +4,7 @@ use Rattle.std.specs.Prelude.{ℕ, ◌+◌, ◌-◌, Bool, not, cond, ◌&&◌, 
 use Rattle.wire.specs.Numbers.{u32_at, digits}
 use Rattle.protocol.specs.Refusal.{too_short, wrong_length, unknown, wrong_fragment, too_long, outside_table, wrong_transfer_size}
 use Rattle.protocol.specs.Verdict.{Rule, rule, judge, Writing, writing}
-use Rattle.protocol.specs.MessageType.{CLOSE, COMMAND, INDICATE-STATUS, is_whole, is_fragmented}
+use Rattle.protocol.specs.MessageType.{CLOSE, COMMAND, INDICATE_STATUS, is_whole, is_fragmented}
 use Rattle.protocol.specs.Service.{id_at}
 use Rattle.protocol.specs.declared.Verdict.{Verdict}
 use Rattle.protocol.specs.declared.Verdict.TheVariants.{Fits, Fault}
@@ -101,7 +101,7 @@ header_of s = header_by (judge (header_rules s)) s
 
 -- where the information length stands: at 44, for INDICATE at 40
 unfoldable pub length_place : ℕ → ℕ
-length_place t = cond (eqb t INDICATE-STATUS) 40 44
+length_place t = cond (eqb t INDICATE_STATUS) 40 44
 
 -- the bytes before the information
 abbrev pub first_length : ℕ → ℕ
@@ -109,7 +109,7 @@ first_length t = length_place t + 4
 
 -- a command's type or a reply's status stands at 40; INDICATE has no such word
 unfoldable pub word_at : ℕ → List ℕ → ℕ
-word_at t s = cond (eqb t INDICATE-STATUS) 0 (u32_at s 40)
+word_at t s = cond (eqb t INDICATE_STATUS) 0 (u32_at s 40)
 
 unfoldable pub message_at : List ℕ → MessageHeader
 message_at s = record {

@@ -2,15 +2,15 @@
 -- Assumes nothing.
 use native.Mathlib.Omega.{arith}
 use Rattle.protocol.specs.Verdict.{first_of}
-use Rattle.protocol.proofs.Verdicts.{length-short, length-long}
+use Rattle.protocol.proofs.Verdicts.{length_short, length_long}
 use Rattle.packet_service.specs.PacketService.{read_of}
-use Rattle.packet_service.proofs.Laws.{length-bytes}
+use Rattle.packet_service.proofs.Laws.{length_bytes}
 use Rattle.packet_service.specs.Claims.{LaterReadEarlier, EarlierReadLater}
 
-pub later-read-earlier : LaterReadEarlier
+pub later_read_earlier : LaterReadEarlier
 unfolding read_of first_of
-later-read-earlier p e = rw (length-bytes p, e, length-long 28 32 (omega arith))
+later_read_earlier p e = rw (length_bytes p, e, length_long 28 32 (omega arith))
 
-pub earlier-read-later : EarlierReadLater
+pub earlier_read_later : EarlierReadLater
 unfolding read_of first_of
-earlier-read-later p e = rw (length-bytes p, e, length-short 32 28 (omega arith))
+earlier_read_later p e = rw (length_bytes p, e, length_short 32 28 (omega arith))

@@ -13,14 +13,14 @@ use lib.Dec.{ltb, eqb}
 use lib.ListN.{length, take, drop}
 use Rattle.wire.specs.Output.{fitted}
 use Rattle.wire.specs.Numbers.{num, u32_at}
-use Rattle.wire.proofs.Laws.{text_at, num-skip, num-digits}
+use Rattle.wire.proofs.Laws.{text_at, num_skip, num_digits}
 use Rattle.protocol.specs.Refusal.{refusal, offset_in_fixed_part, past_end, wrong_size, misaligned_offset, offset_with_zero_size}
 use Rattle.protocol.specs.Verdict.{Rule, rule, Kept, judge, judge_from, fault_if, first_of}
 use Rattle.protocol.specs.declared.Refusal.{Refusal}
 use Rattle.protocol.specs.declared.Verdict.{Verdict}
 use Rattle.protocol.specs.declared.Verdict.TheVariants.{Fits, Fault}
-use Rattle.protocol.proofs.Tests.{and_both, or-none, none_or, not-said, equal-kept, kept-equal}
-use Rattle.protocol.proofs.Verdicts.{fits_kept, kept-fits, Decides, decides-here, fault-decided}
+use Rattle.protocol.proofs.Tests.{and_both, or_none, none_or, not_said, equal_kept, kept_equal}
+use Rattle.protocol.proofs.Verdicts.{fits_kept, kept_fits, Decides, decides_here, fault_decided}
 use Rattle.pairs.specs.declared.Range.{Range}
 use Rattle.pairs.specs.declared.PairKind.{PairKind}
 use Rattle.pairs.specs.declared.PairKind.TheVariants.{Text, List as ListKind}
@@ -31,57 +31,57 @@ use Rattle.pairs.specs.Claims.{Absent, NoOffset, AbsentBy, Inside, Even, SizeFit
 
 -- ---- sizes
 
-even-said : (kind : PairKind) (size : ℕ) → odd_for kind size ≡ false → Even kind size
-even-said Text size e = equal-kept (size % 2) 0 e
-even-said ListKind size e = tt
+even_said : (kind : PairKind) (size : ℕ) → odd_for kind size ≡ false → Even kind size
+even_said Text size e = equal_kept (size % 2) 0 e
+even_said ListKind size e = tt
 
-said-even : (kind : PairKind) (size : ℕ) → Even kind size → odd_for kind size ≡ false
-said-even Text size e = kept-equal (size % 2) 0 e
-said-even ListKind size e = refl
+said_even : (kind : PairKind) (size : ℕ) → Even kind size → odd_for kind size ≡ false
+said_even Text size e = kept_equal (size % 2) 0 e
+said_even ListKind size e = refl
 
-zero-even : (kind : PairKind) → Even kind 0
-zero-even Text = refl
-zero-even ListKind = tt
+zero_even : (kind : PairKind) → Even kind 0
+zero_even Text = refl
+zero_even ListKind = tt
 
 -- a size that fits is within its limit, and even for text
-pub size-said : (kind : PairKind) (limit size : ℕ) → unfit kind limit size ≡ false → SizeFits kind limit size
-size-said kind limit size e =
-    let k = or-none (ltb limit size) (odd_for kind size) e in
-    record { small = ltb-false limit size k.0; even = even-said kind size k.1 }
+pub size_said : (kind : PairKind) (limit size : ℕ) → unfit kind limit size ≡ false → SizeFits kind limit size
+size_said kind limit size e =
+    let k = or_none (ltb limit size) (odd_for kind size) e in
+    record { small = ltb-false limit size k.0; even = even_said kind size k.1 }
 
-pub said-size : (kind : PairKind) (limit size : ℕ) → SizeFits kind limit size → unfit kind limit size ≡ false
-said-size kind limit size f = none_or (ltb limit size) (odd_for kind size) (le-ltb limit size f.small) (said-even kind size f.even)
+pub said_size : (kind : PairKind) (limit size : ℕ) → SizeFits kind limit size → unfit kind limit size ≡ false
+said_size kind limit size f = none_or (ltb limit size) (odd_for kind size) (le-ltb limit size f.small) (said_even kind size f.even)
 
 -- ---- a pair is accepted exactly where it is safe
 
 -- no offset, where the choice asks for that
-no-offset : (z : ZeroSize) (start : ℕ) → if_strict z (not (eqb start 0)) ≡ false → NoOffset z start
+no_offset : (z : ZeroSize) (start : ℕ) → if_strict z (not (eqb start 0)) ≡ false → NoOffset z start
 unfolding if_strict
-no-offset ZeroAbsent start e = tt
-no-offset Strict start e = equal-kept start 0 e
+no_offset ZeroAbsent start e = tt
+no_offset Strict start e = equal_kept start 0 e
 
-offset-no : (z : ZeroSize) (start : ℕ) → NoOffset z start → if_strict z (not (eqb start 0)) ≡ false
+offset_no : (z : ZeroSize) (start : ℕ) → NoOffset z start → if_strict z (not (eqb start 0)) ≡ false
 unfolding if_strict
-offset-no ZeroAbsent start h = refl
-offset-no Strict start h = kept-equal start 0 h
+offset_no ZeroAbsent start h = refl
+offset_no Strict start h = kept_equal start 0 h
 
 -- a rule of the strict choice that isn't broken
-pub not-strict : (z : ZeroSize) → if_strict z false ≡ false
+pub not_strict : (z : ZeroSize) → if_strict z false ≡ false
 unfolding if_strict
-not-strict ZeroAbsent = refl
-not-strict Strict = refl
+not_strict ZeroAbsent = refl
+not_strict Strict = refl
 
 -- and one that is
-strict-said : (z : ZeroSize) (b : Bool) → if_strict z b ≡ true → (z ≡ Strict) × (b ≡ true)
+strict_said : (z : ZeroSize) (b : Bool) → if_strict z b ≡ true → (z ≡ Strict) × (b ≡ true)
 unfolding if_strict
-strict-said ZeroAbsent b e = let z : ◌≡◌ {A = ℕ} 0 1 = cc in absurd (omega arith)
-strict-said Strict b e = (refl, e)
+strict_said ZeroAbsent b e = let z : ◌≡◌ {A = ℕ} 0 1 = cc in absurd (omega arith)
+strict_said Strict b e = (refl, e)
 
 module _ (z : ZeroSize) (kind : PairKind) (fixed limit place n : ℕ) (p : Range) where
-  safe-by : Kept (rules z kind fixed limit place n p) → (t : Bool) → eqb p.length 0 ≡ t → AbsentBy z p ⊎ Inside fixed n p
+  safe_by : Kept (rules z kind fixed limit place n p) → (t : Bool) → eqb p.length 0 ≡ t → AbsentBy z p ⊎ Inside fixed n p
   unfolding rules
-  safe-by k true e = inl (record { nowhere = no-offset z p.start (rw e at k.1.0); empty = eqb-true p.length 0 e })
-  safe-by k false e =
+  safe_by k true e = inl (record { nowhere = no_offset z p.start (rw e at k.1.0); empty = eqb-true p.length 0 e })
+  safe_by k false e =
       let some : p.length ≡ 0 → ⊥ = eqb-false p.length 0 e in
       let within : ltb n (p.start + p.length) ≡ false = rw e at k.1.1.1.1.0 in
       let behind : ltb p.start fixed ≡ false = rw e at k.1.1.0 in
@@ -89,7 +89,7 @@ module _ (z : ZeroSize) (kind : PairKind) (fixed limit place n : ℕ) (p : Range
       (record {
         some = omega arith;
         behind = ltb-false p.start fixed behind;
-        aligned = equal-kept (p.start % 4) 0 (rw e at k.1.1.1.0);
+        aligned = equal_kept (p.start % 4) 0 (rw e at k.1.1.1.0);
         within = ltb-false n (p.start + p.length) within;
       })
 
@@ -97,117 +97,117 @@ module _ (z : ZeroSize) (kind : PairKind) (fixed limit place n : ℕ) (p : Range
   unfolding verdict_of rules
   fits_said e =
       let k = fits_kept (rules z kind fixed limit place n p) e in
-      record { size = size-said kind limit p.length k.0; safe = safe-by k (eqb p.length 0) refl }
+      record { size = size_said kind limit p.length k.0; safe = safe_by k (eqb p.length 0) refl }
 
   pub said_fits : PairFits z kind fixed limit n p → verdict_of z kind fixed limit place n p ≡ Fits
   unfolding verdict_of rules
   said_fits f = go f.safe
     where
       fit : unfit kind limit p.length ≡ false
-      fit = said-size kind limit p.length f.size
+      fit = said_size kind limit p.length f.size
 
       go : AbsentBy z p ⊎ Inside fixed n p → judge (rules z kind fixed limit place n p) ≡ Fits
       go (inl a) =
           let e : eqb p.length 0 ≡ true = eq-eqb p.length 0 a.empty in
-          kept-fits (rules z kind fixed limit place n p) (fit, (rw e (offset-no z p.start a.nowhere), (rw e refl, (rw e refl, (rw e refl, tt)))))
+          kept_fits (rules z kind fixed limit place n p) (fit, (rw e (offset_no z p.start a.nowhere), (rw e refl, (rw e refl, (rw e refl, tt)))))
       go (inr i) =
           let e : eqb p.length 0 ≡ false = ne_eqb p.length 0 (λ z. omega (arith, i.some)) in
-          kept-fits (rules z kind fixed limit place n p)
-          (fit, (rw e (not-strict z), (rw e (le-ltb p.start fixed i.behind), (rw e (kept-equal (p.start % 4) 0 i.aligned), (rw e (le-ltb n (p.start + p.length) i.within), tt)))))
+          kept_fits (rules z kind fixed limit place n p)
+          (fit, (rw e (not_strict z), (rw e (le-ltb p.start fixed i.behind), (rw e (kept_equal (p.start % 4) 0 i.aligned), (rw e (le-ltb n (p.start + p.length) i.within), tt)))))
 
-pub fits-exactly : FitsExactly
-fits-exactly z kind fixed limit place n p = (fits_said z kind fixed limit place n p, said_fits z kind fixed limit place n p)
+pub fits_exactly : FitsExactly
+fits_exactly z kind fixed limit place n p = (fits_said z kind fixed limit place n p, said_fits z kind fixed limit place n p)
 
 -- ---- an offset beside size 0
 
 -- a size of 0 fits every limit
-none-fits : (kind : PairKind) (limit size : ℕ) → size ≡ 0 → SizeFits kind limit size
-none-fits kind limit size e = rw e (record { small = omega arith; even = zero-even kind })
+none_fits : (kind : PairKind) (limit size : ℕ) → size ≡ 0 → SizeFits kind limit size
+none_fits kind limit size e = rw e (record { small = omega arith; even = zero_even kind })
 
-pub stray-said : (p : Range) → offset_without_size p ≡ true → OffsetWithZeroSize p
-stray-said p e =
+pub stray_said : (p : Range) → offset_without_size p ≡ true → OffsetWithZeroSize p
+stray_said p e =
     let b = and_both (eqb p.length 0) (not (eqb p.start 0)) e in
-    record { empty = eqb-true p.length 0 b.0; somewhere = eqb-false p.start 0 (not-said (eqb p.start 0) b.1) }
+    record { empty = eqb-true p.length 0 b.0; somewhere = eqb-false p.start 0 (not_said (eqb p.start 0) b.1) }
 
-pub said-stray : (p : Range) → OffsetWithZeroSize p → offset_without_size p ≡ true
-said-stray p f = rw (eq-eqb p.length 0 f.empty, ne_eqb p.start 0 f.somewhere)
+pub said_stray : (p : Range) → OffsetWithZeroSize p → offset_without_size p ≡ true
+said_stray p f = rw (eq-eqb p.length 0 f.empty, ne_eqb p.start 0 f.somewhere)
 
 -- ---- a pair is refused by 18, 6 and 17 exactly where its offset has that fault
 
 module _ (z : ZeroSize) (kind : PairKind) (fixed limit place n : ℕ) (p : Range) where
   decided : (number : ℕ) → RefusedBy number z kind fixed limit place n p → Decides number (rules z kind fixed limit place n p)
   unfolding verdict_of
-  decided number e = fault-decided (rules z kind fixed limit place n p) number place e
+  decided number e = fault_decided (rules z kind fixed limit place n p) number place e
 
   -- a rule that is broken only where there are bytes
   sized : (t : Bool) → if_sized p.length t ≡ true → (eqb p.length 0 ≡ false) × (t ≡ true)
   sized t e =
       let b = and_both (not (eqb p.length 0)) t e in
-      (not-said (eqb p.length 0) b.0, b.1)
+      (not_said (eqb p.length 0) b.0, b.1)
 
-  some-there : eqb p.length 0 ≡ false → 0 < p.length
-  some-there e = let h : p.length ≡ 0 → ⊥ = eqb-false p.length 0 e in omega arith
+  some_there : eqb p.length 0 ≡ false → 0 < p.length
+  some_there e = let h : p.length ≡ 0 → ⊥ = eqb-false p.length 0 e in omega arith
 
-  zero-size-said : RefusedBy offset_with_zero_size z kind fixed limit place n p → (z ≡ Strict) × OffsetWithZeroSize p
+  zero_size_said : RefusedBy offset_with_zero_size z kind fixed limit place n p → (z ≡ Strict) × OffsetWithZeroSize p
   unfolding rules
-  zero-size-said e =
+  zero_size_said e =
       let k = decided offset_with_zero_size e in
-      let s = strict-said z (offset_without_size p) (decides-here (if_strict z (offset_without_size p)) (λ m. m.1.1.1) k.1) in
-      (s.0, stray-said p s.1)
+      let s = strict_said z (offset_without_size p) (decides_here (if_strict z (offset_without_size p)) (λ m. m.1.1.1) k.1) in
+      (s.0, stray_said p s.1)
 
-  said-zero-size : (z ≡ Strict) × OffsetWithZeroSize p → RefusedBy offset_with_zero_size z kind fixed limit place n p
+  said_zero_size : (z ≡ Strict) × OffsetWithZeroSize p → RefusedBy offset_with_zero_size z kind fixed limit place n p
   unfolding verdict_of rules if_strict judge_from fault_if first_of
-  said-zero-size f = rw (f.0, said-size kind limit p.length (none-fits kind limit p.length f.1.empty), said-stray p f.1)
+  said_zero_size f = rw (f.0, said_size kind limit p.length (none_fits kind limit p.length f.1.empty), said_stray p f.1)
 
-  fixed-part-said : RefusedBy offset_in_fixed_part z kind fixed limit place n p → OffsetInFixedPart kind fixed limit p
+  fixed_part_said : RefusedBy offset_in_fixed_part z kind fixed limit place n p → OffsetInFixedPart kind fixed limit p
   unfolding rules
-  fixed-part-said e =
+  fixed_part_said e =
       let k = decided offset_in_fixed_part e in
-      let b = sized (ltb p.start fixed) (decides-here (inside_fixed_part fixed p) (λ m. m.1.1) k.1.1) in
+      let b = sized (ltb p.start fixed) (decides_here (inside_fixed_part fixed p) (λ m. m.1.1) k.1.1) in
       record {
-        size = size-said kind limit p.length k.0;
-        some = some-there b.0;
+        size = size_said kind limit p.length k.0;
+        some = some_there b.0;
         inside = ltb-true p.start fixed b.1;
       }
 
-  said-fixed-part : OffsetInFixedPart kind fixed limit p → RefusedBy offset_in_fixed_part z kind fixed limit place n p
+  said_fixed_part : OffsetInFixedPart kind fixed limit p → RefusedBy offset_in_fixed_part z kind fixed limit place n p
   unfolding verdict_of rules judge_from fault_if first_of
-  said-fixed-part f =
-      rw (said-size kind limit p.length f.size, ne_eqb p.length 0 (λ z. omega (arith, f.some)), not-strict z, lt-ltb p.start fixed f.inside)
+  said_fixed_part f =
+      rw (said_size kind limit p.length f.size, ne_eqb p.length 0 (λ z. omega (arith, f.some)), not_strict z, lt-ltb p.start fixed f.inside)
 
-  misaligned-said : RefusedBy misaligned_offset z kind fixed limit place n p → MisalignedOffset kind fixed limit p
+  misaligned_said : RefusedBy misaligned_offset z kind fixed limit place n p → MisalignedOffset kind fixed limit p
   unfolding rules
-  misaligned-said e =
+  misaligned_said e =
       let k = decided misaligned_offset e in
-      let b = sized (not (eqb (p.start % 4) 0)) (decides-here (misaligned p) (λ m. m.1) k.1.1.1) in
+      let b = sized (not (eqb (p.start % 4) 0)) (decides_here (misaligned p) (λ m. m.1) k.1.1.1) in
       let z : eqb p.length 0 ≡ false = b.0 in
       let behind : ltb p.start fixed ≡ false = rw z at k.1.1.0 in
       record {
-        size = size-said kind limit p.length k.0;
-        some = some-there z;
+        size = size_said kind limit p.length k.0;
+        some = some_there z;
         behind = ltb-false p.start fixed behind;
-        misaligned = eqb-false (p.start % 4) 0 (not-said (eqb (p.start % 4) 0) b.1);
+        misaligned = eqb-false (p.start % 4) 0 (not_said (eqb (p.start % 4) 0) b.1);
       }
 
-  said-misaligned : MisalignedOffset kind fixed limit p → RefusedBy misaligned_offset z kind fixed limit place n p
+  said_misaligned : MisalignedOffset kind fixed limit p → RefusedBy misaligned_offset z kind fixed limit place n p
   unfolding verdict_of rules judge_from fault_if first_of
-  said-misaligned f =
+  said_misaligned f =
       rw (
-        said-size kind limit p.length f.size,
+        said_size kind limit p.length f.size,
         ne_eqb p.length 0 (λ z. omega (arith, f.some)),
-        not-strict z,
+        not_strict z,
         le-ltb p.start fixed f.behind,
         ne_eqb (p.start % 4) 0 f.misaligned,
       )
 
-pub zero-size-exactly : ZeroSizeExactly
-zero-size-exactly z kind fixed limit place n p = (zero-size-said z kind fixed limit place n p, said-zero-size z kind fixed limit place n p)
+pub zero_size_exactly : ZeroSizeExactly
+zero_size_exactly z kind fixed limit place n p = (zero_size_said z kind fixed limit place n p, said_zero_size z kind fixed limit place n p)
 
-pub fixed-part-exactly : FixedPartExactly
-fixed-part-exactly z kind fixed limit place n p = (fixed-part-said z kind fixed limit place n p, said-fixed-part z kind fixed limit place n p)
+pub fixed_part_exactly : FixedPartExactly
+fixed_part_exactly z kind fixed limit place n p = (fixed_part_said z kind fixed limit place n p, said_fixed_part z kind fixed limit place n p)
 
-pub misaligned-exactly : MisalignedExactly
-misaligned-exactly z kind fixed limit place n p = (misaligned-said z kind fixed limit place n p, said-misaligned z kind fixed limit place n p)
+pub misaligned_exactly : MisalignedExactly
+misaligned_exactly z kind fixed limit place n p = (misaligned_said z kind fixed limit place n p, said_misaligned z kind fixed limit place n p)
 
 -- ---- with one number for the three, a pair is judged as document 01 says
 
@@ -238,97 +238,97 @@ in_one place false false w false false e = refl
 in_one place false false w false true true = refl
 in_one place false false w false true false = refl
 
-pub only-numbers-moved : OnlyNumbersMoved
+pub only_numbers_moved : OnlyNumbersMoved
 unfolding verdict_of rules if_strict
-only-numbers-moved kind fixed limit place n p =
+only_numbers_moved kind fixed limit place n p =
     in_one place (unfit kind limit p.length) (eqb p.length 0) (eqb p.start 0) (ltb p.start fixed) (eqb (p.start % 4) 0) (ltb n (p.start + p.length))
 
 -- ---- the reader's choices
 
-pub strict-as-before : StrictAsBefore
+pub strict_as_before : StrictAsBefore
 unfolding verdict_of rules if_strict
-strict-as-before kind fixed limit place n p = refl
+strict_as_before kind fixed limit place n p = refl
 
 -- without an offset the choice is no matter
-no-choice : (z : ZeroSize) → NoOffset z 0
-no-choice ZeroAbsent = tt
-no-choice Strict = refl
+no_choice : (z : ZeroSize) → NoOffset z 0
+no_choice ZeroAbsent = tt
+no_choice Strict = refl
 
 -- an absent pair fits
-pub absent-fits : (z : ZeroSize) (kind : PairKind) (fixed limit place n : ℕ) → verdict_of z kind fixed limit place n (range 0 0) ≡ Fits
-absent-fits z kind fixed limit place n =
-    said_fits z kind fixed limit place n (range 0 0) (record { size = none-fits kind limit 0 refl; safe = inl (record { nowhere = no-choice z; empty = refl }) })
+pub absent_fits : (z : ZeroSize) (kind : PairKind) (fixed limit place n : ℕ) → verdict_of z kind fixed limit place n (range 0 0) ≡ Fits
+absent_fits z kind fixed limit place n =
+    said_fits z kind fixed limit place n (range 0 0) (record { size = none_fits kind limit 0 refl; safe = inl (record { nowhere = no_choice z; empty = refl }) })
 
 -- and by default so does every pair of size 0
-pub zero-fits : (kind : PairKind) (fixed limit place n : ℕ) (p : Range) → p.length ≡ 0 → verdict_of ZeroAbsent kind fixed limit place n p ≡ Fits
-zero-fits kind fixed limit place n p e =
-    said_fits ZeroAbsent kind fixed limit place n p (record { size = none-fits kind limit p.length e; safe = inl (record { nowhere = tt; empty = e }) })
+pub zero_fits : (kind : PairKind) (fixed limit place n : ℕ) (p : Range) → p.length ≡ 0 → verdict_of ZeroAbsent kind fixed limit place n p ≡ Fits
+zero_fits kind fixed limit place n p e =
+    said_fits ZeroAbsent kind fixed limit place n p (record { size = none_fits kind limit p.length e; safe = inl (record { nowhere = tt; empty = e }) })
 
 module _ (kind : PairKind) (fixed limit place n : ℕ) (p : Range) where
   -- with bytes a pair is judged and shown as it stands
-  some-judged : (z : ZeroSize) → eqb p.length 0 ≡ false → verdict_of ZeroAbsent kind fixed limit place n p ≡ verdict_of z kind fixed limit place n p
+  some_judged : (z : ZeroSize) → eqb p.length 0 ≡ false → verdict_of ZeroAbsent kind fixed limit place n p ≡ verdict_of z kind fixed limit place n p
   unfolding verdict_of rules
-  some-judged z e = rw (e, not-strict z, not-strict ZeroAbsent)
+  some_judged z e = rw (e, not_strict z, not_strict ZeroAbsent)
 
   shown_by : (z : ZeroSize) (t : Bool) → eqb p.length 0 ≡ t → verdict_of ZeroAbsent kind fixed limit place n p ≡ verdict_of z kind fixed limit place n (as_shown p)
   shown_by z true e =
       let empty : p.length ≡ 0 = eqb-true p.length 0 e in
-      zero-fits kind fixed limit place n p empty
-      ∙ sym (rw (e, empty) (absent-fits z kind fixed limit place n))
-  shown_by z false e = rw e (some-judged z e)
+      zero_fits kind fixed limit place n p empty
+      ∙ sym (rw (e, empty) (absent_fits z kind fixed limit place n))
+  shown_by z false e = rw e (some_judged z e)
 
-  none-judged : offset_without_size p ≡ false → verdict_of Strict kind fixed limit place n p ≡ verdict_of ZeroAbsent kind fixed limit place n p
+  none_judged : offset_without_size p ≡ false → verdict_of Strict kind fixed limit place n p ≡ verdict_of ZeroAbsent kind fixed limit place n p
   unfolding verdict_of rules
-  none-judged e = rw (e, not-strict Strict, not-strict ZeroAbsent)
+  none_judged e = rw (e, not_strict Strict, not_strict ZeroAbsent)
 
-  of-fitting : verdict_of ZeroAbsent kind fixed limit place n p ≡ Fits → (b : Bool) → offset_without_size p ≡ b
+  of_fitting : verdict_of ZeroAbsent kind fixed limit place n p ≡ Fits → (b : Bool) → offset_without_size p ≡ b
       → verdict_of Strict kind fixed limit place n p ≡ judge (rule b offset_with_zero_size place ∷ [])
   unfolding judge_from fault_if first_of
-  of-fitting f true e = said-zero-size Strict kind fixed limit place n p (refl, stray-said p e)
-  of-fitting f false e = none-judged e ∙ f
+  of_fitting f true e = said_zero_size Strict kind fixed limit place n p (refl, stray_said p e)
+  of_fitting f false e = none_judged e ∙ f
 
-pub default-as-shown : DefaultAsShown
-default-as-shown z kind fixed limit place n p = shown_by kind fixed limit place n p z (eqb p.length 0) refl
+pub default_as_shown : DefaultAsShown
+default_as_shown z kind fixed limit place n p = shown_by kind fixed limit place n p z (eqb p.length 0) refl
 
-pub strict-of-fitting : StrictOfFitting
-strict-of-fitting kind fixed limit place n p f = of-fitting kind fixed limit place n p f (offset_without_size p) refl
+pub strict_of_fitting : StrictOfFitting
+strict_of_fitting kind fixed limit place n p f = of_fitting kind fixed limit place n p f (offset_without_size p) refl
 
 -- ---- what is shown
 
-shown-empty : (p : Range) → p.length ≡ 0 → Absent (as_shown p)
-shown-empty p e = record { nowhere = rw (eq-eqb p.length 0 e); empty = e }
+shown_empty : (p : Range) → p.length ≡ 0 → Absent (as_shown p)
+shown_empty p e = record { nowhere = rw (eq-eqb p.length 0 e); empty = e }
 
 -- with bytes, as it stands
-pub shown-some : (p : Range) → 0 < p.length → as_shown p ≡ p
-shown-some p h = rw (ne_eqb p.length 0 (λ e. omega (arith, h)))
+pub shown_some : (p : Range) → 0 < p.length → as_shown p ≡ p
+shown_some p h = rw (ne_eqb p.length 0 (λ e. omega (arith, h)))
 
-pub shown-safe : ShownSafe
-shown-safe z kind fixed limit n p f = by_place f.safe
+pub shown_safe : ShownSafe
+shown_safe z kind fixed limit n p f = by_place f.safe
   where
     by_place : AbsentBy z p ⊎ Inside fixed n p → Safe fixed n (as_shown p)
-    by_place (inl a) = inl (shown-empty p a.empty)
-    by_place (inr i) = inr (rw (shown-some p i.some) i)
+    by_place (inl a) = inl (shown_empty p a.empty)
+    by_place (inr i) = inr (rw (shown_some p i.some) i)
 
-pub strict-shown : StrictShown
-strict-shown kind fixed limit n p f = by_place f.safe
+pub strict_shown : StrictShown
+strict_shown kind fixed limit n p f = by_place f.safe
   where
     by_place : AbsentBy Strict p ⊎ Inside fixed n p → as_shown p ≡ p
     by_place (inl a) =
         let nowhere : cond (eqb p.length 0) 0 p.start ≡ p.start = rw (eq-eqb p.length 0 a.empty) (sym a.nowhere) in
         λ i. record { start = nowhere i; length = p.length }
-    by_place (inr i) = shown-some p i.some
+    by_place (inr i) = shown_some p i.some
 
 -- what fits by a choice fits by default
-pub fits-by-default : (z : ZeroSize) (kind : PairKind) (fixed limit n : ℕ) (p : Range) → PairFits z kind fixed limit n p → PairFits ZeroAbsent kind fixed limit n p
-fits-by-default z kind fixed limit n p f = record { size = f.size; safe = by_place f.safe }
+pub fits_by_default : (z : ZeroSize) (kind : PairKind) (fixed limit n : ℕ) (p : Range) → PairFits z kind fixed limit n p → PairFits ZeroAbsent kind fixed limit n p
+fits_by_default z kind fixed limit n p f = record { size = f.size; safe = by_place f.safe }
   where
     by_place : AbsentBy z p ⊎ Inside fixed n p → AbsentBy ZeroAbsent p ⊎ Inside fixed n p
     by_place (inl a) = inl (record { nowhere = tt; empty = a.empty })
     by_place (inr i) = inr i
 
 -- a pair that a writer places is shown as it stands
-pub placed-shown : (base size : ℕ) → as_shown (placed base size) ≡ placed base size
-placed-shown base size = by_size (eqb size 0)
+pub placed_shown : (base size : ℕ) → as_shown (placed base size) ≡ placed base size
+placed_shown base size = by_size (eqb size 0)
   where
     by_size : (t : Bool) → range (cond t 0 (cond t 0 base)) size ≡ range (cond t 0 base) size
     by_size true = refl
@@ -338,64 +338,64 @@ placed-shown base size = by_size (eqb size 0)
 
 module _ (z : ZeroSize) (kind : PairKind) (fixed limit place n base : ℕ) where
   -- is accepted behind the fixed part
-  pub placed-fits : (size : ℕ) → unfit kind limit size ≡ false → fixed ≤ base → base % 4 ≡ 0 → base + size ≤ n
+  pub placed_fits : (size : ℕ) → unfit kind limit size ≡ false → fixed ≤ base → base % 4 ≡ 0 → base + size ≤ n
       → verdict_of z kind fixed limit place n (placed base size) ≡ Fits
-  placed-fits zero u f a e = absent-fits z kind fixed limit place n
-  placed-fits (suc m) u f a e =
+  placed_fits zero u f a e = absent_fits z kind fixed limit place n
+  placed_fits (suc m) u f a e =
       let i : Inside fixed n (range base (suc m)) = record { some = omega arith; behind = f; aligned = a; within = e } in
       rw (ne_eqb (suc m) 0 (omega arith))
-      (said_fits z kind fixed limit place n (range base (suc m)) (record { size = size-said kind limit (suc m) u; safe = inr i }))
+      (said_fits z kind fixed limit place n (range base (suc m)) (record { size = size_said kind limit (suc m) u; safe = inr i }))
 
   -- and refused as one in the fixed part where that reaches further
-  pub placed-inside : (size : ℕ) → unfit kind limit size ≡ false → (size ≡ 0 → ⊥) → base < fixed
+  pub placed_inside : (size : ℕ) → unfit kind limit size ≡ false → (size ≡ 0 → ⊥) → base < fixed
       → verdict_of z kind fixed limit place n (placed base size) ≡ Fault (refusal offset_in_fixed_part place)
-  placed-inside size u h l =
+  placed_inside size u h l =
       let some : 0 < size = omega (arith, h) in
-      rw (ne_eqb size 0 h) (said-fixed-part z kind fixed limit place n (range base size) (record { size = size-said kind limit size u; some = some; inside = l }))
+      rw (ne_eqb size 0 h) (said_fixed_part z kind fixed limit place n (range base size) (record { size = size_said kind limit size u; some = some; inside = l }))
 
 -- its numbers fit their fields
-pub placed-sized : (base size : ℕ) → base ≤ 4096 → size ≤ 4096 → RangeOfWidth (placed base size)
-placed-sized base zero h k = record { start = omega arith; length = omega arith }
-placed-sized base (suc m) h k = record { start = rw (ne_eqb (suc m) 0 (omega arith)) (omega arith); length = omega arith }
+pub placed_sized : (base size : ℕ) → base ≤ 4096 → size ≤ 4096 → RangeOfWidth (placed base size)
+placed_sized base zero h k = record { start = omega arith; length = omega arith }
+placed_sized base (suc m) h k = record { start = rw (ne_eqb (suc m) 0 (omega arith)) (omega arith); length = omega arith }
 
 -- the bytes put there, with their padding, are those that the range shows
-pub placed-back : (before x rest : List ℕ) (base : ℕ) → length before ≡ base
+pub placed_back : (before x rest : List ℕ) (base : ℕ) → length before ≡ base
     → shown_in (before ++ (fitted (padded (length x)) x ++ rest)) (placed base (length x)) ≡ x
-placed-back before [] rest base e = refl
-placed-back before (b ∷ x) rest base e =
+placed_back before [] rest base e = refl
+placed_back before (b ∷ x) rest base e =
     rw (ne_eqb (suc (length x)) 0 (omega arith)) (text_at before (b ∷ x) rest (padded (suc (length x))) base e (omega arith))
 
 -- ---- what a choice decides
 
 -- a choice that finds no fault leaves the verdict as another has it that finds none
-pub reached-same : (before pairs others behind : Verdict) → reached before pairs ≡ Fits → (pairs ≡ Fits → others ≡ Fits)
+pub reached_same : (before pairs others behind : Verdict) → reached before pairs ≡ Fits → (pairs ≡ Fits → others ≡ Fits)
     → first_of before (first_of others behind) ≡ first_of before (first_of pairs behind)
 unfolding first_of
-reached-same Fits pairs others behind e h = rw (e, h e)
-reached-same (Fault r) pairs others behind e h = refl
+reached_same Fits pairs others behind e h = rw (e, h e)
+reached_same (Fault r) pairs others behind e h = refl
 
 -- the fault that it finds is the whole verdict
-pub reached-fault : (before pairs behind : Verdict) (r : Refusal) → reached before pairs ≡ Fault r → first_of before (first_of pairs behind) ≡ Fault r
+pub reached_fault : (before pairs behind : Verdict) (r : Refusal) → reached before pairs ≡ Fault r → first_of before (first_of pairs behind) ≡ Fault r
 unfolding first_of
-reached-fault Fits pairs behind r e = rw e
-reached-fault (Fault q) pairs behind r e = let z : ◌≡◌ {A = ℕ} 0 1 = cc in absurd (omega arith)
+reached_fault Fits pairs behind r e = rw e
+reached_fault (Fault q) pairs behind r e = let z : ◌≡◌ {A = ℕ} 0 1 = cc in absurd (omega arith)
 
 -- ---- the bytes of a range
 
 module _ (s : List ℕ) (p : Range) where
-  pub part-shown : p.start + p.length ≤ length s → part_of s p ≡ shown_in s p
+  pub part_shown : p.start + p.length ≤ length s → part_of s p ≡ shown_in s p
   unfolding part_of
-  part-shown h = rw (le-ltb (length s) (p.start + p.length) h)
+  part_shown h = rw (le-ltb (length s) (p.start + p.length) h)
 
   -- past the payload
-  pub part-past : length s < p.start + p.length → part_of s p ≡ []
+  pub part_past : length s < p.start + p.length → part_of s p ≡ []
   unfolding part_of
-  part-past h = rw (lt-ltb (length s) (p.start + p.length) h)
+  part_past h = rw (lt-ltb (length s) (p.start + p.length) h)
 
   -- absent
-  pub part-absent : p.length ≡ 0 → part_of s p ≡ []
+  pub part_absent : p.length ≡ 0 → part_of s p ≡ []
   unfolding part_of
-  part-absent e = by_end (ltb (length s) (p.start + p.length))
+  part_absent e = by_end (ltb (length s) (p.start + p.length))
     where
       by_end : (b : Bool) → cond b [] (take p.length (drop p.start s)) ≡ []
       by_end true = refl
@@ -405,6 +405,6 @@ pub range_back : (before rest : List ℕ) (p : Range) (at : ℕ) → length befo
 unfolding range_at u32_at range_bytes
 range_back before rest p at e z =
     let s = range_bytes p ++ rest in
-    let start : num 4 (before ++ s) at ≡ p.start = ap (num 4 (before ++ s)) (omega arith) ∙ num-skip 4 before s 0 ∙ num-digits 4 p.start [] z.start in
-    let size : num 4 (before ++ s) (at + 4) ≡ p.length = ap (λ (k : ℕ). num 4 (before ++ s) (k + 4)) (sym e) ∙ num-skip 4 before s 4 ∙ num-digits 4 p.length [] z.length in
+    let start : num 4 (before ++ s) at ≡ p.start = ap (num 4 (before ++ s)) (omega arith) ∙ num_skip 4 before s 0 ∙ num_digits 4 p.start [] z.start in
+    let size : num 4 (before ++ s) (at + 4) ≡ p.length = ap (λ (k : ℕ). num 4 (before ++ s) (k + 4)) (sym e) ∙ num_skip 4 before s 4 ∙ num_digits 4 p.length [] z.length in
     λ i. record { start = start i; length = size i }

@@ -4,7 +4,7 @@
 -- In this order: which way a message goes; the table; any message.
 use Rattle.std.specs.Prelude.{ℕ, cond, eqb}
 use Rattle.protocol.specs.Refusal.{refusal, unknown}
-use Rattle.protocol.specs.MessageType.{COMMAND, COMMAND-DONE, SET, is_fragmented}
+use Rattle.protocol.specs.MessageType.{COMMAND, COMMAND_DONE, SET, is_fragmented}
 use Rattle.protocol.specs.Status.{success, failure}
 use Rattle.protocol.specs.Service.{kind_of}
 use Rattle.protocol.specs.declared.service.Kind.{Kind}
@@ -26,7 +26,7 @@ unfoldable pub done_way : ℕ → Way
 done_way status = cond (eqb status success) Answer (cond (eqb status failure) Failed Other)
 
 unfoldable pub way_of : MessageHeader → Way
-way_of m = cond (eqb m.message_type COMMAND) (command_way m.word) (cond (eqb m.message_type COMMAND-DONE) (done_way m.word) Answer)
+way_of m = cond (eqb m.message_type COMMAND) (command_way m.word) (cond (eqb m.message_type COMMAND_DONE) (done_way m.word) Answer)
 
 -- ---- the table: for each CID, named by the kind that its answers carry, what a query, a set, an answer and a DONE of status 2 show
 

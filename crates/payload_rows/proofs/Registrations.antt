@@ -15,9 +15,9 @@ use Rattle.registration.proofs.Acceptance.{accepted}
 use Rattle.payload_rows.specs.Registrations.{ListableTexts}
 use Rattle.payload_rows.proofs.Ranges.{listable}
 
-pub listable-texts : (v : Version) (z : ZeroSize) (s : List ℕ) (p : Registration) (t : RegistrationTexts) → read_with v z s ≡ Info p t → ListableTexts t s
+pub listable_texts : (v : Version) (z : ZeroSize) (s : List ℕ) (p : Registration) (t : RegistrationTexts) → read_with v z s ≡ Info p t → ListableTexts t s
 unfolding texts_at pairs_at
-listable-texts v z s p t e =
+listable_texts v z s p t e =
     let k = accepted v z s p t e in
     rw k.1.1 (record {
       id = listable z (fixed_part v) 12 s (range_at s 20) (omega arith) k.0.id;

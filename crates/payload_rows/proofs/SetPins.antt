@@ -14,9 +14,9 @@ use Rattle.pin.proofs.SetPinLaws.{accepted}
 use Rattle.payload_rows.specs.SetPins.{ListableTexts}
 use Rattle.payload_rows.proofs.Ranges.{listable}
 
-pub listable-texts : (z : ZeroSize) (s : List ℕ) (p : SetPin) (t : SetPinTexts) → read_with z s ≡ Info p t → ListableTexts t s
+pub listable_texts : (z : ZeroSize) (s : List ℕ) (p : SetPin) (t : SetPinTexts) → read_with z s ≡ Info p t → ListableTexts t s
 unfolding texts_at pairs_at
-listable-texts z s p t e =
+listable_texts z s p t e =
     let k = accepted z s p t e in
     rw k.1.1 (record {
       pin = listable z fixed_part 32 s (range_at s 8) (omega arith) k.0.pin;

@@ -8,23 +8,23 @@ use native.Mathlib.Omega.{arith}
 use borrow.Author.Tests.{ltb-false, le-ltb}
 use lib.ListN.{length}
 use Rattle.wire.specs.Numbers.{u32_at}
-use Rattle.wire.proofs.Laws.{num-digits}
+use Rattle.wire.proofs.Laws.{num_digits}
 use Rattle.protocol.specs.Verdict.{Kept, judge, first_of, exact_length}
 use Rattle.protocol.specs.declared.Verdict.{Verdict}
 use Rattle.protocol.specs.declared.Verdict.TheVariants.{Fits, Fault}
-use Rattle.protocol.proofs.Verdicts.{fits_kept, kept-fits, then-kept, kept_then, exact-length, length-exact, written_both, both-written, written-fits, written-front}
+use Rattle.protocol.proofs.Verdicts.{fits_kept, kept_fits, then_kept, kept_then, exact_length_lem, length_exact, written_both, both_written, written_fits, written_front}
 use Rattle.pin.specs.declared.pin_info.PinInfo.{PinInfo}
 use Rattle.pin.specs.declared.pin_info.PinInfoRead.TheVariants.{Info}
 use Rattle.pin.specs.PinInfo.{last_type, record_at, rules, verdict_of, shown, read_of, bytes_of, write_of}
 use Rattle.pin.specs.PinInfoClaims.{InfoFits, Acceptable, OfWidth, Accepted, AcceptedExactly, WrittenExactly, RoundTrip}
 
-info-said : (i : PinInfo) → Kept (rules i) → InfoFits i
+info_said : (i : PinInfo) → Kept (rules i) → InfoFits i
 unfolding rules
-info-said i k = record { type = ltb-false last_type i.pin_type k.0; state = ltb-false 1 i.pin_state k.1.0 }
+info_said i k = record { type = ltb-false last_type i.pin_type k.0; state = ltb-false 1 i.pin_state k.1.0 }
 
-said-info : (i : PinInfo) → InfoFits i → Kept (rules i)
+said_info : (i : PinInfo) → InfoFits i → Kept (rules i)
 unfolding rules
-said-info i f = (le-ltb last_type i.pin_type f.type, (le-ltb 1 i.pin_state f.state, tt))
+said_info i f = (le-ltb last_type i.pin_type f.type, (le-ltb 1 i.pin_state f.state, tt))
 
 shows : (d : Verdict) (i j : PinInfo) → shown d i ≡ Info j → (d ≡ Fits) × (i ≡ j)
 shows Fits i j e = (refl, cc)
@@ -35,51 +35,51 @@ pub accepted : Accepted
 unfolding read_of verdict_of
 accepted s i e =
     let d = shows _ (record_at s) i e in
-    let k = then-kept (exact_length 12 (length s)) (rules (record_at s)) d.0 in
-    (record { long = exact-length 12 (length s) k.0; info = info-said (record_at s) k.1 }, sym d.1)
+    let k = then_kept (exact_length 12 (length s)) (rules (record_at s)) d.0 in
+    (record { long = exact_length_lem 12 (length s) k.0; info = info_said (record_at s) k.1 }, sym d.1)
 
 pub acceptable : (s : List ℕ) → Acceptable s → read_of s ≡ Info (record_at s)
 unfolding read_of verdict_of
 acceptable s a =
     let f : first_of (exact_length 12 (length s)) (judge (rules (record_at s))) ≡ Fits =
-    kept_then (exact_length 12 (length s)) (rules (record_at s)) (length-exact 12 (length s) a.long) (said-info (record_at s) a.info) in
+    kept_then (exact_length 12 (length s)) (rules (record_at s)) (length_exact 12 (length s) a.long) (said_info (record_at s) a.info) in
     rw f
 
-pub accepted-exactly : AcceptedExactly
-accepted-exactly s = (λ e. (accepted s (record_at s) e).0, acceptable s)
+pub accepted_exactly : AcceptedExactly
+accepted_exactly s = (λ e. (accepted s (record_at s) e).0, acceptable s)
 
-pub said-verdict : (i : PinInfo) → InfoFits i → verdict_of i ≡ Fits
+pub said_verdict : (i : PinInfo) → InfoFits i → verdict_of i ≡ Fits
 unfolding verdict_of
-said-verdict i f = kept-fits (rules i) (said-info i f)
+said_verdict i f = kept_fits (rules i) (said_info i f)
 
-pub written-exactly : WrittenExactly
+pub written_exactly : WrittenExactly
 unfolding write_of verdict_of bytes_of
-written-exactly i s = (
-  λ e. let w = written_both (judge (rules i)) (bytes_of i) s 12 e in (info-said i (fits_kept (rules i) w.0), w.1),
-  λ w. both-written (judge (rules i)) (bytes_of i) s (kept-fits (rules i) (said-info i w.0)) w.1,
+written_exactly i s = (
+  λ e. let w = written_both (judge (rules i)) (bytes_of i) s 12 e in (info_said i (fits_kept (rules i) w.0), w.1),
+  λ w. both_written (judge (rules i)) (bytes_of i) s (kept_fits (rules i) (said_info i w.0)) w.1,
 )
 
 -- ---- reading what was written
 
-record-back : (i : PinInfo) → OfWidth i → record_at (bytes_of i) ≡ i
+record_back : (i : PinInfo) → OfWidth i → record_at (bytes_of i) ≡ i
 unfolding record_at bytes_of u32_at
-record-back i w = λ j. record {
-  pin_type = num-digits 4 i.pin_type [] w.type j;
-  pin_state = num-digits 4 i.pin_state [] w.state j;
-  remaining_attempts = num-digits 4 i.remaining_attempts [] w.attempts j;
+record_back i w = λ j. record {
+  pin_type = num_digits 4 i.pin_type [] w.type j;
+  pin_state = num_digits 4 i.pin_state [] w.state j;
+  remaining_attempts = num_digits 4 i.remaining_attempts [] w.attempts j;
 }
 
 -- the bytes of a record that fits show the record
 pub bytes_read : (i : PinInfo) → OfWidth i → verdict_of i ≡ Fits → read_of (bytes_of i) ≡ Info i
 unfolding read_of first_of bytes_of
-bytes_read i w e = rw (record-back i w, length-exact 12 12 refl, e)
+bytes_read i w e = rw (record_back i w, length_exact 12 12 refl, e)
 
 -- what the writer puts into an output shows the record
 pub round_trip : RoundTrip
 unfolding write_of
-round_trip i s n w e = rw (written-front (verdict_of i) (bytes_of i) s n e) (bytes_read i w (written-fits (verdict_of i) (bytes_of i) s n e))
+round_trip i s n w e = rw (written_front (verdict_of i) (bytes_of i) s n e) (bytes_read i w (written_fits (verdict_of i) (bytes_of i) s n e))
 
 -- and is 12 bytes
-pub bytes-long : (i : PinInfo) → length (bytes_of i) ≡ 12
+pub bytes_long : (i : PinInfo) → length (bytes_of i) ≡ 12
 unfolding bytes_of
-bytes-long i = refl
+bytes_long i = refl

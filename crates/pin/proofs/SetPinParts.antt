@@ -7,27 +7,27 @@ use native.Mathlib.Omega.{arith}
 use lib.ListN.{length, length-append}
 use Rattle.protocol.specs.Verdict.{Kept, judge}
 use Rattle.protocol.specs.declared.Verdict.TheVariants.{Fits}
-use Rattle.protocol.proofs.Verdicts.{left-fits, right-fits, fits_kept}
+use Rattle.protocol.proofs.Verdicts.{left_fits, right_fits, fits_kept}
 use Rattle.pairs.specs.Pair.{range_bytes}
 use Rattle.texts.specs.Texts.{texts_bytes}
 use Rattle.texts.specs.Claims.{SizesFit}
-use Rattle.texts.proofs.Rows.{sizes-said, end-within, length-texts}
+use Rattle.texts.proofs.Rows.{sizes_said, end_within, length_texts}
 use Rattle.pin.specs.declared.set_pin.SetPin.{SetPin}
 use Rattle.pin.specs.SetPin.{fixed_part, text_rows, number_rules, two, size_rules, written_verdict, length_of, front_bytes, fixed_bytes, laid_for, bytes_of}
 
 -- ---- lengths
 
-pub length-fixed : (p : SetPin) (x y : List ℕ) → length (fixed_bytes p (laid_for x y)) ≡ 24
+pub length_fixed : (p : SetPin) (x y : List ℕ) → length (fixed_bytes p (laid_for x y)) ≡ 24
 unfolding fixed_bytes front_bytes range_bytes
-length-fixed p x y = refl
+length_fixed p x y = refl
 
 -- the bytes are as many as the texts need
-pub length-bytes : (p : SetPin) (x y : List ℕ) → length (bytes_of p x y) ≡ length_of (length x) (length y)
+pub length_bytes : (p : SetPin) (x y : List ℕ) → length (bytes_of p x y) ≡ length_of (length x) (length y)
 unfolding bytes_of
-length-bytes p x y =
+length_bytes p x y =
     let f = fixed_bytes p (laid_for x y) in
     let ts = two x y in
-    omega (arith, length-append f (texts_bytes ts), length-fixed p x y, length-texts fixed_part ts)
+    omega (arith, length-append f (texts_bytes ts), length_fixed p x y, length_texts fixed_part ts)
 
 -- ---- what is written fits in each part
 
@@ -38,17 +38,17 @@ pub record Parts (p : SetPin) (pin new : ℕ) : Type 0 where
 pub parts : (p : SetPin) (pin new : ℕ) → written_verdict p pin new ≡ Fits → Parts p pin new
 unfolding written_verdict
 parts p pin new e = record {
-  numbers = left-fits _ _ e;
-  sizes = fits_kept (size_rules pin new) (right-fits (judge (number_rules p)) _ e);
+  numbers = left_fits _ _ e;
+  sizes = fits_kept (size_rules pin new) (right_fits (judge (number_rules p)) _ e);
 }
 
 pub small : (p : SetPin) (pin new : ℕ) → written_verdict p pin new ≡ Fits → SizesFit text_rows (two pin new)
 unfolding size_rules
-small p pin new e = sizes-said text_rows (two pin new) (parts p pin new e).sizes
+small p pin new e = sizes_said text_rows (two pin new) (parts p pin new e).sizes
 
 -- what is written is far below 4,096 bytes, so number 5 is never given
-pub end-most : (p : SetPin) (pin new : ℕ) → written_verdict p pin new ≡ Fits → length_of pin new ≤ 88
-end-most p pin new e = end-within fixed_part 24 text_rows (two pin new) (small p pin new e) (omega arith) (omega arith)
+pub end_most : (p : SetPin) (pin new : ℕ) → written_verdict p pin new ≡ Fits → length_of pin new ≤ 88
+end_most p pin new e = end_within fixed_part 24 text_rows (two pin new) (small p pin new e) (omega arith) (omega arith)
 
 pub bytes_most : (p : SetPin) (x y : List ℕ) → written_verdict p (length x) (length y) ≡ Fits → length (bytes_of p x y) ≤ 88
-bytes_most p x y e = omega (arith, length-bytes p x y, end-most p (length x) (length y) e)
+bytes_most p x y e = omega (arith, length_bytes p x y, end_most p (length x) (length y) e)

@@ -9,7 +9,7 @@ use lib.ListN.{length, drop, length-drop}
 use lib.Seq.{length-take-le}
 use Rattle.pairs.specs.Pair.{range_at, part_of}
 use Rattle.pairs.specs.Claims.{SizeFits, AbsentBy, Inside, PairFits}
-use Rattle.pairs.proofs.Laws.{part-shown, part-absent}
+use Rattle.pairs.proofs.Laws.{part_shown, part_absent}
 use Rattle.pairs.specs.declared.PairKind.TheVariants.{Text}
 use Rattle.pairs.specs.declared.Range.{Range}
 use Rattle.pairs.specs.declared.ZeroSize.TheVariants.{Strict}
@@ -17,20 +17,20 @@ use Rattle.pin.specs.SetPin.{pairs_at, read_with}
 use Rattle.pin.specs.declared.set_pin.SetPin.{SetPin}
 use Rattle.pin.specs.declared.set_pin.SetPinTexts.{SetPinTexts}
 use Rattle.pin.specs.declared.set_pin.SetPinRead.TheVariants.{Info}
-use Rattle.pin.proofs.SetPinLaws.{accepted, strict-texts}
+use Rattle.pin.proofs.SetPinLaws.{accepted, strict_texts}
 
-part-fits : (fixed limit : ℕ) (s : List ℕ) (p : Range) → PairFits Strict Text fixed limit (length s) p → SizeFits Text limit (length (part_of s p))
-part-fits fixed limit s p f = go f.safe
+part_fits : (fixed limit : ℕ) (s : List ℕ) (p : Range) → PairFits Strict Text fixed limit (length s) p → SizeFits Text limit (length (part_of s p))
+part_fits fixed limit s p f = go f.safe
   where
     go : AbsentBy Strict p ⊎ Inside fixed (length s) p → SizeFits Text limit (length (part_of s p))
-    go (inl a) = rw (part-absent s p a.empty) (rw a.empty at f.size)
+    go (inl a) = rw (part_absent s p a.empty) (rw a.empty at f.size)
     go (inr i) =
         let long : length (drop p.start s) ≡ length s - p.start = length-drop p.start s in
-        rw (part-shown s p i.within, length-take-le p.length (drop p.start s) (omega (arith, i.within))) f.size
+        rw (part_shown s p i.within, length-take-le p.length (drop p.start s) (omega (arith, i.within))) f.size
 
-pub new-fits : (s : List ℕ) (p : SetPin) (t : SetPinTexts) → read_with Strict s ≡ Info p t → SizeFits Text 32 (length (part_of s t.new_pin))
+pub new_fits : (s : List ℕ) (p : SetPin) (t : SetPinTexts) → read_with Strict s ≡ Info p t → SizeFits Text 32 (length (part_of s t.new_pin))
 unfolding pairs_at
-new-fits s p t e = rw (strict-texts s p t e) (part-fits 24 32 s (range_at s 16) (accepted Strict s p t e).0.new)
+new_fits s p t e = rw (strict_texts s p t e) (part_fits 24 32 s (range_at s 16) (accepted Strict s p t e).0.new)
 
-pub new-short : (s : List ℕ) (p : SetPin) (t : SetPinTexts) → read_with Strict s ≡ Info p t → length (part_of s t.new_pin) ≤ 32
-new-short s p t e = (new-fits s p t e).small
+pub new_short : (s : List ℕ) (p : SetPin) (t : SetPinTexts) → read_with Strict s ≡ Info p t → length (part_of s t.new_pin) ≤ 32
+new_short s p t e = (new_fits s p t e).small

@@ -12,8 +12,8 @@ use Rattle.protocol.specs.Status.{success, failure, no_device_support}
 use Rattle.pin_entry.specs.PinTable.{Row, Table, absent, put, filled, puk_of, is_puk, Call, enter_operation, same_text, Entry, unsupported, info, no_info, locked, usable, locked_with, locked_out, blocked, expected, one_less, accepted, failed, judged, entered}
 use Rattle.pin_entry.specs.declared.PinAnswer.{PinAnswer}
 use Rattle.pin_entry.specs.declared.PinAnswer.TheVariants.{Info, Failed, Refused}
-use Rattle.pin_entry.specs.Claims.{Counts, Right, Effect, nothing, wrong, right-pin, right-puk}
-use Rattle.pin_entry.proofs.Text.{same-is, is_same}
+use Rattle.pin_entry.specs.Claims.{Counts, Right, Effect, nothing, wrong, right_pin, right_puk}
+use Rattle.pin_entry.proofs.Text.{same_is, is_same}
 
 -- ---- rows
 
@@ -24,23 +24,23 @@ same_or_not j k = go (eqb j k) refl
     go true e = inl (eqb-true j k e)
     go false e = inr (eqb-false j k e)
 
-pub false-true : {A : Type 0} → false ≡ true → A
-false-true e = let z : ◌≡◌ {A = ℕ} 0 1 = cc in absurd (omega arith)
+pub false_true : {A : Type 0} → false ≡ true → A
+false_true e = let z : ◌≡◌ {A = ℕ} 0 1 = cc in absurd (omega arith)
 
 module _ (t : Table) (k : ℕ) where
   -- a property of row j after a store at k
-  pub put-cases : (P : Row → Type 0) (r : Row) (j : ℕ) → (j ≡ k → P r) → P (t j) → P (put t k r j)
-  put-cases P r j f g = go (same_or_not j k)
+  pub put_cases : (P : Row → Type 0) (r : Row) (j : ℕ) → (j ≡ k → P r) → P (t j) → P (put t k r j)
+  put_cases P r j f g = go (same_or_not j k)
     where
       go : (j ≡ k) ⊎ (j ≡ k → ⊥) → P (put t k r j)
       go (inl e) = rw (eq-eqb j k e) (f e)
       go (inr n) = rw (ne_eqb j k n) g
 
 -- what holds of an absent row and of each f i holds of every row that they fill
-pub filled-each : (P : Row → Type 0) (f : ℕ → Row) (n : ℕ) → P absent → ((i : ℕ) → i < n → P (f i)) → (j : ℕ) → P (filled f n j)
+pub filled_each : (P : Row → Type 0) (f : ℕ → Row) (n : ℕ) → P absent → ((i : ℕ) → i < n → P (f i)) → (j : ℕ) → P (filled f n j)
 unfolding filled
-filled-each P f zero z h j = z
-filled-each P f (suc n) z h j = put-cases (filled f n) (suc n) P (f n) j (λ _. h n (omega arith)) (filled-each P f n z (λ i l. h i (omega (arith, l))) j)
+filled_each P f zero z h j = z
+filled_each P f (suc n) z h j = put_cases (filled f n) (suc n) P (f n) j (λ _. h n (omega arith)) (filled_each P f n z (λ i l. h i (omega (arith, l))) j)
 
 -- the row of each of them
 pub filled_at : (f : ℕ → Row) (n i : ℕ) → i < n → filled f n (suc i) ≡ f i
@@ -59,10 +59,10 @@ either P true p q = p
 either P false p q = q
 
 -- what holds of these four holds of every answer to an entry for a type that the table has
-judged-are : (Q : PinAnswer → Type 0) (t : Table) (k : ℕ) (pin new : List ℕ) → Q (Info failure no_info) → Q (Info success no_info)
+judged_are : (Q : PinAnswer → Type 0) (t : Table) (k : ℕ) (pin new : List ℕ) → Q (Info failure no_info) → Q (Info success no_info)
     → ((n : ℕ) → Q (Info failure (info k locked n))) → ((n : ℕ) → Q (Info failure (info (puk_of k) locked n))) → Q (judged t k pin new).answer
 unfolding judged accepted failed blocked
-judged-are Q t k pin new bad good own puk =
+judged_are Q t k pin new bad good own puk =
     let P : Entry → Type 0 = λ e. Q e.answer in
     let u : Table = put t k (one_less (t k)) in
     either P (not (expected t k)) bad
@@ -71,14 +71,14 @@ judged-are Q t k pin new bad good own puk =
     (either P (eqb ((t k).tries - 1) 0) (either P (usable (u (puk_of k))) (puk (u (puk_of k)).tries) bad) (own ((t k).tries - 1)))))
 
 -- and with status 9 of every answer
-pub answers-are : (Q : PinAnswer → Type 0) (t : Table) (c : Call) → Q (Failed no_device_support) → Q (Info failure no_info) → Q (Info success no_info)
+pub answers_are : (Q : PinAnswer → Type 0) (t : Table) (c : Call) → Q (Failed no_device_support) → Q (Info failure no_info) → Q (Info success no_info)
     → ((n : ℕ) → Q (Info failure (info c.type locked n))) → ((n : ℕ) → Q (Info failure (info (puk_of c.type) locked n))) → Q (entered t c).answer
 unfolding entered
-answers-are Q t c none bad good own puk =
+answers_are Q t c none bad good own puk =
     let P : Entry → Type 0 = λ e. Q e.answer in
     either P (not (eqb c.operation enter_operation)) none
     (either P (not (t c.type).present) none
-    (judged-are Q t c.type c.pin c.new bad good own puk))
+    (judged_are Q t c.type c.pin c.new bad good own puk))
 
 -- a status with PIN_INFO
 abbrev pub Shows : PinAnswer → Type 0
@@ -86,71 +86,71 @@ Shows (Info status i) = Unit
 Shows (Failed status) = ⊥
 Shows (Refused r) = ⊥
 
-judged-shows : (t : Table) (k : ℕ) (pin new : List ℕ) → Shows (judged t k pin new).answer
-judged-shows t k pin new = judged-are Shows t k pin new tt tt (λ n. tt) (λ n. tt)
+judged_shows : (t : Table) (k : ℕ) (pin new : List ℕ) → Shows (judged t k pin new).answer
+judged_shows t k pin new = judged_are Shows t k pin new tt tt (λ n. tt) (λ n. tt)
 
 -- what shows none leaves the table
-pub shows-or-leaves : (t : Table) (c : Call) → Shows (entered t c).answer ⊎ (entered t c ≡ unsupported t)
+pub shows_or_leaves : (t : Table) (c : Call) → Shows (entered t c).answer ⊎ (entered t c ≡ unsupported t)
 unfolding entered
-shows-or-leaves t c =
+shows_or_leaves t c =
     let P : Entry → Type 0 = λ e. Shows e.answer ⊎ (e ≡ unsupported t) in
-    either P (not (eqb c.operation enter_operation)) (inr refl) (either P (not (t c.type).present) (inr refl) (inl (judged-shows t c.type c.pin c.new)))
+    either P (not (eqb c.operation enter_operation)) (inr refl) (either P (not (t c.type).present) (inr refl) (inl (judged_shows t c.type c.pin c.new)))
 
 -- ---- every entry is one of four
 
-blocked-keeps : (t : Table) (k : ℕ) → (blocked t k).table ≡ t
+blocked_keeps : (t : Table) (k : ℕ) → (blocked t k).table ≡ t
 unfolding blocked
-blocked-keeps t k = go (usable (t (puk_of k)))
+blocked_keeps t k = go (usable (t (puk_of k)))
   where
     go : (b : Bool) → (cond b (locked_with t (puk_of k) (t (puk_of k)).tries) (locked_out t)).table ≡ t
     go true = refl
     go false = refl
 
-pub failed-table : (t : Table) (k : ℕ) → (failed t k).table ≡ put t k (one_less (t k))
+pub failed_table : (t : Table) (k : ℕ) → (failed t k).table ≡ put t k (one_less (t k))
 unfolding failed
-failed-table t k = go (eqb ((t k).tries - 1) 0)
+failed_table t k = go (eqb ((t k).tries - 1) 0)
   where
     u : Table
     u = put t k (one_less (t k))
 
     go : (b : Bool) → (cond b (blocked u k) (locked_with u k ((t k).tries - 1))).table ≡ u
-    go true = blocked-keeps u k
+    go true = blocked_keeps u k
     go false = refl
 
 module _ (t : Table) (c : Call) where
   by_right : (b : Bool) → is_puk c.type ≡ b → Right t c → (entered t c).table ≡ (accepted t c.type c.new).table → Effect t c
   unfolding accepted
-  by_right true p r e = right-puk r p (rw p at e)
-  by_right false p r e = right-pin r p (rw p at e)
+  by_right true p r e = right_puk r p (rw p at e)
+  by_right false p r e = right_pin r p (rw p at e)
 
-  by-text : (b : Bool) → same_text (t c.type).secret c.pin ≡ b → Counts t c
+  by_text : (b : Bool) → same_text (t c.type).secret c.pin ≡ b → Counts t c
       → (entered t c).table ≡ (cond b (accepted t c.type c.new) (failed t c.type)).table → Effect t c
-  by-text true p n e = by_right (is_puk c.type) refl (record { counts = n; text = same-is (t c.type).secret c.pin p }) e
-  by-text false p n e =
-      wrong n (λ z. false-true (sym p ∙ (rw (sym z) (is_same (t c.type).secret)))) (e ∙ failed-table t c.type)
+  by_text true p n e = by_right (is_puk c.type) refl (record { counts = n; text = same_is (t c.type).secret c.pin p }) e
+  by_text false p n e =
+      wrong n (λ z. false_true (sym p ∙ (rw (sym z) (is_same (t c.type).secret)))) (e ∙ failed_table t c.type)
 
-  by-tries : (b : Bool) → eqb (t c.type).tries 0 ≡ b → c.operation ≡ enter_operation → (t c.type).present ≡ true → expected t c.type ≡ true
+  by_tries : (b : Bool) → eqb (t c.type).tries 0 ≡ b → c.operation ≡ enter_operation → (t c.type).present ≡ true → expected t c.type ≡ true
       → (entered t c).table ≡ (cond b (blocked t c.type) (cond (same_text (t c.type).secret c.pin) (accepted t c.type c.new) (failed t c.type))).table → Effect t c
-  by-tries true p o h a e = nothing (e ∙ blocked-keeps t c.type)
-  by-tries false p o h a e =
-      by-text (same_text (t c.type).secret c.pin) refl
+  by_tries true p o h a e = nothing (e ∙ blocked_keeps t c.type)
+  by_tries false p o h a e =
+      by_text (same_text (t c.type).secret c.pin) refl
       (record { enter = o; present = h; awaited = a; tries = eqb-false (t c.type).tries 0 p }) e
 
-  by-expected : (b : Bool) → expected t c.type ≡ b → c.operation ≡ enter_operation → (t c.type).present ≡ true
+  by_expected : (b : Bool) → expected t c.type ≡ b → c.operation ≡ enter_operation → (t c.type).present ≡ true
       → (entered t c).table ≡ (judged t c.type c.pin c.new).table → Effect t c
   unfolding judged
-  by-expected true p o h e = by-tries (eqb (t c.type).tries 0) refl o h p (rw p at e)
-  by-expected false p o h e = nothing (rw p at e)
+  by_expected true p o h e = by_tries (eqb (t c.type).tries 0) refl o h p (rw p at e)
+  by_expected false p o h e = nothing (rw p at e)
 
-  by-present : (b : Bool) → (t c.type).present ≡ b → eqb c.operation enter_operation ≡ true → Effect t c
+  by_present : (b : Bool) → (t c.type).present ≡ b → eqb c.operation enter_operation ≡ true → Effect t c
   unfolding entered
-  by-present true p o = by-expected (expected t c.type) refl (eqb-true c.operation enter_operation o) p (rw (o, p))
-  by-present false p o = nothing (rw (o, p))
+  by_present true p o = by_expected (expected t c.type) refl (eqb-true c.operation enter_operation o) p (rw (o, p))
+  by_present false p o = nothing (rw (o, p))
 
-  by-operation : (b : Bool) → eqb c.operation enter_operation ≡ b → Effect t c
+  by_operation : (b : Bool) → eqb c.operation enter_operation ≡ b → Effect t c
   unfolding entered
-  by-operation true p = by-present (t c.type).present refl p
-  by-operation false p = nothing (rw p)
+  by_operation true p = by_present (t c.type).present refl p
+  by_operation false p = nothing (rw p)
 
   pub effect : Effect t c
-  effect = by-operation (eqb c.operation enter_operation) refl
+  effect = by_operation (eqb c.operation enter_operation) refl

@@ -19,26 +19,26 @@ pub row_at : (rows : List PinRow) (k : ℕ) → 0 < k → row_of (get_or rows (k
 row_at rows zero h = absurd (omega arith)
 row_at rows (suc i) h = let e : suc i - 1 ≡ i = omega arith in rw e
 
-pub row-past : (rows : List PinRow) (k : ℕ) → length rows < k → row_from rows k ≡ absent
-row-past rows zero h = absurd (omega arith)
-row-past rows (suc i) h = ap row_of (get_or-eq_default rows no_row (omega arith))
+pub row_past : (rows : List PinRow) (k : ℕ) → length rows < k → row_from rows k ≡ absent
+row_past rows zero h = absurd (omega arith)
+row_past rows (suc i) h = ap row_of (get_or-eq_default rows no_row (omega arith))
 
-false-true : {A : Type 0} → false ≡ true → A
-false-true e = let z : ◌≡◌ {A = ℕ} 0 1 = cc in absurd (omega arith)
+false_true : {A : Type 0} → false ≡ true → A
+false_true e = let z : ◌≡◌ {A = ℕ} 0 1 = cc in absurd (omega arith)
 
 -- only a type of the table has a row that is present
-pub present-within : (rows : List PinRow) (k : ℕ) → (row_from rows k).present ≡ true → (0 < k) × (k ≤ length rows)
-present-within rows zero e = false-true e
-present-within rows (suc i) e = go (leb (suc i) (length rows)) refl
+pub present_within : (rows : List PinRow) (k : ℕ) → (row_from rows k).present ≡ true → (0 < k) × (k ≤ length rows)
+present_within rows zero e = false_true e
+present_within rows (suc i) e = go (leb (suc i) (length rows)) refl
   where
     go : (b : Bool) → leb (suc i) (length rows) ≡ b → (0 < suc i) × (suc i ≤ length rows)
     go true h = (omega arith, leb-true (suc i) (length rows) h)
-    go false h = false-true (sym (ap (λ (r : Row). r.present) (row-past rows (suc i) (leb-false (suc i) (length rows) h))) ∙ e)
+    go false h = false_true (sym (ap (λ (r : Row). r.present) (row_past rows (suc i) (leb-false (suc i) (length rows) h))) ∙ e)
 
 -- a row that is stored is the one of its type
-pub put-row : (rows : List PinRow) (k : ℕ) (r : PinRow) → 0 < k → k ≤ length rows → row_from (set rows (k - 1) r) ≡ put (row_from rows) k (row_of r)
-put-row rows zero r p q = absurd (omega arith)
-put-row rows (suc i) r p q =
+pub put_row : (rows : List PinRow) (k : ℕ) (r : PinRow) → 0 < k → k ≤ length rows → row_from (set rows (k - 1) r) ≡ put (row_from rows) k (row_of r)
+put_row rows zero r p q = absurd (omega arith)
+put_row rows (suc i) r p q =
     let e : suc i - 1 ≡ i = omega arith in
     rw e (fun_ext (λ j. at j (eqb j (suc i)) refl))
   where
@@ -51,9 +51,9 @@ put-row rows (suc i) r p q =
     at (suc j) false e =
         ap row_of (get_or-set_other rows i j r no_row (λ z. eqb-false (suc j) (suc i) e (ap suc z)))
 
-split-both : (a b : Bool) → (a && b) ≡ true → (a ≡ true) × (b ≡ true)
-split-both true b e = (refl, e)
-split-both false b e = false-true e
+split_both : (a b : Bool) → (a && b) ≡ true → (a ≡ true) × (b ≡ true)
+split_both true b e = (refl, e)
+split_both false b e = false_true e
 
 -- ---- rows that are all the same
 
@@ -62,8 +62,8 @@ repeated zero i r e = refl
 repeated (suc n) zero r e = e
 repeated (suc n) (suc i) r e = repeated n i r e
 
-pub all-absent : (n : ℕ) (r : PinRow) → row_of r ≡ absent → row_from (replicate n r) ≡ empty
-all-absent n r e = fun_ext (λ k. go k)
+pub all_absent : (n : ℕ) (r : PinRow) → row_of r ≡ absent → row_from (replicate n r) ≡ empty
+all_absent n r e = fun_ext (λ k. go k)
   where
     go : (k : ℕ) → row_from (replicate n r) k ≡ absent
     go zero = refl
@@ -71,14 +71,14 @@ all-absent n r e = fun_ext (λ k. go k)
 
 -- ---- a row by its number
 
-pub put-at : (t : Table) (i : ℕ) (r : Row) → i < 17 → put_at t i r ≡ put t (i + 1) r
+pub put_at_lem : (t : Table) (i : ℕ) (r : Row) → i < 17 → put_at t i r ≡ put t (i + 1) r
 unfolding put_at
-put-at t i r h = rw (lt-ltb i 17 h, add-one i)
+put_at_lem t i r h = rw (lt-ltb i 17 h, add-one i)
 
 -- one row more
 pub filled_next : (f : ℕ → Row) (i : ℕ) {t u : Table} → i < 17 → t ≡ filled f i → u ≡ put_at t i (f i) → u ≡ filled f (i + 1)
 unfolding filled
-filled_next f i {t} h p q = q ∙ put-at t i (f i) h ∙ rw (p, add-one i)
+filled_next f i {t} h p q = q ∙ put_at_lem t i (f i) h ∙ rw (p, add-one i)
 
 -- ---- the pairs
 
@@ -89,21 +89,21 @@ all_of f (x ∷ xs) = f x && all_of f xs
 -- what holds of 0 and of all numbers of a list holds at each place
 each : (f : ℕ → Bool) (l : List ℕ) → f 0 ≡ true → all_of f l ≡ true → (k : ℕ) → f (get_or l k 0) ≡ true
 each f [] z e k = z
-each f (x ∷ xs) z e zero = (split-both (f x) (all_of f xs) e).0
-each f (x ∷ xs) z e (suc k) = each f xs z (split-both (f x) (all_of f xs) e).1 k
+each f (x ∷ xs) z e zero = (split_both (f x) (all_of f xs) e).0
+each f (x ∷ xs) z e (suc k) = each f xs z (split_both (f x) (all_of f xs) e).1 k
 
-pub pin-within : (k : ℕ) → pin_of k ≤ 17
+pub pin_within : (k : ℕ) → pin_of k ≤ 17
 unfolding pin_of
-pin-within k = leb-true (get_or pins k 0) 17 (each (λ x. leb x 17) pins refl refl k)
+pin_within k = leb-true (get_or pins k 0) 17 (each (λ x. leb x 17) pins refl refl k)
 
-pub puk-within : (k : ℕ) → puk_of k ≤ 17
+pub puk_within : (k : ℕ) → puk_of k ≤ 17
 unfolding puk_of
-puk-within k = leb-true (get_or puks k 0) 17 (each (λ x. leb x 17) puks refl refl k)
+puk_within k = leb-true (get_or puks k 0) 17 (each (λ x. leb x 17) puks refl refl k)
 
 -- a PUK's PIN is no PUK
-pub pin-no-puk : (k : ℕ) → pin_of (pin_of k) ≡ 0
+pub pin_no_puk : (k : ℕ) → pin_of (pin_of k) ≡ 0
 unfolding pin_of
-pin-no-puk k = eqb-true (get_or pins (get_or pins k 0) 0) 0 (each (λ x. eqb (get_or pins x 0) 0) pins refl refl k)
+pin_no_puk k = eqb-true (get_or pins (get_or pins k 0) 0) 0 (each (λ x. eqb (get_or pins x 0) 0) pins refl refl k)
 
 -- what holds of each number below n
 abbrev all_below : (ℕ → Bool) → ℕ → Bool
@@ -112,15 +112,15 @@ all_below f (suc n) = f n && all_below f n
 
 below : (f : ℕ → Bool) (n : ℕ) → all_below f n ≡ true → (k : ℕ) → k < n → f k ≡ true
 below f zero e k h = absurd (omega arith)
-below f (suc n) e k h = go (eqb k n) refl (below f n (split-both (f n) (all_below f n) e).1 k)
+below f (suc n) e k h = go (eqb k n) refl (below f n (split_both (f n) (all_below f n) e).1 k)
   where
     go : (b : Bool) → eqb k n ≡ b → (k < n → f k ≡ true) → f k ≡ true
-    go true q g = rw (eqb-true k n q) (split-both (f n) (all_below f n) e).0
+    go true q g = rw (eqb-true k n q) (split_both (f n) (all_below f n) e).0
     go false q g = let z : k ≡ n → ⊥ = eqb-false k n q in g (omega arith)
 
-pub pairs-agree : PairsAgree
+pub pairs_agree : PairsAgree
 unfolding puk_of pin_of
-pairs-agree k j h p = (one puks pins refl, one pins puks refl)
+pairs_agree k j h p = (one puks pins refl, one pins puks refl)
   where
     back : List ℕ → List ℕ → ℕ → Bool
     back a b i = eqb (get_or a i 0) 0 || eqb (get_or b (get_or a i 0) 0) i

@@ -22,7 +22,7 @@ use Rattle.pin_entry.specs.declared.PinTable.{PinTable}
 use Rattle.pin_entry.specs.declared.PinAnswer.{PinAnswer}
 use Rattle.pin_entry.specs.declared.starts.PinStart.{PinStart}
 use Rattle.pin_entry.proofs.Consequences as each
-use Rattle.pin_entry.proofs.Effects.{filled-each, Shows, shows-or-leaves}
+use Rattle.pin_entry.proofs.Effects.{filled_each, Shows, shows_or_leaves}
 
 -- ---- the code answers as the plain table does, and its table stays that one
 
@@ -36,16 +36,16 @@ as_plain (enters {p} {q} {s} {ss} {xs} r e w) =
     record { answers = rw (← a, ← t) (ap (λ (l : List PinAnswer). r.answer ∷ l) rest.answers); table = rest.table ∙ ap (λ (u : Table). table_after u (map asked_of ss)) t }
 
 -- a payload whose answer shows no PIN_INFO leaves the table
-pub hidden-same : (t : Table) (s : List ℕ) → (Shows (enter_of t s).answer → ⊥) → (enter_of t s).table ≡ t
+pub hidden_same : (t : Table) (s : List ℕ) → (Shows (enter_of t s).answer → ⊥) → (enter_of t s).table ≡ t
 unfolding enter_of asked_of step
-hidden-same t s = go (read_with Strict s)
+hidden_same t s = go (read_with Strict s)
   where
     by_call : (c : Call) → Shows (entered t c).answer ⊎ (entered t c ≡ unsupported t) → (Shows (entered t c).answer → ⊥) → (entered t c).table ≡ t
     by_call c (inl h) n = absurd (n h)
     by_call c (inr e) n = ap (λ (x : Entry). x.table) e
 
     go : (x : SetPinRead) → (Shows (step t (asked_by s x)).answer → ⊥) → (step t (asked_by s x)).table ≡ t
-    go (read.Info p x) n = by_call _ (shows-or-leaves t (call p.pin_type p.pin_operation (part_of s x.pin) (part_of s x.new_pin))) n
+    go (read.Info p x) n = by_call _ (shows_or_leaves t (call p.pin_type p.pin_operation (part_of s x.pin) (part_of s x.new_pin))) n
     go (read.Refused q) n = refl
 
 within_step : (t : Table) (a : Asked) → Within t → Within (step t a).table
@@ -53,73 +53,73 @@ unfolding step
 within_step t (asks c) h = each.within t c h
 within_step t (unread r) h = h
 
-pub within-after : (t : Table) (l : List Asked) → Within t → Within (table_after t l)
+pub within_after : (t : Table) (l : List Asked) → Within t → Within (table_after t l)
 unfolding table_after
-within-after t [] h = h
-within-after t (a ∷ rest) h = within-after (step t a).table rest (within_step t a h)
+within_after t [] h = h
+within_after t (a ∷ rest) h = within_after (step t a).table rest (within_step t a h)
 
 -- from a table just made, no row of the code's table ever has more tries than it started with
-never-more : {p q : PinTable} {ss : List (List ℕ)} {xs : List PinAnswer} → Fresh (table_of p) → Run p ss xs q → Within (table_of q)
-never-more {p} {q} {ss} f w = rw (as_plain w).table (within-after (table_of p) (map asked_of ss) (λ k. omega (arith, f.tries k)))
+never_more : {p q : PinTable} {ss : List (List ℕ)} {xs : List PinAnswer} → Fresh (table_of p) → Run p ss xs q → Within (table_of q)
+never_more {p} {q} {ss} f w = rw (as_plain w).table (within_after (table_of p) (map asked_of ss) (λ k. omega (arith, f.tries k)))
 
 -- ---- tables just made
 
-start-tries : (s : PinStart) → (start_row s).tries ≡ (start_row s).start
-start-tries s = go (eqb s.present 0) refl
+start_tries : (s : PinStart) → (start_row s).tries ≡ (start_row s).start
+start_tries s = go (eqb s.present 0) refl
   where
     go : (b : Bool) → eqb s.present 0 ≡ b → (start_row s).tries ≡ (start_row s).start
     go true e = rw e
     go false e = rw e
 
-start-entered : (s : PinStart) → (start_row s).entered ≡ false
-start-entered s = go (eqb s.present 0) refl
+start_entered : (s : PinStart) → (start_row s).entered ≡ false
+start_entered s = go (eqb s.present 0) refl
   where
     go : (b : Bool) → eqb s.present 0 ≡ b → (start_row s).entered ≡ false
     go true e = rw e
     go false e = rw e
 
-fresh-started : (rows : List PinStart) → Fresh (started rows)
-fresh-started rows =
+fresh_started : (rows : List PinStart) → Fresh (started rows)
+fresh_started rows =
     record {
-      tries = filled-each (λ x. x.tries ≡ x.start) (start_row_at rows) 17 refl (λ i _. start-tries (get_or rows i no_start));
-      entered = filled-each (λ x. x.entered ≡ false) (start_row_at rows) 17 refl (λ i _. start-entered (get_or rows i no_start));
+      tries = filled_each (λ x. x.tries ≡ x.start) (start_row_at rows) 17 refl (λ i _. start_tries (get_or rows i no_start));
+      entered = filled_each (λ x. x.entered ≡ false) (start_row_at rows) 17 refl (λ i _. start_entered (get_or rows i no_start));
     }
 
-pub made-fresh : MadeFresh
+pub made_fresh : MadeFresh
 unfolding made_of
-made-fresh rows = go (starts_verdict rows)
+made_fresh rows = go (starts_verdict rows)
   where
     go : (v : Verdict) → Fresh (made_by v rows).table
-    go Fits = fresh-started rows
+    go Fits = fresh_started rows
     go (Fault r) = record { tries = λ k. refl; entered = λ k. refl }
 
 -- ---- all of it
 
-call-claims : (t : Table) (c : Call) → CallClaims t c
-call-claims t c =
+call_claims : (t : Table) (c : Call) → CallClaims t c
+call_claims t c =
     record {
       raised = each.raised t c;
-      puk-raised = each.puk-raised t c;
-      others = each.other-rows t c;
+      puk_raised = each.puk_raised t c;
+      others = each.other_rows t c;
       secrets = each.secrets t c;
       unblocked = each.unblocks t c;
-      operations = each.other-operation t c;
+      operations = each.other_operation t c;
       refills = each.refills t c;
       costs = each.costs t c;
       kept = each.kept t c;
     }
 
-asked-claims : (t : Table) (a : Asked) → AskedClaims t a
+asked_claims : (t : Table) (a : Asked) → AskedClaims t a
 unfolding step
-asked-claims t (asks c) = call-claims t c
-asked-claims t (unread r) = refl
+asked_claims t (asks c) = call_claims t c
+asked_claims t (unread r) = refl
 
 each_step : (t : Table) (l : List Asked) → EachStep t l
 each_step t [] = tt
-each_step t (a ∷ rest) = (asked-claims t a, each_step (step t a).table rest)
+each_step t (a ∷ rest) = (asked_claims t a, each_step (step t a).table rest)
 
 -- from a table just made, any sequence of payloads
-pub every-run : EveryRun
-every-run rows m e ss xs q w =
-    let f : Fresh (table_of m.table) = rw (ap (λ (x : Making). x.table) e) (made-fresh rows) in
-    record { plain = as_plain w; steps = each_step (table_of m.table) (map asked_of ss); within = never-more f w }
+pub every_run : EveryRun
+every_run rows m e ss xs q w =
+    let f : Fresh (table_of m.table) = rw (ap (λ (x : Making). x.table) e) (made_fresh rows) in
+    record { plain = as_plain w; steps = each_step (table_of m.table) (map asked_of ss); within = never_more f w }

@@ -12,12 +12,12 @@ use lib.Seq.{sets, sets-eq, take_at, drop-cons, drop-length, get_or-take, length
 use Rattle.pin_entry.specs.PinTable.{same_text}
 use Rattle.pin_entry.specs.Claims.{RightExactly}
 
-pub same-is : (a b : List ℕ) → same_text a b ≡ true → a ≡ b
+pub same_is : (a b : List ℕ) → same_text a b ≡ true → a ≡ b
 unfolding same_text
-same-is [] [] e = refl
-same-is [] (y ∷ ys) e = let z : ◌≡◌ {A = ℕ} 0 1 = cc in absurd (omega arith)
-same-is (x ∷ xs) [] e = let z : ◌≡◌ {A = ℕ} 0 1 = cc in absurd (omega arith)
-same-is (x ∷ xs) (y ∷ ys) e = go (eqb x y) refl e (same-is xs ys)
+same_is [] [] e = refl
+same_is [] (y ∷ ys) e = let z : ◌≡◌ {A = ℕ} 0 1 = cc in absurd (omega arith)
+same_is (x ∷ xs) [] e = let z : ◌≡◌ {A = ℕ} 0 1 = cc in absurd (omega arith)
+same_is (x ∷ xs) (y ∷ ys) e = go (eqb x y) refl e (same_is xs ys)
   where
     go : (b : Bool) → eqb x y ≡ b → (b && same_text xs ys) ≡ true → (same_text xs ys ≡ true → xs ≡ ys) → (x ∷ xs) ≡ (y ∷ ys)
     go true p q f = let h = eqb-true x y p in let t = f q in cc
@@ -28,14 +28,14 @@ unfolding same_text
 is_same [] = refl
 is_same (x ∷ xs) = rw (eq-eqb x x refl) (is_same xs)
 
-pub right-exactly : RightExactly
-right-exactly a b = (same-is a b, λ e. rw (← e) (is_same a))
+pub right_exactly : RightExactly
+right_exactly a b = (same_is a b, λ e. rw (← e) (is_same a))
 
 pub unlike : (a b : List ℕ) → (a ≡ b → ⊥) → same_text a b ≡ false
 unlike a b n = go (same_text a b) refl
   where
     go : (t : Bool) → same_text a b ≡ t → t ≡ false
-    go true e = absurd (n (same-is a b e))
+    go true e = absurd (n (same_is a b e))
     go false e = refl
 
 -- ---- from the end to the front

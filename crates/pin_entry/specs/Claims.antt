@@ -59,8 +59,8 @@ pub record Enters (t : Table) (c : Call) (k : ℕ) : Type 0 where
 pub data Effect (t : Table) (c : Call) : Type 0 where
   nothing : (entered t c).table ≡ t → Effect t c
   wrong : Counts t c → ((t c.type).secret ≡ c.pin → ⊥) → (entered t c).table ≡ put t c.type (one_less (t c.type)) → Effect t c
-  right-pin : Right t c → is_puk c.type ≡ false → (entered t c).table ≡ put t c.type (entered_row (t c.type)) → Effect t c
-  right-puk : Right t c → is_puk c.type ≡ true → (entered t c).table ≡ puk_table t c.type c.new → Effect t c
+  right_pin : Right t c → is_puk c.type ≡ false → (entered t c).table ≡ put t c.type (entered_row (t c.type)) → Effect t c
+  right_puk : Right t c → is_puk c.type ≡ true → (entered t c).table ≡ puk_table t c.type c.new → Effect t c
 
 -- "puts a PIN's tries back to the starting number .. and nothing else raises them"
 pub record Raised (t : Table) (c : Call) (k : ℕ) : Type 0 where
@@ -93,7 +93,7 @@ pub record CallClaims (t : Table) (c : Call) : Type 0 where
   -- only its own right entry or its right PUK raises the tries of a PIN, to the starting number
   pub raised : (k : ℕ) → (t k).tries < ((entered t c).table k).tries → Raised t c k
   -- only its own right entry raises those of a PUK
-  pub puk-raised : (k : ℕ) → is_puk k ≡ true → (t k).tries < ((entered t c).table k).tries → Enters t c k
+  pub puk_raised : (k : ℕ) → is_puk k ≡ true → (t k).tries < ((entered t c).table k).tries → Enters t c k
   -- an entry for one type changes no other row but the PIN that its PUK unblocks
   pub others : (k : ℕ) → (k ≡ c.type → ⊥) → (Unblocks t c k → ⊥) → (entered t c).table k ≡ t k
   -- a secret changes by a right PUK alone, and to its new text

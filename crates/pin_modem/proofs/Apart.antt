@@ -40,21 +40,21 @@ use Rattle.pin.specs.PinInfo.{rules, verdict_of, bytes_of, write_of}
 use Rattle.pin.specs.SetPin.{read_with}
 use Rattle.pin.specs.declared.set_pin.SetPinRead.{SetPinRead}
 use Rattle.pin.specs.declared.set_pin.SetPinRead.TheVariants as read
-use Rattle.pin.proofs.PinInfoLaws.{said-verdict}
+use Rattle.pin.proofs.PinInfoLaws.{said_verdict}
 use Rattle.pin.proofs.SetPinLaws.{accepted}
 use Rattle.pin_entry.specs.PinTable.{Table, puk_of, info, locked, step, table_after}
 use Rattle.pin_entry.specs.Meaning.{asked_by, asked_of, enter_of}
 use Rattle.pin_entry.specs.declared.PinAnswer.{PinAnswer}
 use Rattle.pin_entry.specs.declared.PinAnswer.TheVariants as pin
-use Rattle.pin_entry.proofs.Rows.{puk-within}
-use Rattle.pin_entry.proofs.Runs.{hidden-same}
-use Rattle.pin_entry.proofs.Effects.{false-true, answers-are}
+use Rattle.pin_entry.proofs.Rows.{puk_within}
+use Rattle.pin_entry.proofs.Runs.{hidden_same}
+use Rattle.pin_entry.proofs.Effects.{false_true, answers_are}
 use Rattle.pin_modem.specs.PinModem.{serves_pin, is_entry, reply_of, serve_by, serve_of, receive_by, receive_of}
 use Rattle.pin_modem.specs.Claims.{OthersAsWithout, NoRoom, RefusedFails, PinSet, WaitingFails, FirstReaches, SettledReaches, Message, alone, alone_after, reaching, ends, after_all, ApartFromEachOther}
 
-pub others-as-without : OthersAsWithout
+pub others_as_without : OthersAsWithout
 unfolding receive_of
-others-as-without x t h s out e = rw e
+others_as_without x t h s out e = rw e
 
 -- ---- what an answer shows can be written
 
@@ -63,18 +63,18 @@ Writable (pin.Info status i) = verdict_of i ≡ Fits
 Writable (pin.Failed status) = Unit
 Writable (pin.Refused r) = Unit
 
-type-fits : (k n : ℕ) → k ≤ 17 → verdict_of (info k locked n) ≡ Fits
-type-fits k n l = said-verdict (info k locked n) (record { type = l; state = omega arith })
+type_fits : (k n : ℕ) → k ≤ 17 → verdict_of (info k locked n) ≡ Fits
+type_fits k n l = said_verdict (info k locked n) (record { type = l; state = omega arith })
 
-answer-writable : (t : Table) (s : List ℕ) → Writable (enter_of t s).answer
+answer_writable : (t : Table) (s : List ℕ) → Writable (enter_of t s).answer
 unfolding enter_of asked_of step verdict_of rules judge_from first_of fault_if
-answer-writable t s = go (read_with Strict s) refl
+answer_writable t s = go (read_with Strict s) refl
   where
     go : (r : SetPinRead) → read_with Strict s ≡ r → Writable (step t (asked_by s r)).answer
     go (read.Info p x) e =
         let a = accepted Strict s p x e in
         let l : p.pin_type ≤ 17 = rw a.1.0 a.0.numbers.type in
-        answers-are Writable t _ tt refl refl (λ n. type-fits p.pin_type n l) (λ n. type-fits (puk_of p.pin_type) n (puk-within p.pin_type))
+        answers_are Writable t _ tt refl refl (λ n. type_fits p.pin_type n l) (λ n. type_fits (puk_of p.pin_type) n (puk_within p.pin_type))
     go (read.Refused r) e = tt
 
 -- ---- an entry
@@ -82,18 +82,18 @@ answer-writable t s = go (read_with Strict s) refl
 pub no_room : NoRoom
 unfolding serve_of serve_by reply_of write_of bytes_of writing with_room given first_of fault_if
 no_room x y t s out status i e l =
-    let w : verdict_of i ≡ Fits = rw e at (answer-writable t s) in
+    let w : verdict_of i ≡ Fits = rw e at (answer_writable t s) in
     rw (e, w, lt-ltb (length out) 12 l)
 
-pub refused-fails : RefusedFails
+pub refused_fails : RefusedFails
 unfolding serve_of serve_by
-refused-fails x y t s out r e = rw (e, hidden-same t s (λ h. rw e at h))
+refused_fails x y t s out r e = rw (e, hidden_same t s (λ h. rw e at h))
 
 -- with room the end is the one after the handshake's rules, and the table the one that the entry leaves
-entry-after : (x y : Modem) (t : Table) (s out : List ℕ) → 12 ≤ length out
+entry_after : (x y : Modem) (t : Table) (s out : List ℕ) → 12 ≤ length out
     → ((serve_of x y t s out).serving.modem ≡ y) × ((serve_of x y t s out).serving.table ≡ (enter_of t s).table)
 unfolding serve_of serve_by reply_of write_of bytes_of writing with_room given first_of fault_if
-entry-after x y t s out l = go (enter_of t s).answer (answer-writable t s)
+entry_after x y t s out l = go (enter_of t s).answer (answer_writable t s)
   where
     go : (a : PinAnswer) → Writable a → ((serve_by a x t y (enter_of t s).table out).serving.modem ≡ y) × ((serve_by a x t y (enter_of t s).table out).serving.table ≡ (enter_of t s).table)
     go (pin.Info status i) w = rw (w, le-ltb (length out) 12 l) (refl, refl)
@@ -103,39 +103,39 @@ entry-after x y t s out l = go (enter_of t s).answer (answer-writable t s)
 -- ---- which PIN commands reach the table
 
 -- a PIN command is no question of the handshake
-pin-kind : kind_of (id_at basic_connect 0) 4 ≡ carried.Payload kinds.PinInfo
+pin_kind : kind_of (id_at basic_connect 0) 4 ≡ carried.Payload kinds.PinInfo
 unfolding kind_of among same_id id_at u32_at basic_connect
-pin-kind = refl
+pin_kind = refl
 
-pin-command : (x : Modem) (h : MessageHeader) (s out : List ℕ) → PinSet h → modem.receive_of x h s out ≡ modem.plain (modem.other_at x.stage x (carried.Payload kinds.PinInfo)) out
+pin_command : (x : Modem) (h : MessageHeader) (s out : List ℕ) → PinSet h → modem.receive_of x h s out ≡ modem.plain (modem.other_at x.stage x (carried.Payload kinds.PinInfo)) out
 unfolding modem.receive_of modem.receive_by modem.command_of modem.command_by role_of role_of_kind judge_from first_of fault_if
-pin-command x h s out p = rw (p.command, ne_eqb h.transaction 0 (λ e. omega (arith, e, p.numbered)), p.service, p.cid, pin-kind) refl
+pin_command x h s out p = rw (p.command, ne_eqb h.transaction 0 (λ e. omega (arith, e, p.numbered)), p.service, p.cid, pin_kind) refl
 
 -- a PIN command to a modem at a stage
 at_stage : (x : Modem) (t : Table) (h : MessageHeader) (s out : List ℕ) (g : ModemStage) → PinSet h → x.stage ≡ g
     → receive_of x t h s out ≡ (let c = modem.plain (modem.other_at g x (carried.Payload kinds.PinInfo)) out in receive_by (is_entry h c.step.answer) c x t s)
 unfolding receive_of
-at_stage x t h s out g p e = rw (pin-command x h s out p, e)
+at_stage x t h s out g p e = rw (pin_command x h s out p, e)
 
-pub waiting-fails : WaitingFails
+pub waiting_fails : WaitingFails
 unfolding modem.other_at is_entry
-waiting-fails x t h s out p (inl e) = at_stage x t h s out Start p e ∙ rw p.set
-waiting-fails x t h s out p (inr (e, a)) = at_stage x t h s out Listed p e ∙ rw (p.set, a)
+waiting_fails x t h s out p (inl e) = at_stage x t h s out Start p e ∙ rw p.set
+waiting_fails x t h s out p (inr (e, a)) = at_stage x t h s out Listed p e ∙ rw (p.set, a)
 
-pub first-reaches : FirstReaches
+pub first_reaches : FirstReaches
 unfolding modem.other_at is_entry
-first-reaches x t h s out p e a = at_stage x t h s out Listed p e ∙ rw (p.set, a)
+first_reaches x t h s out p e a = at_stage x t h s out Listed p e ∙ rw (p.set, a)
 
-pub settled-reaches : SettledReaches
+pub settled_reaches : SettledReaches
 unfolding modem.other_at is_entry
-settled-reaches x t h s out v p e = at_stage x t h s out (Settled v) p e ∙ rw p.set
+settled_reaches x t h s out v p e = at_stage x t h s out (Settled v) p e ∙ rw p.set
 
 -- ---- any messages
 
 -- an answer to VERSION is no entry
-version-no-entry : (x : Modem) (type : ℕ) (s out : List ℕ) → serves_pin (modem.version_of_command x type s out).step.answer ≡ false
+version_no_entry : (x : Modem) (type : ℕ) (s out : List ℕ) → serves_pin (modem.version_of_command x type s out).step.answer ≡ false
 unfolding modem.version_of_command modem.answer_by modem.give_of modem.gave
-version-no-entry x type s out = by-test (modem.can_answer x type)
+version_no_entry x type s out = by_test (modem.can_answer x type)
   where
     by_written : (w : Written) (v : Version) → serves_pin (modem.gave_by w x v).answer ≡ false
     by_written (written.Length n) v = refl
@@ -147,23 +147,23 @@ version-no-entry x type s out = by-test (modem.can_answer x type)
         by_written (version_info.write_of (info_of v) out).answer v
     by_read (version.Refused r) = refl
 
-    by-test : (b : Bool) → serves_pin (cond b (modem.answer_by x (read_of s) out) (modem.plain (modem.failed x) out)).step.answer ≡ false
-    by-test true = by_read (read_of s)
-    by-test false = refl
+    by_test : (b : Bool) → serves_pin (cond b (modem.answer_by x (read_of s) out) (modem.plain (modem.failed x) out)).step.answer ≡ false
+    by_test true = by_read (read_of s)
+    by_test false = refl
 
 -- the handshake leaves the output to an entry
-entry-output : (x : Modem) (h : MessageHeader) (s out : List ℕ) → serves_pin (modem.receive_of x h s out).step.answer ≡ true → (modem.receive_of x h s out).output ≡ out
+entry_output : (x : Modem) (h : MessageHeader) (s out : List ℕ) → serves_pin (modem.receive_of x h s out).step.answer ≡ true → (modem.receive_of x h s out).output ≡ out
 unfolding modem.receive_of modem.receive_by modem.command_of modem.command_by
-entry-output x h s out = by-verdict (judge (modem.command_rules h))
+entry_output x h s out = by_verdict (judge (modem.command_rules h))
   where
-    by-role : (r : Role) (c : Carried) → serves_pin (modem.command_by r x c h.word s out).step.answer ≡ true → (modem.command_by r x c h.word s out).output ≡ out
-    by-role role.Services c e = refl
-    by-role role.Version c e = false-true (sym (version-no-entry x h.word s out) ∙ e)
-    by-role role.Other c e = refl
+    by_role : (r : Role) (c : Carried) → serves_pin (modem.command_by r x c h.word s out).step.answer ≡ true → (modem.command_by r x c h.word s out).output ≡ out
+    by_role role.Services c e = refl
+    by_role role.Version c e = false_true (sym (version_no_entry x h.word s out) ∙ e)
+    by_role role.Other c e = refl
 
-    by-verdict : (v : Verdict) → serves_pin (modem.receive_by v x h s out).step.answer ≡ true → (modem.receive_by v x h s out).output ≡ out
-    by-verdict Fits e = by-role (role_of (kind_of h.service h.cid)) (kind_of h.service h.cid) e
-    by-verdict (Fault r) e = refl
+    by_verdict : (v : Verdict) → serves_pin (modem.receive_by v x h s out).step.answer ≡ true → (modem.receive_by v x h s out).output ≡ out
+    by_verdict Fits e = by_role (role_of (kind_of h.service h.cid)) (kind_of h.service h.cid) e
+    by_verdict (Fault r) e = refl
 
 -- end and table after a message
 module _ (x : Modem) (t : Table) (m : Message) (l : 12 ≤ length m.output) where
@@ -172,14 +172,14 @@ module _ (x : Modem) (t : Table) (m : Message) (l : 12 ≤ length m.output) wher
       × ((receive_of x t m.header m.information m.output).serving.table ≡ cond b (enter_of t m.information).table t)
   unfolding receive_of is_entry
   one true e =
-      let o = entry-output x m.header m.information m.output (and_both (eqb m.header.word SET) (serves_pin (alone x m).step.answer) e).1 in
-      rw (e, o) (entry-after x (alone x m).step.modem t m.information m.output l)
+      let o = entry_output x m.header m.information m.output (and_both (eqb m.header.word SET) (serves_pin (alone x m).step.answer) e).1 in
+      rw (e, o) (entry_after x (alone x m).step.modem t m.information m.output l)
   one false e = rw e (refl, refl)
 
-pub apart-from-each-other : ApartFromEachOther
+pub apart_from_each_other : ApartFromEachOther
 unfolding after_all alone_after reaching table_after enter_of
-apart-from-each-other x t [] r = refl
-apart-from-each-other x t (m ∷ ms) r = go (is_entry m.header (alone x m).step.answer) refl (λ (u : Table). apart-from-each-other (alone x m).step.modem u ms r.1)
+apart_from_each_other x t [] r = refl
+apart_from_each_other x t (m ∷ ms) r = go (is_entry m.header (alone x m).step.answer) refl (λ (u : Table). apart_from_each_other (alone x m).step.modem u ms r.1)
   where
     rest : List (List ℕ)
     rest = reaching (alone x m).step.modem ms

@@ -10,23 +10,23 @@ CLOSE = 2
 abbrev pub COMMAND : ℕ
 COMMAND = 3
 
-abbrev pub HOST-ERROR : ℕ
-HOST-ERROR = 4
+abbrev pub HOST_ERROR : ℕ
+HOST_ERROR = 4
 
-abbrev pub OPEN-DONE : ℕ
-OPEN-DONE = 0x80000001
+abbrev pub OPEN_DONE : ℕ
+OPEN_DONE = 0x80000001
 
-abbrev pub CLOSE-DONE : ℕ
-CLOSE-DONE = 0x80000002
+abbrev pub CLOSE_DONE : ℕ
+CLOSE_DONE = 0x80000002
 
-abbrev pub COMMAND-DONE : ℕ
-COMMAND-DONE = 0x80000003
+abbrev pub COMMAND_DONE : ℕ
+COMMAND_DONE = 0x80000003
 
-abbrev pub FUNCTION-ERROR : ℕ
-FUNCTION-ERROR = 0x80000004
+abbrev pub FUNCTION_ERROR : ℕ
+FUNCTION_ERROR = 0x80000004
 
-abbrev pub INDICATE-STATUS : ℕ
-INDICATE-STATUS = 0x80000007
+abbrev pub INDICATE_STATUS : ℕ
+INDICATE_STATUS = 0x80000007
 
 -- "COMMAND has type (0 query, 1 set)"
 abbrev pub QUERY : ℕ
@@ -40,7 +40,7 @@ is_in [] n = false
 is_in (k ∷ ks) n = eqb n k || is_in ks n
 
 unfoldable pub is_whole : ℕ → Bool
-is_whole = is_in (OPEN ∷ CLOSE ∷ HOST-ERROR ∷ OPEN-DONE ∷ CLOSE-DONE ∷ FUNCTION-ERROR ∷ [])
+is_whole = is_in (OPEN ∷ CLOSE ∷ HOST_ERROR ∷ OPEN_DONE ∷ CLOSE_DONE ∷ FUNCTION_ERROR ∷ [])
 
 unfoldable pub is_fragmented : ℕ → Bool
-is_fragmented = is_in (COMMAND ∷ COMMAND-DONE ∷ INDICATE-STATUS ∷ [])
+is_fragmented = is_in (COMMAND ∷ COMMAND_DONE ∷ INDICATE_STATUS ∷ [])

@@ -14,36 +14,36 @@ use Rattle.protocol.specs.declared.Refusal.{Refusal}
 use Rattle.protocol.specs.declared.Verdict.{Verdict}
 use Rattle.protocol.specs.declared.Verdict.TheVariants.{Fits, Fault}
 use Rattle.protocol.specs.declared.Version.{Version}
-use Rattle.protocol.proofs.Verdicts.{last_fits, kept-fits}
+use Rattle.protocol.proofs.Verdicts.{last_fits, kept_fits}
 use Rattle.pairs.specs.declared.PairKind.TheVariants.{Text}
 use Rattle.pairs.specs.declared.ZeroSize.{ZeroSize}
 use Rattle.pairs.specs.declared.ZeroSize.TheVariants.{Absent, Strict}
 use Rattle.pairs.specs.Pair.{range_at, offset_without_size}
-use Rattle.pairs.proofs.Laws.{stray-said, said-stray, fits-by-default, strict-shown, reached-same, reached-fault}
+use Rattle.pairs.proofs.Laws.{stray_said, said_stray, fits_by_default, strict_shown, reached_same, reached_fault}
 use Rattle.texts.specs.Claims.{stray_rules}
-use Rattle.texts.proofs.Rows.{texts-said, said-texts, strict-of-texts}
+use Rattle.texts.proofs.Rows.{texts_said, said_texts, strict_of_texts}
 use Rattle.registration.specs.declared.RegistrationRead.TheVariants.{Refused}
 use Rattle.registration.specs.Registration.{fixed_part, record_at, text_rows, pairs_at, texts_at, front_rules, texts_verdict, back_rules, shown, head_verdict, verdict_with, choice_verdict, read_with}
 use Rattle.registration.specs.Claims.{Acceptable, StrayOffset, OnlyByDefault, StrictTexts, StrictOfAccepted, BetweenChoices, StrictWithin}
-use Rattle.registration.proofs.Acceptance.{accepted, acceptable, said-fields}
+use Rattle.registration.proofs.Acceptance.{accepted, acceptable, said_fields}
 
-pub strict-of-accepted : StrictOfAccepted
+pub strict_of_accepted : StrictOfAccepted
 unfolding read_with verdict_with texts_verdict first_of
-strict-of-accepted v s a =
-    let k = said-fields v Absent s a in
-    let t = strict-of-texts (fixed_part v) (length s) text_rows (pairs_at s) (said-texts Absent (fixed_part v) (length s) text_rows (pairs_at s) k.texts) in
-    rw (k.long, kept-fits (front_rules v (record_at v s)) k.front, t, kept-fits (back_rules (record_at v s)) k.back, last_fits (judge (stray_rules text_rows (pairs_at s))))
+strict_of_accepted v s a =
+    let k = said_fields v Absent s a in
+    let t = strict_of_texts (fixed_part v) (length s) text_rows (pairs_at s) (said_texts Absent (fixed_part v) (length s) text_rows (pairs_at s) k.texts) in
+    rw (k.long, kept_fits (front_rules v (record_at v s)) k.front, t, kept_fits (back_rules (record_at v s)) k.back, last_fits (judge (stray_rules text_rows (pairs_at s))))
 
-pub strict-texts : StrictTexts
+pub strict_texts : StrictTexts
 unfolding texts_at pairs_at
-strict-texts v s p t e =
+strict_texts v s p t e =
     let k = accepted v Strict s p t e in
     let n = length s in
     rw (
       k.1.1,
-      strict-shown Text (fixed_part v) 12 n (range_at s 20) k.0.id,
-      strict-shown Text (fixed_part v) 40 n (range_at s 28) k.0.name,
-      strict-shown Text (fixed_part v) 126 n (range_at s 36) k.0.roaming,
+      strict_shown Text (fixed_part v) 12 n (range_at s 20) k.0.id,
+      strict_shown Text (fixed_part v) 40 n (range_at s 28) k.0.name,
+      strict_shown Text (fixed_part v) 126 n (range_at s 36) k.0.roaming,
     )
 
 -- what fits by a choice fits by default
@@ -54,22 +54,22 @@ loosened v z s a =
       fixed = a.fixed;
       most = a.most;
       numbers = a.numbers;
-      id = fits-by-default z Text (fixed_part v) 12 n _ a.id;
-      name = fits-by-default z Text (fixed_part v) 40 n _ a.name;
-      roaming = fits-by-default z Text (fixed_part v) 126 n _ a.roaming;
+      id = fits_by_default z Text (fixed_part v) 12 n _ a.id;
+      name = fits_by_default z Text (fixed_part v) 40 n _ a.name;
+      roaming = fits_by_default z Text (fixed_part v) 126 n _ a.roaming;
     }
 
-pub strict-within-default : StrictWithin
-strict-within-default v s p t e =
+pub strict_within_default : StrictWithin
+strict_within_default v s p t e =
     let k = accepted v Strict s p t e in
     rw (k.1.0, k.1.1) (acceptable v Absent s (loosened v Strict s k.0))
 
 -- ---- a reader that has judged the pairs by a choice goes on by default
 
-first-within : (a b c : Verdict) → first_of (first_of a b) c ≡ first_of a (first_of b c)
+first_within : (a b c : Verdict) → first_of (first_of a b) c ≡ first_of a (first_of b c)
 unfolding first_of
-first-within Fits b c = refl
-first-within (Fault r) b c = refl
+first_within Fits b c = refl
+first_within (Fault r) b c = refl
 
 module _ (v : Version) (z : ZeroSize) (s : List ℕ) where
   abbrev pairs : ZeroSize → Verdict
@@ -78,23 +78,23 @@ module _ (v : Version) (z : ZeroSize) (s : List ℕ) where
   -- the verdict with what comes before the pairs put together
   in_parts : (y : ZeroSize) → verdict_with v y s ≡ first_of (head_verdict v s) (first_of (pairs y) (judge (back_rules (record_at v s))))
   unfolding verdict_with head_verdict
-  in_parts y = sym (first-within (open_length (fixed_part v) (length s)) (judge (front_rules v (record_at v s))) _)
+  in_parts y = sym (first_within (open_length (fixed_part v) (length s)) (judge (front_rules v (record_at v s))) _)
 
-  pairs-by-default : pairs z ≡ Fits → pairs Absent ≡ Fits
+  pairs_by_default : pairs z ≡ Fits → pairs Absent ≡ Fits
   unfolding texts_verdict pairs_at
-  pairs-by-default e =
+  pairs_by_default e =
       let n = length s in
-      let k = texts-said z (fixed_part v) n text_rows (pairs_at s) e in
-      said-texts Absent (fixed_part v) n text_rows (pairs_at s)
-      (fits-by-default z Text (fixed_part v) 12 n _ k.0, (fits-by-default z Text (fixed_part v) 40 n _ k.1.0, (fits-by-default z Text (fixed_part v) 126 n _ k.1.1.0, tt)))
+      let k = texts_said z (fixed_part v) n text_rows (pairs_at s) e in
+      said_texts Absent (fixed_part v) n text_rows (pairs_at s)
+      (fits_by_default z Text (fixed_part v) 12 n _ k.0, (fits_by_default z Text (fixed_part v) 40 n _ k.1.0, (fits_by_default z Text (fixed_part v) 126 n _ k.1.1.0, tt)))
 
-  pub read-judged : choice_verdict v z s ≡ Fits → read_with v Absent s ≡ read_with v z s
+  pub read_judged : choice_verdict v z s ≡ Fits → read_with v Absent s ≡ read_with v z s
   unfolding read_with
-  read-judged e = ap (λ (d : Verdict). shown d (record_at v s) (texts_at s)) (in_parts Absent ∙ reached-same (head_verdict v s) (pairs z) (pairs Absent) _ e pairs-by-default ∙ sym (in_parts z))
+  read_judged e = ap (λ (d : Verdict). shown d (record_at v s) (texts_at s)) (in_parts Absent ∙ reached_same (head_verdict v s) (pairs z) (pairs Absent) _ e pairs_by_default ∙ sym (in_parts z))
 
-  pub read-faulted : (r : Refusal) → choice_verdict v z s ≡ Fault r → Refused r ≡ read_with v z s
+  pub read_faulted : (r : Refusal) → choice_verdict v z s ≡ Fault r → Refused r ≡ read_with v z s
   unfolding read_with
-  read-faulted r e = sym (ap (λ (d : Verdict). shown d (record_at v s) (texts_at s)) (in_parts z ∙ reached-fault (head_verdict v s) (pairs z) _ r e))
+  read_faulted r e = sym (ap (λ (d : Verdict). shown d (record_at v s) (texts_at s)) (in_parts z ∙ reached_fault (head_verdict v s) (pairs z) _ r e))
 
 -- ---- the payloads between the choices
 
@@ -119,52 +119,52 @@ faulty false false false (inl e) = let z : ◌≡◌ {A = ℕ} 0 1 = cc in absur
 faulty false false false (inr (inl e)) = let z : ◌≡◌ {A = ℕ} 0 1 = cc in absurd (omega arith)
 faulty false false false (inr (inr e)) = let z : ◌≡◌ {A = ℕ} 0 1 = cc in absurd (omega arith)
 
-any-faulty : (a b c : Bool) → (stray_in a b c ≡ Fits → ⊥) → Any a b c
+any_faulty : (a b c : Bool) → (stray_in a b c ≡ Fits → ⊥) → Any a b c
 unfolding judge_from fault_if first_of
-any-faulty true b c h = inl refl
-any-faulty false true c h = inr (inl refl)
-any-faulty false false true h = inr (inr refl)
-any-faulty false false false h = absurd (h refl)
+any_faulty true b c h = inl refl
+any_faulty false true c h = inr (inl refl)
+any_faulty false false true h = inr (inr refl)
+any_faulty false false false h = absurd (h refl)
 
 module _ (s : List ℕ) where
   abbrev strays : Verdict
   strays = stray_in (offset_without_size (range_at s 20)) (offset_without_size (range_at s 28)) (offset_without_size (range_at s 36))
 
-  strays-same : judge (stray_rules text_rows (pairs_at s)) ≡ strays
+  strays_same : judge (stray_rules text_rows (pairs_at s)) ≡ strays
   unfolding pairs_at
-  strays-same = refl
+  strays_same = refl
 
-  stray-offset : (strays ≡ Fits → ⊥) → StrayOffset s
-  stray-offset h = by-pair (any-faulty _ _ _ h)
+  stray_offset : (strays ≡ Fits → ⊥) → StrayOffset s
+  stray_offset h = by_pair (any_faulty _ _ _ h)
     where
-      by-pair : Any (offset_without_size (range_at s 20)) (offset_without_size (range_at s 28)) (offset_without_size (range_at s 36)) → StrayOffset s
-      by-pair (inl e) = inl (stray-said (range_at s 20) e)
-      by-pair (inr (inl e)) = inr (inl (stray-said (range_at s 28) e))
-      by-pair (inr (inr e)) = inr (inr (stray-said (range_at s 36) e))
+      by_pair : Any (offset_without_size (range_at s 20)) (offset_without_size (range_at s 28)) (offset_without_size (range_at s 36)) → StrayOffset s
+      by_pair (inl e) = inl (stray_said (range_at s 20) e)
+      by_pair (inr (inl e)) = inr (inl (stray_said (range_at s 28) e))
+      by_pair (inr (inr e)) = inr (inr (stray_said (range_at s 36) e))
 
-  offset-stray : StrayOffset s → Faulty strays
-  offset-stray (inl o) = faulty _ _ _ (inl (said-stray (range_at s 20) o))
-  offset-stray (inr (inl o)) = faulty _ _ _ (inr (inl (said-stray (range_at s 28) o)))
-  offset-stray (inr (inr o)) = faulty _ _ _ (inr (inr (said-stray (range_at s 36) o)))
+  offset_stray : StrayOffset s → Faulty strays
+  offset_stray (inl o) = faulty _ _ _ (inl (said_stray (range_at s 20) o))
+  offset_stray (inr (inl o)) = faulty _ _ _ (inr (inl (said_stray (range_at s 28) o)))
+  offset_stray (inr (inr o)) = faulty _ _ _ (inr (inr (said_stray (range_at s 36) o)))
 
 module _ (v : Version) (s : List ℕ) where
-  strict-by : Acceptable v Absent s → read_with v Strict s ≡ shown (strays s) (record_at v s) (texts_at s)
-  strict-by a = rw (← strays-same s) (strict-of-accepted v s a)
+  strict_by : Acceptable v Absent s → read_with v Strict s ≡ shown (strays s) (record_at v s) (texts_at s)
+  strict_by a = rw (← strays_same s) (strict_of_accepted v s a)
 
   -- a reader that refuses has found a fault
-  none-shown : (d : Verdict) (r : Refusal) → shown d (record_at v s) (texts_at s) ≡ Refused r → d ≡ Fits → ⊥
-  none-shown Fits r e f = let z : ◌≡◌ {A = ℕ} 0 1 = cc in omega arith
-  none-shown (Fault q) r e f = let z : ◌≡◌ {A = ℕ} 0 1 = cc in omega arith
+  none_shown : (d : Verdict) (r : Refusal) → shown d (record_at v s) (texts_at s) ≡ Refused r → d ≡ Fits → ⊥
+  none_shown Fits r e f = let z : ◌≡◌ {A = ℕ} 0 1 = cc in omega arith
+  none_shown (Fault q) r e f = let z : ◌≡◌ {A = ℕ} 0 1 = cc in omega arith
 
-  between-said : OnlyByDefault v s → Acceptable v Absent s × StrayOffset s
-  between-said o =
+  between_said : OnlyByDefault v s → Acceptable v Absent s × StrayOffset s
+  between_said o =
       let a = (accepted v Absent s (record_at v s) (texts_at s) o.accepted).0 in
-      (a, stray-offset s (none-shown (strays s) o.refusal (sym (strict-by a) ∙ o.refused)))
+      (a, stray_offset s (none_shown (strays s) o.refusal (sym (strict_by a) ∙ o.refused)))
 
-  said-between : Acceptable v Absent s × StrayOffset s → OnlyByDefault v s
-  said-between k =
-      let f = offset-stray s k.1 in
-      record { accepted = acceptable v Absent s k.0; refusal = f.refusal; refused = strict-by k.0 ∙ rw f.is }
+  said_between : Acceptable v Absent s × StrayOffset s → OnlyByDefault v s
+  said_between k =
+      let f = offset_stray s k.1 in
+      record { accepted = acceptable v Absent s k.0; refusal = f.refusal; refused = strict_by k.0 ∙ rw f.is }
 
-pub between-choices : BetweenChoices
-between-choices v s = (between-said v s, said-between v s)
+pub between_choices : BetweenChoices
+between_choices v s = (between_said v s, said_between v s)

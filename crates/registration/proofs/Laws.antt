@@ -10,11 +10,11 @@ use Rattle.protocol.specs.Verdict.{Kept, judge}
 use Rattle.protocol.specs.declared.Verdict.TheVariants.{Fits}
 use Rattle.protocol.specs.declared.Version.{Version}
 use Rattle.protocol.specs.declared.Version.TheVariants.{V1, V2}
-use Rattle.protocol.proofs.Verdicts.{left-fits, right-fits, fits_kept}
+use Rattle.protocol.proofs.Verdicts.{left_fits, right_fits, fits_kept}
 use Rattle.pairs.specs.Pair.{range_bytes}
 use Rattle.texts.specs.Texts as pairs
 use Rattle.texts.specs.Claims.{SizesFit}
-use Rattle.texts.proofs.Rows.{sizes-said, end-within, length-texts}
+use Rattle.texts.proofs.Rows.{sizes_said, end_within, length_texts}
 use Rattle.registration.specs.declared.RegistrationForm.{RegistrationForm}
 use Rattle.registration.specs.declared.RegistrationForm.TheVariants.{V1 as Form1, V2 as Form2}
 use Rattle.registration.specs.declared.Registration.{Registration}
@@ -23,17 +23,17 @@ use Rattle.registration.specs.Registration.{fixed_part, text_rows, front_rules, 
 
 -- ---- lengths
 
-pub fixed-small : (v : Version) → fixed_part v ≤ 52
-fixed-small V1 = omega arith
-fixed-small V2 = omega arith
+pub fixed_small : (v : Version) → fixed_part v ≤ 52
+fixed_small V1 = omega arith
+fixed_small V2 = omega arith
 
-pub fixed-four : (v : Version) → fixed_part v % 4 ≡ 0
-fixed-four V1 = refl
-fixed-four V2 = refl
+pub fixed_four : (v : Version) → fixed_part v % 4 ≡ 0
+fixed_four V1 = refl
+fixed_four V2 = refl
 
-pub length-fixed : (p : Registration) (t : RegistrationTexts) → length (fixed_with p t) ≡ fixed_part (version_of p)
+pub length_fixed : (p : Registration) (t : RegistrationTexts) → length (fixed_with p t) ≡ fixed_part (version_of p)
 unfolding fixed_bytes front_bytes texts_bytes back_bytes range_bytes
-length-fixed p t = by_form p.form
+length_fixed p t = by_form p.form
   where
     by_form : (f : RegistrationForm)
         → length (front_bytes p ++ (texts_bytes t.provider_id t.provider_name t.roaming_text ++ (digits 4 p.registration_flag ++ preferred_bytes f))) ≡ fixed_part (version_in f)
@@ -41,12 +41,12 @@ length-fixed p t = by_form p.form
     by_form (Form2 class) = refl
 
 -- the bytes are as many as the form and the texts have
-pub length-bytes : (p : Registration) (x y z : List ℕ) → length (bytes_of p x y z) ≡ length_of (version_of p) (length x) (length y) (length z)
+pub length_bytes : (p : Registration) (x y z : List ℕ) → length (bytes_of p x y z) ≡ length_of (version_of p) (length x) (length y) (length z)
 unfolding bytes_of
-length-bytes p x y z =
+length_bytes p x y z =
     let f = fixed_with p (laid_for p x y z) in
     let ts = three x y z in
-    omega (arith, length-append f (pairs.texts_bytes ts), length-fixed p (laid_for p x y z), length-texts (fixed_part (version_of p)) ts)
+    omega (arith, length-append f (pairs.texts_bytes ts), length_fixed p (laid_for p x y z), length_texts (fixed_part (version_of p)) ts)
 
 -- ---- what is written fits in each part
 
@@ -58,21 +58,21 @@ pub record Parts (p : Registration) (id name roaming : ℕ) : Type 0 where
 pub parts : (p : Registration) (id name roaming : ℕ) → written_verdict p id name roaming ≡ Fits → Parts p id name roaming
 unfolding written_verdict
 parts p id name roaming e =
-    let r = right-fits (judge (front_rules (version_of p) p)) _ e in
+    let r = right_fits (judge (front_rules (version_of p) p)) _ e in
     record {
-      front = left-fits _ _ e;
-      sizes = fits_kept (size_rules id name roaming) (left-fits _ _ r);
-      back = right-fits (judge (size_rules id name roaming)) _ r;
+      front = left_fits _ _ e;
+      sizes = fits_kept (size_rules id name roaming) (left_fits _ _ r);
+      back = right_fits (judge (size_rules id name roaming)) _ r;
     }
 
 pub small : (p : Registration) (id name roaming : ℕ) → written_verdict p id name roaming ≡ Fits → SizesFit text_rows (three id name roaming)
 unfolding size_rules
-small p id name roaming e = sizes-said text_rows (three id name roaming) (parts p id name roaming e).sizes
+small p id name roaming e = sizes_said text_rows (three id name roaming) (parts p id name roaming e).sizes
 
 -- what is written is far below 4,096 bytes, so number 5 is never given
-pub end-most : (p : Registration) (id name roaming : ℕ) → written_verdict p id name roaming ≡ Fits → length_of (version_of p) id name roaming ≤ 232
-end-most p id name roaming e =
-    end-within (fixed_part (version_of p)) 52 text_rows (three id name roaming) (small p id name roaming e) (omega arith) (fixed-small (version_of p))
+pub end_most : (p : Registration) (id name roaming : ℕ) → written_verdict p id name roaming ≡ Fits → length_of (version_of p) id name roaming ≤ 232
+end_most p id name roaming e =
+    end_within (fixed_part (version_of p)) 52 text_rows (three id name roaming) (small p id name roaming e) (omega arith) (fixed_small (version_of p))
 
 pub bytes_most : (p : Registration) (x y z : List ℕ) → written_verdict p (length x) (length y) (length z) ≡ Fits → length (bytes_of p x y z) ≤ 232
-bytes_most p x y z e = omega (arith, length-bytes p x y z, end-most p (length x) (length y) (length z) e)
+bytes_most p x y z e = omega (arith, length_bytes p x y z, end_most p (length x) (length y) (length z) e)

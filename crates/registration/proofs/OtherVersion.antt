@@ -16,12 +16,12 @@ use Rattle.protocol.specs.DataClass.{mask_of, only_classes}
 use Rattle.protocol.specs.declared.Verdict.{Verdict}
 use Rattle.protocol.specs.declared.Verdict.TheVariants.{Fits, Fault}
 use Rattle.protocol.specs.declared.Version.TheVariants.{V1, V2}
-use Rattle.protocol.proofs.Tests.{equal-kept, kept-equal}
-use Rattle.protocol.proofs.Verdicts.{last_fits, fits_kept, kept-fits, open-short}
-use Rattle.protocol.proofs.Classes.{later-classes}
+use Rattle.protocol.proofs.Tests.{equal_kept, kept_equal}
+use Rattle.protocol.proofs.Verdicts.{last_fits, fits_kept, kept_fits, open_short}
+use Rattle.protocol.proofs.Classes.{later_classes}
 use Rattle.pairs.specs.declared.ZeroSize.{ZeroSize}
 use Rattle.texts.specs.Texts.{end_of}
-use Rattle.texts.proofs.Rows.{end-behind, end-aligned, laid-inside, none_inside}
+use Rattle.texts.proofs.Rows.{end_behind, end_aligned, laid_inside, none_inside}
 use Rattle.registration.specs.declared.RegistrationForm.{RegistrationForm}
 use Rattle.registration.specs.declared.RegistrationForm.TheVariants.{V1 as Form1, V2 as Form2}
 use Rattle.registration.specs.declared.Registration.{Registration}
@@ -29,8 +29,8 @@ use Rattle.registration.specs.declared.RegistrationTexts.{RegistrationTexts}
 use Rattle.registration.specs.declared.RegistrationRead.TheVariants.{Refused}
 use Rattle.registration.specs.Registration.{fixed_part, record_at, text_rows, pairs_at, front_rules, texts_verdict, back_rules, shown, verdict_with, read_with, version_of, three, size_rules, written_verdict, laid_for, length_of, bytes_of}
 use Rattle.registration.specs.Claims.{in_form, shown_earlier, refused_later, OfWidth, LaterReadEarlier, EarlierReadLater}
-use Rattle.registration.proofs.Laws.{parts, length-bytes}
-use Rattle.registration.proofs.RoundTrip.{read_back, pairs-back, shared-shown, length-fits}
+use Rattle.registration.proofs.Laws.{parts, length_bytes}
+use Rattle.registration.proofs.RoundTrip.{read_back, pairs_back, shared_shown, length_fits}
 
 -- ---- bytes of 2.00 read at 1.00
 
@@ -40,19 +40,19 @@ unfolding back_rules
 back_earlier p = by_form p.form refl
   where
     by_form : (f : RegistrationForm) → p.form ≡ f → Kept (back_rules p) → judge (back_rules (in_form Form1 p)) ≡ Fits
-    by_form Form1 e k = let j = rw e at k in kept-fits (back_rules (in_form Form1 p)) j
-    by_form (Form2 class) e k = let j = rw e at k in kept-fits (back_rules (in_form Form1 p)) (j.0, (j.1.1.0, tt))
+    by_form Form1 e k = let j = rw e at k in kept_fits (back_rules (in_form Form1 p)) j
+    by_form (Form2 class) e k = let j = rw e at k in kept_fits (back_rules (in_form Form1 p)) (j.0, (j.1.1.0, tt))
 
 -- of those before them, only the classes are judged otherwise
-earlier-by : (p : Registration) (t : RegistrationTexts) → Kept (front_rules V2 p) → (b : Bool) → only_classes V1 p.available_data_class ≡ b
+earlier_by : (p : Registration) (t : RegistrationTexts) → Kept (front_rules V2 p) → (b : Bool) → only_classes V1 p.available_data_class ≡ b
     → shown (judge (front_rules V1 p)) (in_form Form1 p) t ≡ shown_earlier p t
 unfolding front_rules judge_from fault_if first_of
-earlier-by p t k true e = rw (k.0, k.1.0, e, k.1.1.1.0)
-earlier-by p t k false e = rw (k.0, k.1.0, e)
+earlier_by p t k true e = rw (k.0, k.1.0, e, k.1.1.1.0)
+earlier_by p t k false e = rw (k.0, k.1.0, e)
 
-pub later-read-earlier : LaterReadEarlier
+pub later_read_earlier : LaterReadEarlier
 unfolding first_of
-later-read-earlier choice p x y z e s ok =
+later_read_earlier choice p x y z e s ok =
     let k = parts p (length x) (length y) (length z) ok in
     let f : 48 ≤ fixed_part (version_of p) = rw e (omega arith) in
     let front = rw e at (fits_kept (front_rules (version_of p) p) k.front) in
@@ -60,17 +60,17 @@ later-read-earlier choice p x y z e s ok =
     read_back p x y z ok V1 choice f s
     ∙ (λ i. shown (first_of (judge (front_rules V1 p)) (back i)) (in_form Form1 p) (laid_for p x y z))
     ∙ ap (λ (d : Verdict). shown d (in_form Form1 p) (laid_for p x y z)) (last_fits (judge (front_rules V1 p)))
-    ∙ earlier-by p (laid_for p x y z) front (only_classes V1 p.available_data_class) refl
+    ∙ earlier_by p (laid_for p x y z) front (only_classes V1 p.available_data_class) refl
 
 -- ---- bytes of 1.00 read at 2.00
 
 -- the numbers before the pairs fit there too
-front-later : (p : Registration) → Kept (front_rules V1 p) → judge (front_rules V2 p) ≡ Fits
+front_later : (p : Registration) → Kept (front_rules V1 p) → judge (front_rules V2 p) ≡ Fits
 unfolding front_rules
-front-later p k =
+front_later p k =
     let c = p.available_data_class in
-    kept-fits (front_rules V2 p)
-    (k.0, (k.1.0, (kept-equal (bit_and c (mask_of V2)) c (later-classes c (equal-kept (bit_and c (mask_of V1)) c k.1.1.0)), (k.1.1.1.0, tt))))
+    kept_fits (front_rules V2 p)
+    (k.0, (k.1.0, (kept_equal (bit_and c (mask_of V2)) c (later_classes c (equal_kept (bit_and c (mask_of V1)) c k.1.1.0)), (k.1.1.1.0, tt))))
 
 -- ---- by the sizes of the texts: with none the bytes are too short; else the first one that is there lies in the larger fixed part
 
@@ -78,27 +78,27 @@ module _ (choice : ZeroSize) (p : Registration) (x y z : List ℕ) (e : version_
   abbrev sizes : List ℕ
   sizes = three (length x) (length y) (length z)
 
-  none-later : end_of 48 sizes ≡ 48 → read_with V2 choice (bytes_of p x y z) ≡ Refused (refused_later (length x) (length y) (length z))
+  none_later : end_of 48 sizes ≡ 48 → read_with V2 choice (bytes_of p x y z) ≡ Refused (refused_later (length x) (length y) (length z))
   unfolding read_with verdict_with first_of
-  none-later h = rw (length-bytes p x y z, e, h, open-short 52 48 (omega arith), none_inside 48 (refusal too_short 48) text_rows sizes h)
+  none_later h = rw (length_bytes p x y z, e, h, open_short 52 48 (omega arith), none_inside 48 (refusal too_short 48) text_rows sizes h)
 
-  some-later : OfWidth p → written_verdict p (length x) (length y) (length z) ≡ Fits → (end_of 48 sizes ≡ 48 → ⊥)
+  some_later : OfWidth p → written_verdict p (length x) (length y) (length z) ≡ Fits → (end_of 48 sizes ≡ 48 → ⊥)
       → read_with V2 choice (bytes_of p x y z) ≡ Refused (refused_later (length x) (length y) (length z))
   unfolding read_with verdict_with first_of front_rules texts_verdict size_rules
-  some-later s ok h =
+  some_later s ok h =
       let k = parts p (length x) (length y) (length z) ok in
       let n = length (bytes_of p x y z) in
-      let enough : 52 ≤ length_of (version_of p) (length x) (length y) (length z) = rw e (omega (arith, end-behind 48 sizes, end-aligned 48 sizes refl)) in
-      let o : open_length 52 n ≡ Fits = length-fits p x y z ok V2 enough in
+      let enough : 52 ≤ length_of (version_of p) (length x) (length y) (length z) = rw e (omega (arith, end_behind 48 sizes, end_aligned 48 sizes refl)) in
+      let o : open_length 52 n ≡ Fits = length_fits p x y z ok V2 enough in
       let front : judge (front_rules V2 (record_at V2 (bytes_of p x y z))) ≡ Fits =
-      ap (λ (r : Registration). judge (front_rules V2 r)) (shared-shown p x y z ok V2 s) ∙ front-later p (rw e at (fits_kept (front_rules (version_of p) p) k.front)) in
+      ap (λ (r : Registration). judge (front_rules V2 r)) (shared_shown p x y z ok V2 s) ∙ front_later p (rw e at (fits_kept (front_rules (version_of p) p) k.front)) in
       let texts : texts_verdict choice 52 n (pairs_at (bytes_of p x y z)) ≡ Fault (refused_later (length x) (length y) (length z)) =
-      rw (pairs-back p x y z ok, e) (laid-inside choice 52 n 48 (refusal too_short 48) text_rows sizes k.sizes (omega arith) (omega arith) h) in
+      rw (pairs_back p x y z ok, e) (laid_inside choice 52 n 48 (refusal too_short 48) text_rows sizes k.sizes (omega arith) (omega arith) h) in
       rw (o, front, texts)
 
-pub earlier-read-later : EarlierReadLater
-earlier-read-later choice p x y z e s ok = by-sizes (eqb (end_of 48 (three (length x) (length y) (length z))) 48) refl
+pub earlier_read_later : EarlierReadLater
+earlier_read_later choice p x y z e s ok = by_sizes (eqb (end_of 48 (three (length x) (length y) (length z))) 48) refl
   where
-    by-sizes : (b : Bool) → eqb (end_of 48 (three (length x) (length y) (length z))) 48 ≡ b → read_with V2 choice (bytes_of p x y z) ≡ Refused (refused_later (length x) (length y) (length z))
-    by-sizes true h = none-later choice p x y z e (eqb-true (end_of 48 (three (length x) (length y) (length z))) 48 h)
-    by-sizes false h = some-later choice p x y z e s ok (eqb-false (end_of 48 (three (length x) (length y) (length z))) 48 h)
+    by_sizes : (b : Bool) → eqb (end_of 48 (three (length x) (length y) (length z))) 48 ≡ b → read_with V2 choice (bytes_of p x y z) ≡ Refused (refused_later (length x) (length y) (length z))
+    by_sizes true h = none_later choice p x y z e (eqb-true (end_of 48 (three (length x) (length y) (length z))) 48 h)
+    by_sizes false h = some_later choice p x y z e s ok (eqb-false (end_of 48 (three (length x) (length y) (length z))) 48 h)

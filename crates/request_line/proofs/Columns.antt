@@ -13,9 +13,9 @@ use Rattle.protocol.specs.declared.Version.TheVariants.{V1, V2}
 use Rattle.text_parts.specs.Parts.{Reach, whole, stops, Right, further}
 use Rattle.text_parts.specs.Words.{Worded, WordRow, word, reach_from}
 use Rattle.text_parts.specs.Hex.{HexLine, reach_hex_line, HexDigits, line_end_at, end_column}
-use Rattle.text_parts.proofs.Parts.{same-right, further-zero, further-further}
-use Rattle.text_parts.proofs.Hex.{hex-right, hex-said, said-hex}
-use Rattle.text_parts.proofs.Ends.{end-column}
+use Rattle.text_parts.proofs.Parts.{same_right, further_zero, further_further}
+use Rattle.text_parts.proofs.Hex.{hex_right, hex_said, said_hex}
+use Rattle.text_parts.proofs.Ends.{end_column_lem}
 use Rattle.request_line.specs.Request.{kind_words, version_words, kind_of, kind_length, version_of, payload_by, payload_at, by_version, by_kind, request_of}
 use Rattle.request_line.specs.declared.ListingKind.{ListingKind}
 use Rattle.request_line.specs.declared.ListingKind.TheVariants.{PacketService, Version as VersionKind, Registration, SignalState, DeviceServices, SetPin, PinInfo}
@@ -27,7 +27,7 @@ use Rattle.text_parts.specs.declared.LineEnd.TheVariants as end
 use Rattle.text_parts.specs.declared.Reached.{Reached}
 use Rattle.text_parts.specs.declared.Reached.TheVariants.{Word, Column}
 use Rattle.request_line.specs.Good.{kind_text, version_text, most_digits, Good}
-use Rattle.text_parts.proofs.Tables.{AllDiffer, all_tested, AnyOf, table_reach, table-right, table_at, on}
+use Rattle.text_parts.proofs.Tables.{AllDiffer, all_tested, AnyOf, table_reach, table_right, table_at, on}
 
 abbrev column_of : Request → Reach
 column_of (Payload kind version from n) = whole
@@ -60,73 +60,73 @@ reach_version = table_reach (reach_hex_line most_digits) (word (ascii "1.00\t") 
 abbrev reach_row : List ℕ → Reach
 reach_row = table_reach reach_version (word (ascii "packet_service\t") 0) kind_rest
 
-no-digits : HexDigits most_digits []
-no-digits = record { spelled = tt; even = refl; short = omega arith }
+no_digits : HexDigits most_digits []
+no_digits = record { spelled = tt; even = refl; short = omega arith }
 
-version-right : (u : List ℕ) → Right Versioned u (reach_version u)
-version-right u = table-right (HexLine most_digits) (reach_hex_line most_digits) (hex-right most_digits refl) (line_feed ∷ []) (said-hex most_digits [] no-digits) u (word (ascii "1.00\t") 0) version_rest
+version_right : (u : List ℕ) → Right Versioned u (reach_version u)
+version_right u = table_right (HexLine most_digits) (reach_hex_line most_digits) (hex_right most_digits refl) (line_feed ∷ []) (said_hex most_digits [] no_digits) u (word (ascii "1.00\t") 0) version_rest
 
-row-right : (u : List ℕ) → Right Row u (reach_row u)
-row-right u =
-    table-right Versioned reach_version version-right (ascii "1.00\t\n") (inl (10 ∷ [], said-hex most_digits [] no-digits, refl)) u (word (ascii "packet_service\t") 0) kind_rest
+row_right : (u : List ℕ) → Right Row u (reach_row u)
+row_right u =
+    table_right Versioned reach_version version_right (ascii "1.00\t\n") (inl (10 ∷ [], said_hex most_digits [] no_digits, refl)) u (word (ascii "packet_service\t") 0) kind_rest
 
 -- ---- the same lines
 
-version-said : (t : List ℕ) → Versioned t → (v : Version) × (hex : List ℕ) × HexDigits most_digits hex × (t ≡ version_text v ++ (hex ++ (line_feed ∷ [])))
-version-said t (inl m) = let d = hex-said most_digits m.0 m.1 in (V1, d.0, d.1, m.2 ∙ ap (λ (x : List ℕ). ascii "1.00\t" ++ x) d.2)
-version-said t (inr m) = let d = hex-said most_digits m.0 m.1 in (V2, d.0, d.1, m.2 ∙ ap (λ (x : List ℕ). ascii "2.00\t" ++ x) d.2)
+version_said : (t : List ℕ) → Versioned t → (v : Version) × (hex : List ℕ) × HexDigits most_digits hex × (t ≡ version_text v ++ (hex ++ (line_feed ∷ [])))
+version_said t (inl m) = let d = hex_said most_digits m.0 m.1 in (V1, d.0, d.1, m.2 ∙ ap (λ (x : List ℕ). ascii "1.00\t" ++ x) d.2)
+version_said t (inr m) = let d = hex_said most_digits m.0 m.1 in (V2, d.0, d.1, m.2 ∙ ap (λ (x : List ℕ). ascii "2.00\t" ++ x) d.2)
 
-kind-said : (kind : ListingKind) (s : List ℕ) → Worded (kind_text kind) Versioned s → Good s
-kind-said kind s m = let v = version-said m.0 m.1 in (kind, v.0, v.1, v.2, m.2 ∙ ap (λ (x : List ℕ). kind_text kind ++ x) v.3)
+kind_said : (kind : ListingKind) (s : List ℕ) → Worded (kind_text kind) Versioned s → Good s
+kind_said kind s m = let v = version_said m.0 m.1 in (kind, v.0, v.1, v.2, m.2 ∙ ap (λ (x : List ℕ). kind_text kind ++ x) v.3)
 
-row-good : (s : List ℕ) → Row s → Good s
-row-good s (inl (inl (inl (inl (inl (inl m)))))) = kind-said PacketService s m
-row-good s (inl (inl (inl (inl (inl (inr m)))))) = kind-said VersionKind s m
-row-good s (inl (inl (inl (inl (inr m))))) = kind-said Registration s m
-row-good s (inl (inl (inl (inr m)))) = kind-said SignalState s m
-row-good s (inl (inl (inr m))) = kind-said DeviceServices s m
-row-good s (inl (inr m)) = kind-said SetPin s m
-row-good s (inr m) = kind-said PinInfo s m
+row_good : (s : List ℕ) → Row s → Good s
+row_good s (inl (inl (inl (inl (inl (inl m)))))) = kind_said PacketService s m
+row_good s (inl (inl (inl (inl (inl (inr m)))))) = kind_said VersionKind s m
+row_good s (inl (inl (inl (inl (inr m))))) = kind_said Registration s m
+row_good s (inl (inl (inl (inr m)))) = kind_said SignalState s m
+row_good s (inl (inl (inr m))) = kind_said DeviceServices s m
+row_good s (inl (inr m)) = kind_said SetPin s m
+row_good s (inr m) = kind_said PinInfo s m
 
-said-version : (v : Version) (hex : List ℕ) → HexDigits most_digits hex → Versioned (version_text v ++ (hex ++ (line_feed ∷ [])))
-said-version V1 hex p = inl (hex ++ (line_feed ∷ []), said-hex most_digits hex p, refl)
-said-version V2 hex p = inr (hex ++ (line_feed ∷ []), said-hex most_digits hex p, refl)
+said_version : (v : Version) (hex : List ℕ) → HexDigits most_digits hex → Versioned (version_text v ++ (hex ++ (line_feed ∷ [])))
+said_version V1 hex p = inl (hex ++ (line_feed ∷ []), said_hex most_digits hex p, refl)
+said_version V2 hex p = inr (hex ++ (line_feed ∷ []), said_hex most_digits hex p, refl)
 
-said-kind : (kind : ListingKind) (t : List ℕ) → Versioned t → Row (kind_text kind ++ t)
-said-kind PacketService t m = inl (inl (inl (inl (inl (inl (t, m, refl))))))
-said-kind VersionKind t m = inl (inl (inl (inl (inl (inr (t, m, refl))))))
-said-kind Registration t m = inl (inl (inl (inl (inr (t, m, refl)))))
-said-kind SignalState t m = inl (inl (inl (inr (t, m, refl))))
-said-kind DeviceServices t m = inl (inl (inr (t, m, refl)))
-said-kind SetPin t m = inl (inr (t, m, refl))
-said-kind PinInfo t m = inr (t, m, refl)
+said_kind : (kind : ListingKind) (t : List ℕ) → Versioned t → Row (kind_text kind ++ t)
+said_kind PacketService t m = inl (inl (inl (inl (inl (inl (t, m, refl))))))
+said_kind VersionKind t m = inl (inl (inl (inl (inl (inr (t, m, refl))))))
+said_kind Registration t m = inl (inl (inl (inl (inr (t, m, refl)))))
+said_kind SignalState t m = inl (inl (inl (inr (t, m, refl))))
+said_kind DeviceServices t m = inl (inl (inr (t, m, refl)))
+said_kind SetPin t m = inl (inr (t, m, refl))
+said_kind PinInfo t m = inr (t, m, refl)
 
-good-row : (s : List ℕ) → Good s → Row s
-good-row s g = rw g.4 (said-kind g.0 (version_text g.1 ++ (g.2 ++ (line_feed ∷ []))) (said-version g.1 g.2 g.3))
+good_row : (s : List ℕ) → Good s → Row s
+good_row s g = rw g.4 (said_kind g.0 (version_text g.1 ++ (g.2 ++ (line_feed ∷ []))) (said_version g.1 g.2 g.3))
 
 -- ---- the column
 
-payload-column : (s : List ℕ) (kind : ListingKind) (v : Version) (from : ℕ) → column_of (payload_at s kind v from) ≡ further from (reach_hex_line most_digits (drop from s))
+payload_column : (s : List ℕ) (kind : ListingKind) (v : Version) (from : ℕ) → column_of (payload_at s kind v from) ≡ further from (reach_hex_line most_digits (drop from s))
 unfolding payload_at
-payload-column s kind v from = shown (line_end_at most_digits s from) ∙ end-column most_digits s from
+payload_column s kind v from = shown (line_end_at most_digits s from) ∙ end_column_lem most_digits s from
   where
     shown : (x : LineEnd) → column_of (payload_by kind v from x) ≡ end_column x
     shown (Digits n) = refl
     shown (end.Column c) = refl
 
-versions-differ : AllDiffer version_words
+versions_differ : AllDiffer version_words
 unfolding agreement
-versions-differ = all_tested version_words refl
+versions_differ = all_tested version_words refl
 
-kinds-differ : AllDiffer kind_words
+kinds_differ : AllDiffer kind_words
 unfolding agreement
-kinds-differ = all_tested kind_words refl
+kinds_differ = all_tested kind_words refl
 
-version-column : (s : List ℕ) (kind : ListingKind) (at : ℕ)
+version_column : (s : List ℕ) (kind : ListingKind) (at : ℕ)
     → column_of (by_version s kind at (reach_from (Column at) s at version_words)) ≡ further at (reach_version (drop at s))
-version-column s kind at =
+version_column s kind at =
     shown (reach_from (Column at) s at version_words)
-    ∙ sym (table_at (reach_hex_line most_digits) J s at (word (ascii "1.00\t") 0) version_rest versions-differ (leads V1, (leads V2, tt)))
+    ∙ sym (table_at (reach_hex_line most_digits) J s at (word (ascii "1.00\t") 0) version_rest versions_differ (leads V1, (leads V2, tt)))
   where
     J : ℕ → Reach
     J n = column_of (payload_at s kind (version_of n) (at + 5))
@@ -137,16 +137,16 @@ version-column s kind at =
 
     leads : (v : Version) → column_of (payload_at s kind v (at + 5)) ≡ further at (further 5 (reach_hex_line most_digits (drop 5 (drop at s))))
     leads v =
-        payload-column s kind v (at + 5) ∙ ap (λ (x : List ℕ). further (at + 5) (reach_hex_line most_digits x)) (sym (drop-drop 5 at s))
-        ∙ sym (further-further at 5 (reach_hex_line most_digits (drop 5 (drop at s))))
+        payload_column s kind v (at + 5) ∙ ap (λ (x : List ℕ). further (at + 5) (reach_hex_line most_digits x)) (sym (drop-drop 5 at s))
+        ∙ sym (further_further at 5 (reach_hex_line most_digits (drop 5 (drop at s))))
 
-request-column : (s : List ℕ) → column_of (request_of s) ≡ reach_row s
+request_column : (s : List ℕ) → column_of (request_of s) ≡ reach_row s
 unfolding request_of
-request-column s =
+request_column s =
     shown (reach_from (Column 0) s 0 kind_words)
-    ∙ sym (table_at reach_version J s 0 (word (ascii "packet_service\t") 0) kind_rest kinds-differ
+    ∙ sym (table_at reach_version J s 0 (word (ascii "packet_service\t") 0) kind_rest kinds_differ
     (leads PacketService, (leads VersionKind, (leads Registration, (leads SignalState, (leads DeviceServices, (leads SetPin, (leads PinInfo, tt))))))))
-    ∙ further-zero (reach_row s)
+    ∙ further_zero (reach_row s)
   where
     J : ℕ → Reach
     J n = column_of (by_version s (kind_of n) (kind_length (kind_of n)) (reach_from (Column (kind_length (kind_of n))) s (kind_length (kind_of n)) version_words))
@@ -158,8 +158,8 @@ request-column s =
     leads : (kind : ListingKind)
         → column_of (by_version s kind (kind_length kind) (reach_from (Column (kind_length kind)) s (kind_length kind) version_words))
         ≡ further 0 (further (kind_length kind) (reach_version (drop (kind_length kind) s)))
-    leads kind = version-column s kind (kind_length kind) ∙ sym (further-zero (further (kind_length kind) (reach_version (drop (kind_length kind) s))))
+    leads kind = version_column s kind (kind_length kind) ∙ sym (further_zero (further (kind_length kind) (reach_version (drop (kind_length kind) s))))
 
 -- the answer is right: the line is good, or the column is where its longest good beginning ends
-pub request-right : (s : List ℕ) → Right Good s (column_of (request_of s))
-request-right s = rw (request-column s) (same-right Good Row row-good good-row s (reach_row s) (row-right s))
+pub request_right : (s : List ℕ) → Right Good s (column_of (request_of s))
+request_right s = rw (request_column s) (same_right Good Row row_good good_row s (reach_row s) (row_right s))

@@ -9,8 +9,8 @@ use Rattle.protocol.specs.declared.Version.{Version}
 use Rattle.text_parts.specs.Words.{reach_from}
 use Rattle.text_parts.specs.declared.Reached.{Reached}
 use Rattle.text_parts.specs.declared.Reached.TheVariants.{Word, Column}
-use Rattle.text_parts.proofs.Cut.{reach-cut}
-use Rattle.text_parts.proofs.Ends.{end-cut}
+use Rattle.text_parts.proofs.Cut.{reach_cut}
+use Rattle.text_parts.proofs.Ends.{end_cut}
 use Rattle.request_line.specs.Good.{most_digits}
 use Rattle.request_line.specs.Request.{kind_words, version_words, kind_of, kind_length, version_of, payload_by, payload_at, by_version, by_kind, request_of}
 use Rattle.request_line.specs.declared.ListingKind.{ListingKind}
@@ -19,22 +19,22 @@ use Rattle.request_line.specs.declared.ListingKind.TheVariants.{PacketService, V
 payload_cut : (from n : ℕ) (s : List ℕ) (kind : ListingKind) (version : Version) → from + 16386 ≤ n → n ≤ length s
     → payload_at (take n s) kind version from ≡ payload_at s kind version from
 unfolding payload_at
-payload_cut from n s kind version h l = ap (payload_by kind version from) (end-cut most_digits from n s (omega arith) l)
+payload_cut from n s kind version h l = ap (payload_by kind version from) (end_cut most_digits from n s (omega arith) l)
 
 -- ---- what a long line asks for, cut or whole
 
-version-cut : (kind : ListingKind) (at n : ℕ) (s : List ℕ) (r : Reached) → at + 16391 ≤ n → n ≤ length s → by_version (take n s) kind at r ≡ by_version s kind at r
-version-cut kind at n s (Column c) h l = refl
-version-cut kind at n s (Word w) h l = payload_cut (at + 5) n s kind (version_of w) (omega arith) l
+version_cut : (kind : ListingKind) (at n : ℕ) (s : List ℕ) (r : Reached) → at + 16391 ≤ n → n ≤ length s → by_version (take n s) kind at r ≡ by_version s kind at r
+version_cut kind at n s (Column c) h l = refl
+version_cut kind at n s (Word w) h l = payload_cut (at + 5) n s kind (version_of w) (omega arith) l
 
-after-kind : (kind : ListingKind) (n : ℕ) (s : List ℕ) → 16407 ≤ n → n ≤ length s
+after_kind : (kind : ListingKind) (n : ℕ) (s : List ℕ) → 16407 ≤ n → n ≤ length s
     → by_version (take n s) kind (kind_length kind) (reach_from (Column (kind_length kind)) (take n s) (kind_length kind) version_words)
     ≡ by_version s kind (kind_length kind) (reach_from (Column (kind_length kind)) s (kind_length kind) version_words)
-after-kind kind n s h l =
+after_kind kind n s h l =
     let at = kind_length kind in
     let k : at ≤ 16 = short kind in
-    ap (by_version (take n s) kind at) (reach-cut version_words (Column at) at n s (omega arith, (omega arith, tt)))
-    ∙ version-cut kind at n s (reach_from (Column at) s at version_words) (omega arith) l
+    ap (by_version (take n s) kind at) (reach_cut version_words (Column at) at n s (omega arith, (omega arith, tt)))
+    ∙ version_cut kind at n s (reach_from (Column at) s at version_words) (omega arith) l
   where
     short : (x : ListingKind) → kind_length x ≤ 16
     short PacketService = omega arith
@@ -45,11 +45,11 @@ after-kind kind n s h l =
     short SetPin = omega arith
     short PinInfo = omega arith
 
-kind-cut : (n : ℕ) (s : List ℕ) (r : Reached) → 16407 ≤ n → n ≤ length s → by_kind (take n s) r ≡ by_kind s r
-kind-cut n s (Column c) h l = refl
-kind-cut n s (Word w) h l = after-kind (kind_of w) n s h l
+kind_cut : (n : ℕ) (s : List ℕ) (r : Reached) → 16407 ≤ n → n ≤ length s → by_kind (take n s) r ≡ by_kind s r
+kind_cut n s (Column c) h l = refl
+kind_cut n s (Word w) h l = after_kind (kind_of w) n s h l
 
-pub request-cut : (n : ℕ) (s : List ℕ) → 16407 ≤ n → n ≤ length s → request_of (take n s) ≡ request_of s
+pub request_cut : (n : ℕ) (s : List ℕ) → 16407 ≤ n → n ≤ length s → request_of (take n s) ≡ request_of s
 unfolding request_of
-request-cut n s h l =
-    ap (by_kind (take n s)) (reach-cut kind_words (Column 0) 0 n s (omega arith, (omega arith, (omega arith, (omega arith, (omega arith, (omega arith, (omega arith, tt)))))))) ∙ kind-cut n s (reach_from (Column 0) s 0 kind_words) h l
+request_cut n s h l =
+    ap (by_kind (take n s)) (reach_cut kind_words (Column 0) 0 n s (omega arith, (omega arith, (omega arith, (omega arith, (omega arith, (omega arith, (omega arith, tt)))))))) ∙ kind_cut n s (reach_from (Column 0) s 0 kind_words) h l

@@ -34,37 +34,37 @@ use Rattle.pin.specs.contracts.pin_info.PinInfo as PinInfos
 use Rattle.pin.specs.declared.pin_info.PinInfo.{PinInfo}
 use Rattle.pin.specs.PinInfoClaims.{OfWidth as PinInfoOfWidth}
 
-packet-form : (f : PacketForm) (vs : List Val) → shadow ((enum PacketForms.the_type).row.own_val ((PacketForms.the_type).to f) vs) → PacketFormOfWidth f
-packet-form (packet.V1 class) vs p = omega (arith, p)
-packet-form (packet.V2 class range) vs p = (omega (arith, p), omega (arith, p))
+packet_form : (f : PacketForm) (vs : List Val) → shadow ((enum PacketForms.the_type).row.own_val ((PacketForms.the_type).to f) vs) → PacketFormOfWidth f
+packet_form (packet.V1 class) vs p = omega (arith, p)
+packet_form (packet.V2 class range) vs p = (omega (arith, p), omega (arith, p))
 
-pub packet-of-width : (p : PacketService) (vs : List Val) → shadow ((field Packets.the_type).row.own_val ((Packets.the_type).to p) vs) → PacketOfWidth p
-packet-of-width p vs w = record {
+pub packet_of_width : (p : PacketService) (vs : List Val) → shadow ((field Packets.the_type).row.own_val ((Packets.the_type).to p) vs) → PacketOfWidth p
+packet_of_width p vs w = record {
   error = omega (arith, w.1.1);
   state = omega (arith, w.1.1);
   up = omega (arith, w.1.1);
   down = omega (arith, w.1.1);
-  form = packet-form p.form _ w.1.1.1.1.1.1.0;
+  form = packet_form p.form _ w.1.1.1.1.1.1.0;
 }
 
-registration-form : (f : RegistrationForm) (vs : List Val) → shadow ((enum RegistrationForms.the_type).row.own_val ((RegistrationForms.the_type).to f) vs)
+registration_form : (f : RegistrationForm) (vs : List Val) → shadow ((enum RegistrationForms.the_type).row.own_val ((RegistrationForms.the_type).to f) vs)
     → RegistrationFormOfWidth f
-registration-form registration.V1 vs p = tt
-registration-form (registration.V2 class) vs p = omega (arith, p)
+registration_form registration.V1 vs p = tt
+registration_form (registration.V2 class) vs p = omega (arith, p)
 
-pub registration-of-width : (p : Registration) (vs : List Val) → shadow ((field Registrations.the_type).row.own_val ((Registrations.the_type).to p) vs) → RegistrationOfWidth p
-registration-of-width p vs w = record {
+pub registration_of_width : (p : Registration) (vs : List Val) → shadow ((field Registrations.the_type).row.own_val ((Registrations.the_type).to p) vs) → RegistrationOfWidth p
+registration_of_width p vs w = record {
   error = omega (arith, w.1.1);
   state = omega (arith, w.1.1);
   mode = omega (arith, w.1.1);
   available = omega (arith, w.1.1);
   cellular = omega (arith, w.1.1);
   flag = omega (arith, w.1.1);
-  form = registration-form p.form _ w.1.1.1.1.1.1.1.1.0;
+  form = registration_form p.form _ w.1.1.1.1.1.1.1.1.0;
 }
 
-pub signal-of-width : (p : SignalState) (vs : List Val) → shadow ((field Signals.the_type).row.own_val ((Signals.the_type).to p) vs) → SignalOfWidth p
-signal-of-width p vs w = record {
+pub signal_of_width : (p : SignalState) (vs : List Val) → shadow ((field Signals.the_type).row.own_val ((Signals.the_type).to p) vs) → SignalOfWidth p
+signal_of_width p vs w = record {
   rssi = omega (arith, w.1.1);
   rate = omega (arith, w.1.1);
   interval = omega (arith, w.1.1);
@@ -72,8 +72,8 @@ signal-of-width p vs w = record {
   errors = omega (arith, w.1.1);
 }
 
-entry-of-width : (e : RsrpSnr) (vs : List Val) → shadow ((field Entries.the_type).row.own_val ((Entries.the_type).to e) vs) → EntryOfWidth e
-entry-of-width e vs w = record {
+entry_of_width : (e : RsrpSnr) (vs : List Val) → shadow ((field Entries.the_type).row.own_val ((Entries.the_type).to e) vs) → EntryOfWidth e
+entry_of_width e vs w = record {
   rsrp = omega (arith, w.1.1);
   snr = omega (arith, w.1.1);
   strength = omega (arith, w.1.1);
@@ -82,15 +82,15 @@ entry-of-width e vs w = record {
 }
 
 -- of an array, whatever its length: there is no entry past its end, and zeros stand for it
-pub entries-of-width : (es : List RsrpSnr) (us : List Val)
+pub entries_of_width : (es : List RsrpSnr) (us : List Val)
     → shadow (each (e_struct Entries.the_type the_laws the_copy).ty.Denot (e_struct Entries.the_type the_laws the_copy).ty.own_val es us) → EntriesOfWidth es
-entries-of-width [] us w i = record { rsrp = omega arith; snr = omega arith; strength = omega arith; ratio = omega arith; system = omega arith }
-entries-of-width (e ∷ es) [] w i = absurd w
-entries-of-width (e ∷ es) (u ∷ us) w zero = entry-of-width e (u ∷ []) w.0
-entries-of-width (e ∷ es) (u ∷ us) w (suc i) = entries-of-width es us w.1 i
+entries_of_width [] us w i = record { rsrp = omega arith; snr = omega arith; strength = omega arith; ratio = omega arith; system = omega arith }
+entries_of_width (e ∷ es) [] w i = absurd w
+entries_of_width (e ∷ es) (u ∷ us) w zero = entry_of_width e (u ∷ []) w.0
+entries_of_width (e ∷ es) (u ∷ us) w (suc i) = entries_of_width es us w.1 i
 
-pub set-pin-of-width : (p : SetPin) (vs : List Val) → shadow ((field SetPins.the_type).row.own_val ((SetPins.the_type).to p) vs) → SetPinOfWidth p
-set-pin-of-width p vs w = record { type = omega (arith, w.1.1); operation = omega (arith, w.1.1) }
+pub set_pin_of_width : (p : SetPin) (vs : List Val) → shadow ((field SetPins.the_type).row.own_val ((SetPins.the_type).to p) vs) → SetPinOfWidth p
+set_pin_of_width p vs w = record { type = omega (arith, w.1.1); operation = omega (arith, w.1.1) }
 
-pub pin-info-of-width : (i : PinInfo) (vs : List Val) → shadow ((field PinInfos.the_type).row.own_val ((PinInfos.the_type).to i) vs) → PinInfoOfWidth i
-pin-info-of-width i vs w = record { type = omega (arith, w.1.1); state = omega (arith, w.1.1); attempts = omega (arith, w.1.1) }
+pub pin_info_of_width : (i : PinInfo) (vs : List Val) → shadow ((field PinInfos.the_type).row.own_val ((PinInfos.the_type).to i) vs) → PinInfoOfWidth i
+pin_info_of_width i vs w = record { type = omega (arith, w.1.1); state = omega (arith, w.1.1); attempts = omega (arith, w.1.1) }

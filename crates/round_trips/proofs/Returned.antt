@@ -28,27 +28,27 @@ use Rattle.pin.specs.declared.pin_info.PinInfo.{PinInfo}
 use Rattle.pin.proofs.PinInfoLaws as pin_info_laws
 use Rattle.round_trips.specs.Back.{PacketBack, RegistrationBack, SignalBack, SetPinBack, PinInfoBack}
 
-pub packet-returned : (p : PacketService) → PacketOfWidth p → (s : List ℕ) (a : Written) (out : List ℕ) → a ≡ (packet.write_of p s).answer → out ≡ (packet.write_of p s).output
+pub packet_returned : (p : PacketService) → PacketOfWidth p → (s : List ℕ) (a : Written) (out : List ℕ) → a ≡ (packet.write_of p s).answer → out ≡ (packet.write_of p s).output
     → PacketBack a p out
-packet-returned p z s (Length n) out e q = rw q (packet_trip.round_trip p s n z (sym e))
-packet-returned p z s (Refused r) out e q = tt
+packet_returned p z s (Length n) out e q = rw q (packet_trip.round_trip p s n z (sym e))
+packet_returned p z s (Refused r) out e q = tt
 
-pub registration-returned : (p : Registration) (x y z : List ℕ) → RegistrationOfWidth p → (s : List ℕ) (a : Written) (out : List ℕ)
+pub registration_returned : (p : Registration) (x y z : List ℕ) → RegistrationOfWidth p → (s : List ℕ) (a : Written) (out : List ℕ)
     → a ≡ (registration.write_of p x y z s).answer → out ≡ (registration.write_of p x y z s).output → RegistrationBack a p x y z out
-registration-returned p x y z w s (Length n) out e q = λ choice. rw q (registration_trip.round_trip choice p x y z s n w (sym e))
-registration-returned p x y z w s (Refused r) out e q = tt
+registration_returned p x y z w s (Length n) out e q = λ choice. rw q (registration_trip.round_trip choice p x y z s n w (sym e))
+registration_returned p x y z w s (Refused r) out e q = tt
 
-pub signal-returned : (p : SignalState) (es : List RsrpSnr) → SignalOfWidth p → EntriesOfWidth es → (s : List ℕ) (a : Written) (out : List ℕ)
+pub signal_returned : (p : SignalState) (es : List RsrpSnr) → SignalOfWidth p → EntriesOfWidth es → (s : List ℕ) (a : Written) (out : List ℕ)
     → a ≡ (signal.write_of p es s).answer → out ≡ (signal.write_of p es s).output → SignalBack a p es out
-signal-returned p es z zs s (Length n) out e q = λ choice. rw q (signal_trip.round_trip choice p es z zs s n (sym e))
-signal-returned p es z zs s (Refused r) out e q = tt
+signal_returned p es z zs s (Length n) out e q = λ choice. rw q (signal_trip.round_trip choice p es z zs s n (sym e))
+signal_returned p es z zs s (Refused r) out e q = tt
 
-pub set-pin-returned : (p : SetPin) (x y : List ℕ) → SetPinOfWidth p → (s : List ℕ) (a : Written) (out : List ℕ)
+pub set_pin_returned : (p : SetPin) (x y : List ℕ) → SetPinOfWidth p → (s : List ℕ) (a : Written) (out : List ℕ)
     → a ≡ (set_pin.write_of p x y s).answer → out ≡ (set_pin.write_of p x y s).output → SetPinBack a p x y out
-set-pin-returned p x y w s (Length n) out e q = λ choice. rw q (set_pin_trip.round_trip choice p x y s n w (sym e))
-set-pin-returned p x y w s (Refused r) out e q = tt
+set_pin_returned p x y w s (Length n) out e q = λ choice. rw q (set_pin_trip.round_trip choice p x y s n w (sym e))
+set_pin_returned p x y w s (Refused r) out e q = tt
 
-pub pin-info-returned : (i : PinInfo) → PinInfoOfWidth i → (s : List ℕ) (a : Written) (out : List ℕ) → a ≡ (pin_info.write_of i s).answer → out ≡ (pin_info.write_of i s).output
+pub pin_info_returned : (i : PinInfo) → PinInfoOfWidth i → (s : List ℕ) (a : Written) (out : List ℕ) → a ≡ (pin_info.write_of i s).answer → out ≡ (pin_info.write_of i s).output
     → PinInfoBack a i out
-pin-info-returned i w s (Length n) out e q = rw q (pin_info_laws.round_trip i s n w (sym e))
-pin-info-returned i w s (Refused r) out e q = tt
+pin_info_returned i w s (Length n) out e q = rw q (pin_info_laws.round_trip i s n w (sym e))
+pin_info_returned i w s (Refused r) out e q = tt

@@ -14,19 +14,19 @@ use Rattle.protocol.specs.declared.Verdict.{Verdict}
 use Rattle.protocol.specs.declared.Verdict.TheVariants.{Fits, Fault}
 use Rattle.protocol.specs.declared.service.ServiceId.{ServiceId}
 use Rattle.protocol.specs.Verdict.{first_of}
-use Rattle.protocol.proofs.Tests.{and_both, both-and}
+use Rattle.protocol.proofs.Tests.{and_both, both_and}
 use Rattle.folds.specs.Folds.{any_of, first_index}
-use Rattle.folds.proofs.Laws.{any_at, none_each, index_below, index-first, fault-at, each_fits}
+use Rattle.folds.proofs.Laws.{any_at, none_each, index_below, index_first, fault_at, each_fits}
 use Rattle.pairs.specs.declared.ZeroSize.{ZeroSize}
 use Rattle.device_services.specs.DeviceServices.{count_of, fixed_part, offset_of, cid_count_at, length_verdict, element_verdict, verdict_with}
-use Rattle.device_services.proofs.Acceptance.{element-said, said-element}
+use Rattle.device_services.proofs.Acceptance.{element_said, said_element}
 use Rattle.services_query.specs.ServicesQuery.{is_of, is_cid, has_cid, holds}
 use Rattle.services_query.specs.Claims.{Held}
-use Rattle.services_query.proofs.Answers.{serves-said, said-serves, listed-exactly, not-listed-exactly}
+use Rattle.services_query.proofs.Answers.{serves_said, said_serves, listed_exactly, not_listed_exactly}
 use Rattle.services_ask.specs.declared.PositionAnswer.{PositionAnswer}
 use Rattle.services_ask.specs.declared.PositionAnswer.TheVariants.{Listed, NotListed, Refused}
 use Rattle.services_ask.specs.ServicesAsk.{match_in, judged, element_says, or_else, first_said, position_with}
-use Rattle.services_ask.proofs.Laws.{order, silent-each}
+use Rattle.services_ask.proofs.Laws.{order, silent_each}
 use Rattle.services_ask.specs.Claims.{Match, Reached, NoneBefore, AskedExactly, Asked}
 
 -- ---- of any answers
@@ -53,20 +53,20 @@ ended f (suc n) a some e = by_first (ended f n a some) (first_said f n) refl e
 
 -- ---- of a verdict and an answer behind it
 
-judged-listed : (d : Verdict) (a : PositionAnswer) (i k : ℕ) → judged d a ≡ Listed i k → (d ≡ Fits) × (a ≡ Listed i k)
-judged-listed Fits a i k e = (refl, e)
-judged-listed (Fault r) a i k e = let z : ◌≡◌ {A = ℕ} 0 1 = cc in absurd (omega arith)
+judged_listed : (d : Verdict) (a : PositionAnswer) (i k : ℕ) → judged d a ≡ Listed i k → (d ≡ Fits) × (a ≡ Listed i k)
+judged_listed Fits a i k e = (refl, e)
+judged_listed (Fault r) a i k e = let z : ◌≡◌ {A = ℕ} 0 1 = cc in absurd (omega arith)
 
-judged-none : (d : Verdict) (a : PositionAnswer) → judged d a ≡ NotListed → (d ≡ Fits) × (a ≡ NotListed)
-judged-none Fits a e = (refl, e)
-judged-none (Fault r) a e = let z : ◌≡◌ {A = ℕ} 0 1 = cc in absurd (omega arith)
+judged_none : (d : Verdict) (a : PositionAnswer) → judged d a ≡ NotListed → (d ≡ Fits) × (a ≡ NotListed)
+judged_none Fits a e = (refl, e)
+judged_none (Fault r) a e = let z : ◌≡◌ {A = ℕ} 0 1 = cc in absurd (omega arith)
 
-judged-refused : (d : Verdict) (a : PositionAnswer) (r : Refusal) → judged d a ≡ Refused r → (d ≡ Fault r) ⊎ ((d ≡ Fits) × (a ≡ Refused r))
-judged-refused Fits a r e = inr (refl, e)
-judged-refused (Fault x) a r e = let z : x ≡ r = cc in inl (ap Fault z)
+judged_refused : (d : Verdict) (a : PositionAnswer) (r : Refusal) → judged d a ≡ Refused r → (d ≡ Fault r) ⊎ ((d ≡ Fits) × (a ≡ Refused r))
+judged_refused Fits a r e = inr (refl, e)
+judged_refused (Fault x) a r e = let z : x ≡ r = cc in inl (ap Fault z)
 
-fits-fault : {A : Type 0} {d : Verdict} {r : Refusal} → d ≡ Fits → d ≡ Fault r → A
-fits-fault e q = let z : ◌≡◌ {A = ℕ} 0 1 = cc in absurd (omega arith)
+fits_fault : {A : Type 0} {d : Verdict} {r : Refusal} → d ≡ Fits → d ≡ Fault r → A
+fits_fault e q = let z : ◌≡◌ {A = ℕ} 0 1 = cc in absurd (omega arith)
 
 -- ---- of an element
 
@@ -82,15 +82,15 @@ module _ (s : List ℕ) (service : ServiceId) (cid : ℕ) where
   unfolding holds has_cid
   met i k m =
       let t = eq-eqb _ cid m.is in
-      (both-and (is_of s service i) _ (said-serves s service i m.serves) (any_at (test i) (cid_count_at s (offset_of s i)) k m.counted t), t)
+      (both_and (is_of s service i) _ (said_serves s service i m.serves) (any_at (test i) (cid_count_at s (offset_of s i)) k m.counted t), t)
 
   -- an element that says nothing has no match
-  no-match : (i : ℕ) → match_in s service cid i ≡ NotListed → (k : ℕ) → Match s service cid i k → ⊥
+  no_match : (i : ℕ) → match_in s service cid i ≡ NotListed → (k : ℕ) → Match s service cid i k → ⊥
   unfolding match_in
-  no-match i e k m = by-held (met i k m).0 e
+  no_match i e k m = by_held (met i k m).0 e
     where
-      by-held : holds s service cid i ≡ true → cond (holds s service cid i) (Listed i (first i)) NotListed ≡ NotListed → ⊥
-      by-held q e = let y : Listed i (first i) ≡ NotListed = rw q at e in let z : ◌≡◌ {A = ℕ} 0 1 = cc in absurd (omega arith)
+      by_held : holds s service cid i ≡ true → cond (holds s service cid i) (Listed i (first i)) NotListed ≡ NotListed → ⊥
+      by_held q e = let y : Listed i (first i) ≡ NotListed = rw q at e in let z : ◌≡◌ {A = ℕ} 0 1 = cc in absurd (omega arith)
 
   record FirstIn (i j k : ℕ) : Type 0 where
     same : i ≡ j
@@ -98,14 +98,14 @@ module _ (s : List ℕ) (service : ServiceId) (cid : ℕ) where
     before : (l : ℕ) → Match s service cid i l → k ≤ l
 
   -- one that holds both has its first match where its first CID is that
-  first-held : (i : ℕ) → i < count_of s → holds s service cid i ≡ true → FirstIn i i (first i)
+  first_held : (i : ℕ) → i < count_of s → holds s service cid i ≡ true → FirstIn i i (first i)
   unfolding holds has_cid
-  first-held i below e =
+  first_held i below e =
       let b = and_both (is_of s service i) (has_cid s (offset_of s i) cid) e in
-      let h = index-first (test i) (cid_count_at s (offset_of s i)) b.1 in
+      let h = index_first (test i) (cid_count_at s (offset_of s i)) b.1 in
       record {
         same = refl;
-        match = record { serves = serves-said s service i below b.0; counted = index_below (test i) (cid_count_at s (offset_of s i)) b.1; is = eqb-true _ cid h.0 };
+        match = record { serves = serves_said s service i below b.0; counted = index_below (test i) (cid_count_at s (offset_of s i)) b.1; is = eqb-true _ cid h.0 };
         before = λ l x. ⊎_elim (λ y. absurd (earlier l y h.1 (met i l x).1)) (λ y. y) (order l (first i));
       }
     where
@@ -113,22 +113,22 @@ module _ (s : List ℕ) (service : ServiceId) (cid : ℕ) where
       earlier l y none t = let n = none_each (test i) (first i) none l y in let w : ◌≡◌ {A = Bool} true false = cc in let z : ◌≡◌ {A = ℕ} 0 1 = cc in absurd (omega arith)
 
   -- an element that says a position has its first match there
-  first-match : (i j k : ℕ) → i < count_of s → match_in s service cid i ≡ Listed j k → FirstIn i j k
+  first_match : (i j k : ℕ) → i < count_of s → match_in s service cid i ≡ Listed j k → FirstIn i j k
   unfolding match_in
-  first-match i j k below e = by-held (holds s service cid i) refl e
+  first_match i j k below e = by_held (holds s service cid i) refl e
     where
-      by-held : (b : Bool) → holds s service cid i ≡ b → cond b (Listed i (first i)) NotListed ≡ Listed j k → FirstIn i j k
-      by-held true q e = let x : first i ≡ k = cc in let y : i ≡ j = cc in let h = first-held i below q in record { same = y; match = rw (← x) h.match; before = rw (← x) h.before }
-      by-held false q e = let z : ◌≡◌ {A = ℕ} 0 1 = cc in absurd (omega arith)
+      by_held : (b : Bool) → holds s service cid i ≡ b → cond b (Listed i (first i)) NotListed ≡ Listed j k → FirstIn i j k
+      by_held true q e = let x : first i ≡ k = cc in let y : i ≡ j = cc in let h = first_held i below q in record { same = y; match = rw (← x) h.match; before = rw (← x) h.before }
+      by_held false q e = let z : ◌≡◌ {A = ℕ} 0 1 = cc in absurd (omega arith)
 
   -- and it never refuses
-  no-refusal : (i : ℕ) (r : Refusal) → match_in s service cid i ≡ Refused r → ⊥
+  no_refusal : (i : ℕ) (r : Refusal) → match_in s service cid i ≡ Refused r → ⊥
   unfolding match_in
-  no-refusal i r = by-held (holds s service cid i)
+  no_refusal i r = by_held (holds s service cid i)
     where
-      by-held : (b : Bool) → cond b (Listed i (first i)) NotListed ≡ Refused r → ⊥
-      by-held true e = let z : ◌≡◌ {A = ℕ} 0 1 = cc in absurd (omega arith)
-      by-held false e = let z : ◌≡◌ {A = ℕ} 0 1 = cc in absurd (omega arith)
+      by_held : (b : Bool) → cond b (Listed i (first i)) NotListed ≡ Refused r → ⊥
+      by_held true e = let z : ◌≡◌ {A = ℕ} 0 1 = cc in absurd (omega arith)
+      by_held false e = let z : ◌≡◌ {A = ℕ} 0 1 = cc in absurd (omega arith)
 
 -- ---- what each answer says
 
@@ -149,49 +149,49 @@ module _ (z : ZeroSize) (s : List ℕ) (service : ServiceId) (cid : ℕ) where
   quiet : (n : ℕ) → first_said says n ≡ NotListed → (j : ℕ) → j < n → (verdict j ≡ Fits) × ((l : ℕ) → Match s service cid j l → ⊥)
   unfolding element_says
   quiet n e j l =
-      let k = judged-none (verdict j) (match_in s service cid j) (silent-each says n e j l) in
-      (k.0, no-match s service cid j k.1)
+      let k = judged_none (verdict j) (match_in s service cid j) (silent_each says n e j l) in
+      (k.0, no_match s service cid j k.1)
 
   -- the walk ends at element j with its CID k
   ends_at : (j k : ℕ) → length_verdict (length s) (count_of s) ≡ Fits → first_said says j ≡ NotListed → verdict j ≡ Fits → Match s service cid j k
       → ((l : ℕ) → Match s service cid j l → k ≤ l) → Reached s service cid j k × NoneBefore s service cid j k
   ends_at j k long e f m first = (
-    record { long = long; good = λ i l. ⊎_elim (λ q. rw q (element-said z s fixed j f)) (λ q. element-said z s fixed i (quiet j e i q).0) (eq-or-lt_of_le l); match = m },
+    record { long = long; good = λ i l. ⊎_elim (λ q. rw q (element_said z s fixed j f)) (λ q. element_said z s fixed i (quiet j e i q).0) (eq-or-lt_of_le l); match = m },
     λ i l x. ⊎_elim (λ q. absurd ((quiet j e i q).1 l x)) (λ q. ⊎_elim (λ p. inr (p, first l (rw p x))) inl (eq-or-lt_of_le q)) (order i j),
   )
 
-  listed-said : (i k : ℕ) → answer ≡ Listed i k → Reached s service cid i k × NoneBefore s service cid i k
+  listed_said : (i k : ℕ) → answer ≡ Listed i k → Reached s service cid i k × NoneBefore s service cid i k
   unfolding position_with element_says
-  listed-said i k e =
-      let d = judged-listed (length_verdict (length s) (count_of s)) (first_said says (count_of s)) i k e in
+  listed_said i k e =
+      let d = judged_listed (length_verdict (length s) (count_of s)) (first_said says (count_of s)) i k e in
       let h = ended says (count_of s) (Listed i k) (λ q. let z : ◌≡◌ {A = ℕ} 0 1 = cc in absurd (omega arith)) d.1 in
-      let x = judged-listed (verdict h.at) (match_in s service cid h.at) i k h.says in
-      let m = first-match s service cid h.at i k h.below x.1 in
+      let x = judged_listed (verdict h.at) (match_in s service cid h.at) i k h.says in
+      let m = first_match s service cid h.at i k h.below x.1 in
       rw (← m.same) (ends_at h.at k d.0 h.before x.0 m.match m.before)
 
   none_said : answer ≡ NotListed → (verdict_with z s ≡ Fits) × ((i k : ℕ) → Match s service cid i k → ⊥)
   unfolding position_with verdict_with first_of
   none_said e =
-      let d = judged-none (length_verdict (length s) (count_of s)) (first_said says (count_of s)) e in
+      let d = judged_none (length_verdict (length s) (count_of s)) (first_said says (count_of s)) e in
       (rw d.0 (each_fits verdict (count_of s) (λ j l. (quiet (count_of s) d.1 j l).0)), λ i k m. (quiet (count_of s) d.1 i m.serves.below).1 k m)
 
   -- the first faulty element is j
-  faulty-at : (j : ℕ) (r : Refusal) → length_verdict (length s) (count_of s) ≡ Fits → j < count_of s → first_said says j ≡ NotListed → verdict j ≡ Fault r
+  faulty_at : (j : ℕ) (r : Refusal) → length_verdict (length s) (count_of s) ≡ Fits → j < count_of s → first_said says j ≡ NotListed → verdict j ≡ Fault r
       → (verdict_with z s ≡ Fault r) × ((i k : ℕ) → Reached s service cid i k → ⊥)
   unfolding verdict_with first_of
-  faulty-at j r long below e q = (
-    rw long (fault-at verdict (count_of s) j r (each_fits verdict j (λ i l. (quiet j e i l).0)) below q),
-    λ i k h. ⊎_elim (λ l. (quiet j e i l).1 k h.match) (λ l. fits-fault (said-element z s fixed j (h.good j l)) q) (order i j),
+  faulty_at j r long below e q = (
+    rw long (fault_at verdict (count_of s) j r (each_fits verdict j (λ i l. (quiet j e i l).0)) below q),
+    λ i k h. ⊎_elim (λ l. (quiet j e i l).1 k h.match) (λ l. fits_fault (said_element z s fixed j (h.good j l)) q) (order i j),
   )
 
-  refused-said : (r : Refusal) → answer ≡ Refused r → (verdict_with z s ≡ Fault r) × ((i k : ℕ) → Reached s service cid i k → ⊥)
+  refused_said : (r : Refusal) → answer ≡ Refused r → (verdict_with z s ≡ Fault r) × ((i k : ℕ) → Reached s service cid i k → ⊥)
   unfolding position_with element_says verdict_with first_of
-  refused-said r e =
-      ⊎_elim (λ q. (rw q, λ i k h. fits-fault h.long q))
+  refused_said r e =
+      ⊎_elim (λ q. (rw q, λ i k h. fits_fault h.long q))
       (λ d. let h = ended says (count_of s) (Refused r) (λ q. let z : ◌≡◌ {A = ℕ} 0 1 = cc in absurd (omega arith)) d.1 in
-      ⊎_elim (faulty-at h.at r d.0 h.below h.before) (λ x. absurd (no-refusal s service cid h.at r x.1))
-      (judged-refused (verdict h.at) (match_in s service cid h.at) r h.says))
-      (judged-refused (length_verdict (length s) (count_of s)) (first_said says (count_of s)) r e)
+      ⊎_elim (faulty_at h.at r d.0 h.below h.before) (λ x. absurd (no_refusal s service cid h.at r x.1))
+      (judged_refused (verdict h.at) (match_in s service cid h.at) r h.says))
+      (judged_refused (length_verdict (length s) (count_of s)) (first_said says (count_of s)) r e)
 
   held : (i k : ℕ) → Match s service cid i k → Held s service cid
   held i k m = record { element = i; serves = m.serves; number = k; counted = m.counted; is = m.is }
@@ -200,42 +200,42 @@ module _ (z : ZeroSize) (s : List ℕ) (service : ServiceId) (cid : ℕ) where
 
   -- by which answer it is
   by_answer : {A : Type 0} → ((i k : ℕ) → answer ≡ Listed i k → A) → (answer ≡ NotListed → A) → ((r : Refusal) → answer ≡ Refused r → A) → A
-  by_answer {A} if-listed if_none if-refused = go answer refl
+  by_answer {A} if_listed if_none if_refused = go answer refl
     where
       go : (a : PositionAnswer) → answer ≡ a → A
-      go (Listed i k) e = if-listed i k e
+      go (Listed i k) e = if_listed i k e
       go NotListed e = if_none e
-      go (Refused r) e = if-refused r e
+      go (Refused r) e = if_refused r e
 
-  one-position : (i k j l : ℕ) → Reached s service cid i k × NoneBefore s service cid i k → Reached s service cid j l × NoneBefore s service cid j l
+  one_position : (i k j l : ℕ) → Reached s service cid i k × NoneBefore s service cid i k → Reached s service cid j l × NoneBefore s service cid j l
       → (i ≡ j) × (k ≡ l)
-  one-position i k j l a b =
+  one_position i k j l a b =
       ⊎_elim (λ p. ⊎_elim (λ q. absurd (omega arith)) (λ q. absurd (omega (arith, q.0))) (b.1 i k a.0.match))
       (λ p. ⊎_elim (λ q. absurd (omega (arith, p.0))) (λ q. (p.0, omega (arith, p.1, q.1))) (b.1 i k a.0.match))
       (a.1 j l b.0.match)
 
-  pub asked-exactly : AskedExactly z s service cid
-  asked-exactly = record {
+  pub asked_exactly : AskedExactly z s service cid
+  asked_exactly = record {
     accepted = λ f. by_answer
-        (λ i k e. rw e (sym ((listed-exactly z s service cid).1 (f, held i k (listed-said i k e).0.match))))
-        (λ e. rw e (sym ((not-listed-exactly z s service cid).1 (f, λ h. (none_said e).1 h.element h.number (record { serves = h.serves; counted = h.counted; is = h.is })))))
-        (λ r e. fits-fault f (refused-said r e).0);
-    reached = λ i k h. by_answer (λ j l e. rw e) (λ e. absurd ((none_said e).1 i k h.match)) (λ r e. absurd ((refused-said r e).1 i k h));
+        (λ i k e. rw e (sym ((listed_exactly z s service cid).1 (f, held i k (listed_said i k e).0.match))))
+        (λ e. rw e (sym ((not_listed_exactly z s service cid).1 (f, λ h. (none_said e).1 h.element h.number (record { serves = h.serves; counted = h.counted; is = h.is })))))
+        (λ r e. fits_fault f (refused_said r e).0);
+    reached = λ i k h. by_answer (λ j l e. rw e) (λ e. absurd ((none_said e).1 i k h.match)) (λ r e. absurd ((refused_said r e).1 i k h));
     refused = λ r. (
-      refused-said r,
-      λ h. by_answer (λ i k e. absurd (h.1 i k (listed-said i k e).0)) (λ e. fits-fault (none_said e).0 h.0)
-          (λ x e. let y : Fault x ≡ Fault r = sym (refused-said x e).0 ∙ h.0 in let w : x ≡ r = cc in e ∙ ap Refused w),
+      refused_said r,
+      λ h. by_answer (λ i k e. absurd (h.1 i k (listed_said i k e).0)) (λ e. fits_fault (none_said e).0 h.0)
+          (λ x e. let y : Fault x ≡ Fault r = sym (refused_said x e).0 ∙ h.0 in let w : x ≡ r = cc in e ∙ ap Refused w),
     );
     position = λ i k. (
-      listed-said i k,
-      λ h. by_answer (λ j l e. let o = one-position j l i k (listed-said j l e) h in e ∙ rw (o.0, o.1)) (λ e. absurd ((none_said e).1 i k h.0.match))
-          (λ r e. absurd ((refused-said r e).1 i k h.0)),
+      listed_said i k,
+      λ h. by_answer (λ j l e. let o = one_position j l i k (listed_said j l e) h in e ∙ rw (o.0, o.1)) (λ e. absurd ((none_said e).1 i k h.0.match))
+          (λ r e. absurd ((refused_said r e).1 i k h.0)),
     );
     nowhere = (
       none_said,
-      λ h. by_answer (λ i k e. absurd (h.1 i k (listed-said i k e).0.match)) (λ e. e) (λ r e. fits-fault h.0 (refused-said r e).0),
+      λ h. by_answer (λ i k e. absurd (h.1 i k (listed_said i k e).0.match)) (λ e. e) (λ r e. fits_fault h.0 (refused_said r e).0),
     );
   }
 
 pub asked : Asked
-asked = asked-exactly
+asked = asked_exactly

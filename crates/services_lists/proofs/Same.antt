@@ -12,20 +12,20 @@ use Rattle.protocol.specs.Refusal.{wrong_size, too_long, wrong_count}
 use Rattle.protocol.specs.Verdict.{fault_if, first_of, writing}
 use Rattle.protocol.specs.declared.Verdict.{Verdict}
 use Rattle.protocol.specs.declared.Verdict.TheVariants.{Fits, Fault}
-use Rattle.protocol.proofs.Tests.{kept-equal}
+use Rattle.protocol.proofs.Tests.{kept_equal}
 use Rattle.folds.specs.Folds.{first_fault, joined, sum_of}
-use Rattle.folds.proofs.Laws.{fault-same, join-same, sum_same, split, length-joined, length-list, list_at, joined-sum}
+use Rattle.folds.proofs.Laws.{fault_same, join_same, sum_same, split, length_joined, length_list, list_at, joined_sum}
 use Rattle.pairs.specs.Pair.{range, range_bytes}
 use Rattle.device_services.specs.DeviceServices.{pair_place, fixed_part}
 use Rattle.services_writer.specs.declared.ServiceList.{ServiceList}
 use Rattle.services_writer.specs.ServicesWriter.{element_of, size_of, start_of, size_verdict, written_verdict, field_bytes, cid_piece, cid_bytes, element_bytes, head_bytes, pair_bytes, piece, bytes_of, write_of}
 use Rattle.services_lists.specs.ServicesLists.{count_of, word_of, cids_counted, cids_before, element_said, record_of, lists_verdict, write_all_of}
 use Rattle.services_lists.specs.Claims.{numbers_in, cids_in, fields_said, cids_said, AllWritten}
-use Rattle.services_lists.proofs.Laws.{said, size-said}
+use Rattle.services_lists.proofs.Laws.{said, size_said}
 
 -- number k behind the pieces before piece i
-piece-at : (f : ℕ → List ℕ) (n i k m : ℕ) (h : i < n) → length (joined f i) ≡ m → get_or (joined f n) (m + k) 0 ≡ get_or (f i ++ (split f n i h).rest) k 0
-piece-at f n i k m h e =
+piece_at : (f : ℕ → List ℕ) (n i k m : ℕ) (h : i < n) → length (joined f i) ≡ m → get_or (joined f n) (m + k) 0 ≡ get_or (f i ++ (split f n i h).rest) k 0
+piece_at f n i k m h e =
     let s = split f n i h in
     (λ j. get_or (s.is j) (sym e j + k) 0) ∙ get_or-append-add (joined f i) (f i ++ s.rest) k 0
 
@@ -38,26 +38,26 @@ module _ (p : ServiceList) where
   counted : ℕ → ℕ
   counted i = (element_of p i).fields.cid_count
 
-  length-numbers : (n : ℕ) → length (joined (λ i. numbers_in (element_of p i).fields) n) ≡ 7 * n
-  length-numbers n = length-joined (λ i. numbers_in (element_of p i).fields) 7 n (λ i. refl)
+  length_numbers : (n : ℕ) → length (joined (λ i. numbers_in (element_of p i).fields) n) ≡ 7 * n
+  length_numbers n = length_joined (λ i. numbers_in (element_of p i).fields) 7 n (λ i. refl)
 
-  length-cids : (n : ℕ) → length (joined (λ i. cids_in (element_of p i)) n) ≡ sum_of counted n
+  length_cids : (n : ℕ) → length (joined (λ i. cids_in (element_of p i)) n) ≡ sum_of counted n
   unfolding counted
-  length-cids n = joined-sum (λ i. cids_in (element_of p i)) counted n (λ i. length-list _ (counted i))
+  length_cids n = joined_sum (λ i. cids_in (element_of p i)) counted n (λ i. length_list _ (counted i))
 
   whole : length (fields_said p) % 7 ≡ 0
   unfolding fields_said
-  whole = omega (arith, length-numbers p.device_services_count)
+  whole = omega (arith, length_numbers p.device_services_count)
 
   count_same : count_of (fields_said p) ≡ p.device_services_count
   unfolding fields_said
-  count_same = omega (arith, length-numbers p.device_services_count)
+  count_same = omega (arith, length_numbers p.device_services_count)
 
-  fields-same : (i : ℕ) → i < p.device_services_count → (element_said (fields_said p) (cids_said p) i).fields ≡ (element_of p i).fields
+  fields_same : (i : ℕ) → i < p.device_services_count → (element_said (fields_said p) (cids_said p) i).fields ≡ (element_of p i).fields
   unfolding fields_said
-  fields-same i h =
+  fields_same i h =
       let at : (k : ℕ) → word_of (fields_said p) i k ≡ get_or (numbers_in (element_of p i).fields ++ (split (λ j. numbers_in (element_of p j).fields) p.device_services_count i h).rest) k 0 =
-      λ k. piece-at (λ j. numbers_in (element_of p j).fields) p.device_services_count i k (7 * i) h (length-numbers i) in
+      λ k. piece_at (λ j. numbers_in (element_of p j).fields) p.device_services_count i k (7 * i) h (length_numbers i) in
       λ j. record {
         device_service_id = record { word0 = at 0 j; word1 = at 1 j; word2 = at 2 j; word3 = at 3 j };
         dss_payload = at 4 j;
@@ -67,15 +67,15 @@ module _ (p : ServiceList) where
 
   before_same : (n : ℕ) → n ≤ p.device_services_count → cids_before (fields_said p) n ≡ sum_of counted n
   unfolding counted
-  before_same n l = sum_same (cids_counted (fields_said p)) counted n (λ i h. λ j. (fields-same i (omega arith) j).cid_count)
+  before_same n l = sum_same (cids_counted (fields_said p)) counted n (λ i h. λ j. (fields_same i (omega arith) j).cid_count)
 
-  cids-same : (i : ℕ) → i < p.device_services_count → cid_bytes (drop (cids_before (fields_said p) i) (cids_said p)) (counted i) ≡ cid_bytes (element_of p i).cids (counted i)
+  cids_same : (i : ℕ) → i < p.device_services_count → cid_bytes (drop (cids_before (fields_said p) i) (cids_said p)) (counted i) ≡ cid_bytes (element_of p i).cids (counted i)
   unfolding cids_said counted
-  cids-same i h =
-      join-same (cid_piece (drop (cids_before (fields_said p) i) (cids_said p))) (cid_piece (element_of p i).cids) (counted i)
+  cids_same i h =
+      join_same (cid_piece (drop (cids_before (fields_said p) i) (cids_said p))) (cid_piece (element_of p i).cids) (counted i)
       (λ k l. ap (digits 4)
       (get_or-drop (cids_before (fields_said p) i) (cids_said p) k 0
-      ∙ piece-at (λ j. cids_in (element_of p j)) p.device_services_count i k (cids_before (fields_said p) i) h (length-cids i ∙ sym (before_same i (omega arith)))
+      ∙ piece_at (λ j. cids_in (element_of p j)) p.device_services_count i k (cids_before (fields_said p) i) h (length_cids i ∙ sym (before_same i (omega arith)))
       ∙ list_at (λ m. get_or (element_of p i).cids m 0) 0 _ (counted i) k l))
 
   again : ServiceList
@@ -83,26 +83,26 @@ module _ (p : ServiceList) where
 
   size_same : (i : ℕ) → i < p.device_services_count → size_of again i ≡ size_of p i
   unfolding again
-  size_same i h = size-said p.max_dss_sessions (fields_said p) (cids_said p) i (omega (arith, count_same)) ∙ (λ j. 28 + 4 * (fields-same i h j).cid_count)
+  size_same i h = size_said p.max_dss_sessions (fields_said p) (cids_said p) i (omega (arith, count_same)) ∙ (λ j. 28 + 4 * (fields_same i h j).cid_count)
 
-  start-same : (i : ℕ) → i ≤ p.device_services_count → start_of again i ≡ start_of p i
+  start_same : (i : ℕ) → i ≤ p.device_services_count → start_of again i ≡ start_of p i
   unfolding start_of again
-  start-same i l = (λ j. fixed_part (count_same j) + sum_same (size_of again) (size_of p) i (λ k h. size_same k (omega arith)) j)
+  start_same i l = (λ j. fixed_part (count_same j) + sum_same (size_of again) (size_of p) i (λ k h. size_same k (omega arith)) j)
 
-  piece-same : (i : ℕ) → i < p.device_services_count → piece again i ≡ piece p i
+  piece_same : (i : ℕ) → i < p.device_services_count → piece again i ≡ piece p i
   unfolding element_bytes again counted
-  piece-same i h =
+  piece_same i h =
       ap element_bytes (said p.max_dss_sessions (fields_said p) (cids_said p) i (omega (arith, count_same)))
-      ∙ (λ j. field_bytes (fields-same i h j) ++ cid_bytes (drop (cids_before (fields_said p) i) (cids_said p)) (fields-same i h j).cid_count)
-      ∙ ap (λ (b : List ℕ). field_bytes (element_of p i).fields ++ b) (cids-same i h)
+      ∙ (λ j. field_bytes (fields_same i h j) ++ cid_bytes (drop (cids_before (fields_said p) i) (cids_said p)) (fields_same i h j).cid_count)
+      ∙ ap (λ (b : List ℕ). field_bytes (element_of p i).fields ++ b) (cids_same i h)
 
   bytes_same : bytes_of again ≡ bytes_of p
   unfolding bytes_of head_bytes again
   bytes_same =
       let n = p.device_services_count in
       let pairs : joined (pair_bytes again) n ≡ joined (pair_bytes p) n =
-      join-same (pair_bytes again) (pair_bytes p) n (λ i h. λ j. range_bytes (range (start-same i (omega arith) j) (size_same i h j))) in
-      let pieces : joined (piece again) n ≡ joined (piece p) n = join-same (piece again) (piece p) n piece-same in
+      join_same (pair_bytes again) (pair_bytes p) n (λ i h. λ j. range_bytes (range (start_same i (omega arith) j) (size_same i h j))) in
+      let pieces : joined (piece again) n ≡ joined (piece p) n = join_same (piece again) (piece p) n piece_same in
       (λ j. (digits 4 (count_same j) ++ digits 4 p.max_dss_sessions) ++ (joined (pair_bytes again) (count_same j) ++ joined (piece again) (count_same j)))
       ∙ (λ j. (digits 4 n ++ digits 4 p.max_dss_sessions) ++ (pairs j ++ pieces j))
 
@@ -111,17 +111,17 @@ module _ (p : ServiceList) where
   record_same =
       let n = p.device_services_count in
       let sizes : first_fault (size_verdict again) n ≡ first_fault (size_verdict p) n =
-      fault-same (size_verdict again) (size_verdict p) n (λ i h. ap (λ (k : ℕ). fault_if (ltb 540 k) wrong_size (pair_place i)) (size_same i h)) in
+      fault_same (size_verdict again) (size_verdict p) n (λ i h. ap (λ (k : ℕ). fault_if (ltb 540 k) wrong_size (pair_place i)) (size_same i h)) in
       (λ j. first_of (fault_if (ltb 32 (count_same j)) wrong_count 0) (first_of (first_fault (size_verdict again) (count_same j)) (fault_if (ltb 4096 (start_of again (count_same j))) too_long 0)))
-      ∙ (λ j. first_of (fault_if (ltb 32 n) wrong_count 0) (first_of (sizes j) (fault_if (ltb 4096 (start-same n (omega arith) j)) too_long 0)))
+      ∙ (λ j. first_of (fault_if (ltb 32 n) wrong_count 0) (first_of (sizes j) (fault_if (ltb 4096 (start_same n (omega arith) j)) too_long 0)))
 
-  verdict-same : lists_verdict p.max_dss_sessions (fields_said p) (cids_said p) ≡ written_verdict p
+  verdict_same : lists_verdict p.max_dss_sessions (fields_said p) (cids_said p) ≡ written_verdict p
   unfolding lists_verdict fault_if first_of again cids_said
-  verdict-same =
+  verdict_same =
       let n = p.device_services_count in
-      let total : cids_before (fields_said p) (count_of (fields_said p)) ≡ length (cids_said p) = ap (cids_before (fields_said p)) count_same ∙ before_same n (omega arith) ∙ sym (length-cids n) in
-      rw (kept-equal (length (fields_said p) % 7) 0 whole, kept-equal _ _ total) (fits_after (written_verdict again) ∙ record_same)
+      let total : cids_before (fields_said p) (count_of (fields_said p)) ≡ length (cids_said p) = ap (cids_before (fields_said p)) count_same ∙ before_same n (omega arith) ∙ sym (length_cids n) in
+      rw (kept_equal (length (fields_said p) % 7) 0 whole, kept_equal _ _ total) (fits_after (written_verdict again) ∙ record_same)
 
-pub all-written : AllWritten
+pub all_written : AllWritten
 unfolding write_all_of write_of again
-all-written p s = λ j. writing (verdict-same p j) (bytes_same p j) s
+all_written p s = λ j. writing (verdict_same p j) (bytes_same p j) s

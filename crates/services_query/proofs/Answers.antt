@@ -10,10 +10,10 @@ use borrow.Author.Tests.{eq-eqb, eqb-true, lt-ltb, le-ltb}
 use Rattle.protocol.specs.declared.Verdict.{Verdict}
 use Rattle.protocol.specs.declared.Verdict.TheVariants.{Fits, Fault}
 use Rattle.protocol.specs.declared.service.ServiceId.{ServiceId}
-use Rattle.protocol.proofs.Services.{same-said, said_same}
-use Rattle.protocol.proofs.Tests.{and_both, both-and}
+use Rattle.protocol.proofs.Services.{same_said, said_same}
+use Rattle.protocol.proofs.Tests.{and_both, both_and}
 use Rattle.folds.specs.Folds.{any_of, first_index}
-use Rattle.folds.proofs.Laws.{some_of, each_none, any_at, index_at, index_below, index-none}
+use Rattle.folds.proofs.Laws.{some_of, each_none, any_at, index_at, index_below, index_none}
 use Rattle.wire.specs.Output.{over}
 use Rattle.protocol.specs.Refusal.{refusal, output_too_small}
 use Rattle.device_services.specs.DeviceServices.{count_of, offset_of, cid_count_at, element_at, cids_at, verdict_with}
@@ -29,52 +29,52 @@ use Rattle.services_query.specs.Claims.{Serves, Held, ElementNotListed, CidsNotL
 
 -- ---- a service and a CID
 
-pub serves-said : (s : List ℕ) (service : ServiceId) (i : ℕ) → i < count_of s → is_of s service i ≡ true → Serves s service i
+pub serves_said : (s : List ℕ) (service : ServiceId) (i : ℕ) → i < count_of s → is_of s service i ≡ true → Serves s service i
 unfolding is_of
-serves-said s service i l e = record { below = l; is = same-said (element_at s (offset_of s i)).device_service_id service e }
+serves_said s service i l e = record { below = l; is = same_said (element_at s (offset_of s i)).device_service_id service e }
 
-pub said-serves : (s : List ℕ) (service : ServiceId) (i : ℕ) → Serves s service i → is_of s service i ≡ true
+pub said_serves : (s : List ℕ) (service : ServiceId) (i : ℕ) → Serves s service i → is_of s service i ≡ true
 unfolding is_of
-said-serves s service i h = said_same (element_at s (offset_of s i)).device_service_id service h.is
+said_serves s service i h = said_same (element_at s (offset_of s i)).device_service_id service h.is
 
-held-said : (s : List ℕ) (service : ServiceId) (cid : ℕ) → any_of (holds s service cid) (count_of s) ≡ true → Held s service cid
+held_said : (s : List ℕ) (service : ServiceId) (cid : ℕ) → any_of (holds s service cid) (count_of s) ≡ true → Held s service cid
 unfolding holds has_cid
-held-said s service cid e =
+held_said s service cid e =
     let i = some_of (holds s service cid) (count_of s) e in
     let b = and_both (is_of s service i.0) (has_cid s (offset_of s i.0) cid) i.1.1 in
     let k = some_of (is_cid s (offset_of s i.0) cid) (cid_count_at s (offset_of s i.0)) b.1 in
-    record { element = i.0; serves = serves-said s service i.0 i.1.0 b.0; number = k.0; counted = k.1.0; is = eqb-true _ cid k.1.1 }
+    record { element = i.0; serves = serves_said s service i.0 i.1.0 b.0; number = k.0; counted = k.1.0; is = eqb-true _ cid k.1.1 }
 
-said-held : (s : List ℕ) (service : ServiceId) (cid : ℕ) → Held s service cid → any_of (holds s service cid) (count_of s) ≡ true
+said_held : (s : List ℕ) (service : ServiceId) (cid : ℕ) → Held s service cid → any_of (holds s service cid) (count_of s) ≡ true
 unfolding holds has_cid
-said-held s service cid h =
+said_held s service cid h =
     any_at (holds s service cid) (count_of s) h.element h.serves.below
-    (both-and (is_of s service h.element) _ (said-serves s service h.element h.serves)
+    (both_and (is_of s service h.element) _ (said_serves s service h.element h.serves)
     (any_at (is_cid s (offset_of s h.element) cid) (cid_count_at s (offset_of s h.element)) h.number h.counted (eq-eqb _ cid h.is)))
 
-told-listed : (d : Verdict) (b : Bool) → told d b ≡ Listed → (d ≡ Fits) × (b ≡ true)
-told-listed Fits true e = (refl, refl)
-told-listed Fits false e = let z : ◌≡◌ {A = ℕ} 0 1 = cc in absurd (omega arith)
-told-listed (Fault r) b e = let z : ◌≡◌ {A = ℕ} 0 1 = cc in absurd (omega arith)
+told_listed : (d : Verdict) (b : Bool) → told d b ≡ Listed → (d ≡ Fits) × (b ≡ true)
+told_listed Fits true e = (refl, refl)
+told_listed Fits false e = let z : ◌≡◌ {A = ℕ} 0 1 = cc in absurd (omega arith)
+told_listed (Fault r) b e = let z : ◌≡◌ {A = ℕ} 0 1 = cc in absurd (omega arith)
 
 -- listed exactly when the list is accepted and one of its elements holds both
-pub listed-exactly : ListedExactly
+pub listed_exactly : ListedExactly
 unfolding listed_with
-listed-exactly z s service cid = (
-  λ e. let d = told-listed (verdict_with z s) (any_of (holds s service cid) (count_of s)) e in (d.0, held-said s service cid d.1),
-  λ k. rw (k.0, said-held s service cid k.1),
+listed_exactly z s service cid = (
+  λ e. let d = told_listed (verdict_with z s) (any_of (holds s service cid) (count_of s)) e in (d.0, held_said s service cid d.1),
+  λ k. rw (k.0, said_held s service cid k.1),
 )
 
-told-not : (d : Verdict) (b : Bool) → told d b ≡ list.NotListed → (d ≡ Fits) × (b ≡ false)
-told-not Fits true e = let z : ◌≡◌ {A = ℕ} 0 1 = cc in absurd (omega arith)
-told-not Fits false e = (refl, refl)
-told-not (Fault r) b e = let z : ◌≡◌ {A = ℕ} 0 1 = cc in absurd (omega arith)
+told_not : (d : Verdict) (b : Bool) → told d b ≡ list.NotListed → (d ≡ Fits) × (b ≡ false)
+told_not Fits true e = let z : ◌≡◌ {A = ℕ} 0 1 = cc in absurd (omega arith)
+told_not Fits false e = (refl, refl)
+told_not (Fault r) b e = let z : ◌≡◌ {A = ℕ} 0 1 = cc in absurd (omega arith)
 
 -- not listed exactly when the list is accepted and none of its elements holds both
-pub not-listed-exactly : NotListedExactly
+pub not_listed_exactly : NotListedExactly
 unfolding listed_with
-not-listed-exactly z s service cid = (
-  λ e. let d = told-not (verdict_with z s) (any_of (holds s service cid) (count_of s)) e in (d.0, λ h. let y = said-held s service cid h in let z : ◌≡◌ {A = Bool} true false = cc in apart z),
+not_listed_exactly z s service cid = (
+  λ e. let d = told_not (verdict_with z s) (any_of (holds s service cid) (count_of s)) e in (d.0, λ h. let y = said_held s service cid h in let z : ◌≡◌ {A = Bool} true false = cc in apart z),
   λ k. none (any_of (holds s service cid) (count_of s)) refl k.0 k.1,
 )
   where
@@ -83,83 +83,83 @@ not-listed-exactly z s service cid = (
 
     none : (b : Bool) → any_of (holds s service cid) (count_of s) ≡ b → verdict_with z s ≡ Fits → (Held s service cid → ⊥)
         → told (verdict_with z s) (any_of (holds s service cid) (count_of s)) ≡ list.NotListed
-    none true e f h = absurd (h (held-said s service cid e))
+    none true e f h = absurd (h (held_said s service cid e))
     none false e f h = rw (f, e)
 
 -- ---- an element
 
-none-serves : (s : List ℕ) (service : ServiceId) (n : ℕ) → n ≤ count_of s → ((j : ℕ) → j < n → Serves s service j → ⊥) → any_of (is_of s service) n ≡ false
-none-serves s service n l h = each_none (is_of s service) n (λ j k. by-test (is_of s service j) j refl k)
+none_serves : (s : List ℕ) (service : ServiceId) (n : ℕ) → n ≤ count_of s → ((j : ℕ) → j < n → Serves s service j → ⊥) → any_of (is_of s service) n ≡ false
+none_serves s service n l h = each_none (is_of s service) n (λ j k. by_test (is_of s service j) j refl k)
   where
-    by-test : (b : Bool) (j : ℕ) → is_of s service j ≡ b → j < n → is_of s service j ≡ false
-    by-test true j e k = absurd (h j k (serves-said s service j (omega arith) e))
-    by-test false j e k = e
+    by_test : (b : Bool) (j : ℕ) → is_of s service j ≡ b → j < n → is_of s service j ≡ false
+    by_test true j e k = absurd (h j k (serves_said s service j (omega arith) e))
+    by_test false j e k = e
 
 -- the element with a number below the count is shown, and no other is listed
-pub element-shown : ElementShown
+pub element_shown_lem : ElementShown
 unfolding element_with chosen_shown
-element-shown z s i out e l = rw (e, lt-ltb i (count_of s) l)
+element_shown_lem z s i out e l = rw (e, lt-ltb i (count_of s) l)
 
-pub element-none : (z : ZeroSize) (s : List ℕ) (i : ℕ) (out : List ℕ) → verdict_with z s ≡ Fits → count_of s ≤ i → element_with z s i out ≡ plain NotListed out
+pub element_none : (z : ZeroSize) (s : List ℕ) (i : ℕ) (out : List ℕ) → verdict_with z s ≡ Fits → count_of s ≤ i → element_with z s i out ≡ plain NotListed out
 unfolding element_with chosen_shown
-element-none z s i out e l = rw (e, le-ltb i (count_of s) l)
+element_none z s i out e l = rw (e, le-ltb i (count_of s) l)
 
 -- the first element of a service is shown
-pub first-shown : FirstShown
+pub first_shown : FirstShown
 unfolding cids_with chosen_shown
-first-shown z s service i out e f =
+first_shown z s service i out e f =
     let l : i < count_of s = f.serves.below in
     let x : first_index (is_of s service) (count_of s) ≡ i =
-    index_at (is_of s service) (count_of s) i (none-serves s service i (omega arith) f.before) l (said-serves s service i f.serves) in
+    index_at (is_of s service) (count_of s) i (none_serves s service i (omega arith) f.before) l (said_serves s service i f.serves) in
     rw (e, x, lt-ltb i (count_of s) l)
 
 -- a service that no element is of is not listed
-pub first-none : (z : ZeroSize) (s : List ℕ) (service : ServiceId) (out : List ℕ) → verdict_with z s ≡ Fits → ((j : ℕ) → Serves s service j → ⊥)
+pub first_none : (z : ZeroSize) (s : List ℕ) (service : ServiceId) (out : List ℕ) → verdict_with z s ≡ Fits → ((j : ℕ) → Serves s service j → ⊥)
     → cids_with z s service out ≡ plain NotListed out
 unfolding cids_with chosen_shown
-first-none z s service out e h =
+first_none z s service out e h =
     let x : first_index (is_of s service) (count_of s) ≡ count_of s =
-    index-none (is_of s service) (count_of s) (none-serves s service (count_of s) (omega arith) (λ j k. h j)) in
+    index_none (is_of s service) (count_of s) (none_serves s service (count_of s) (omega arith) (λ j k. h j)) in
     rw (e, x, le-ltb (count_of s) (count_of s) (omega arith))
 
 -- ---- 'not listed', exactly
 
 -- an element that is there is shown or has too little room
-shown-some : (s : List ℕ) (i : ℕ) (out : List ℕ) → (element_shown s i out).answer ≡ NotListed → ⊥
+shown_some : (s : List ℕ) (i : ℕ) (out : List ℕ) → (element_shown s i out).answer ≡ NotListed → ⊥
 unfolding element_shown
-shown-some s i out = by-room (ltb (length out) (cid_count_at s (offset_of s i)))
+shown_some s i out = by_room (ltb (length out) (cid_count_at s (offset_of s i)))
   where
-    by-room : (b : Bool) → (cond b (plain (Refused (refusal output_too_small (4 * cid_count_at s (offset_of s i)))) out) (plain (Shows (element_at s (offset_of s i))) (over (cids_at s (offset_of s i)) out))).answer ≡ NotListed → ⊥
-    by-room true e = let z : ◌≡◌ {A = ℕ} 0 1 = cc in absurd (omega arith)
-    by-room false e = let z : ◌≡◌ {A = ℕ} 0 1 = cc in absurd (omega arith)
+    by_room : (b : Bool) → (cond b (plain (Refused (refusal output_too_small (4 * cid_count_at s (offset_of s i)))) out) (plain (Shows (element_at s (offset_of s i))) (over (cids_at s (offset_of s i)) out))).answer ≡ NotListed → ⊥
+    by_room true e = let z : ◌≡◌ {A = ℕ} 0 1 = cc in absurd (omega arith)
+    by_room false e = let z : ◌≡◌ {A = ℕ} 0 1 = cc in absurd (omega arith)
 
 chosen_none : (s : List ℕ) (i : ℕ) (out : List ℕ) → (chosen_shown s i out).answer ≡ NotListed → count_of s ≤ i
 unfolding chosen_shown
 chosen_none s i out e = by_number (ltb i (count_of s)) refl e
   where
     by_number : (b : Bool) → ltb i (count_of s) ≡ b → (cond b (element_shown s i out) (plain NotListed out)).answer ≡ NotListed → count_of s ≤ i
-    by_number true q e = absurd (shown-some s i out e)
+    by_number true q e = absurd (shown_some s i out e)
     by_number false q e = ltb-false i (count_of s) q
 
-judged-none : (d : Verdict) (x : Shown) (out : List ℕ) → (judged d x out).answer ≡ NotListed → (d ≡ Fits) × (x.answer ≡ NotListed)
-judged-none Fits x out e = (refl, e)
-judged-none (Fault r) x out e = let z : ◌≡◌ {A = ℕ} 0 1 = cc in absurd (omega arith)
+judged_none : (d : Verdict) (x : Shown) (out : List ℕ) → (judged d x out).answer ≡ NotListed → (d ≡ Fits) × (x.answer ≡ NotListed)
+judged_none Fits x out e = (refl, e)
+judged_none (Fault r) x out e = let z : ◌≡◌ {A = ℕ} 0 1 = cc in absurd (omega arith)
 
-pub element-not-listed-exactly : ElementNotListed
+pub element_not_listed_exactly : ElementNotListed
 unfolding element_with
-element-not-listed-exactly z s i out = (
-  λ e. let d = judged-none (verdict_with z s) (chosen_shown s i out) out e in (d.0, chosen_none s i out d.1),
-  λ k. ap (λ (x : Shown). x.answer) (element-none z s i out k.0 k.1),
+element_not_listed_exactly z s i out = (
+  λ e. let d = judged_none (verdict_with z s) (chosen_shown s i out) out e in (d.0, chosen_none s i out d.1),
+  λ k. ap (λ (x : Shown). x.answer) (element_none z s i out k.0 k.1),
 )
 
-pub cids-not-listed-exactly : CidsNotListed
+pub cids_not_listed_exactly : CidsNotListed
 unfolding cids_with
-cids-not-listed-exactly z s service out = (
-  λ e. let d = judged-none (verdict_with z s) (chosen_shown s (first_index (is_of s service) (count_of s)) out) out e in
+cids_not_listed_exactly z s service out = (
+  λ e. let d = judged_none (verdict_with z s) (chosen_shown s (first_index (is_of s service) (count_of s)) out) out e in
       (d.0, λ j h. none_below (any_of (is_of s service) (count_of s)) refl (chosen_none s (first_index (is_of s service) (count_of s)) out d.1) j h),
-  λ k. ap (λ (x : Shown). x.answer) (first-none z s service out k.0 k.1),
+  λ k. ap (λ (x : Shown). x.answer) (first_none z s service out k.0 k.1),
 )
   where
     none_below : (b : Bool) → any_of (is_of s service) (count_of s) ≡ b → count_of s ≤ first_index (is_of s service) (count_of s) → (j : ℕ) → Serves s service j → ⊥
     none_below true e l j h = let x = index_below (is_of s service) (count_of s) e in absurd (omega (arith, x, l))
-    none_below false e l j h = let y = any_at (is_of s service) (count_of s) j h.below (said-serves s service j h) in let z : ◌≡◌ {A = Bool} true false = cc in let w : ◌≡◌ {A = ℕ} 0 1 = cc in absurd (omega arith)
+    none_below false e l j h = let y = any_at (is_of s service) (count_of s) j h.below (said_serves s service j h) in let z : ◌≡◌ {A = Bool} true false = cc in let w : ◌≡◌ {A = ℕ} 0 1 = cc in absurd (omega arith)

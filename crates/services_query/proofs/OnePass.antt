@@ -7,49 +7,49 @@ use native.Mathlib.Omega.{arith}
 use lib.ListN.{length}
 use lib.Seq.{sets}
 use Rattle.protocol.specs.declared.Verdict.TheVariants.{Fits}
-use Rattle.protocol.proofs.Verdicts.{left-fits}
+use Rattle.protocol.proofs.Verdicts.{left_fits}
 use Rattle.folds.specs.Folds.{sum_of}
-use Rattle.folds.proofs.Laws.{length-list, length-joined, joined-sum, join-next, sum-next}
+use Rattle.folds.proofs.Laws.{length_list, length_joined, joined_sum, join_next, sum_next}
 use Rattle.device_services.specs.DeviceServices.{count_of, offset_of, cid_count_at, cids_at, verdict_with}
 use Rattle.device_services.proofs.Laws.{few}
 use Rattle.pairs.specs.declared.ZeroSize.{ZeroSize}
 use Rattle.services_query.specs.ServicesQuery.{words_at, cids_of_element, all_fields, all_cids}
 
-pub length-words : (s : List ℕ) (at n : ℕ) → length (words_at s at n) ≡ n
+pub length_words : (s : List ℕ) (at n : ℕ) → length (words_at s at n) ≡ n
 unfolding words_at
-length-words s at n = length-list _ n
+length_words s at n = length_list _ n
 
 -- the CIDs of an element are the numbers behind its fixed part
-cids-words : (s : List ℕ) (at : ℕ) → words_at s (at + 28) (cid_count_at s at) ≡ cids_at s at
+cids_words : (s : List ℕ) (at : ℕ) → words_at s (at + 28) (cid_count_at s at) ≡ cids_at s at
 unfolding words_at cids_at
-cids-words s at = refl
+cids_words s at = refl
 
 pub length_fields : (s : List ℕ) (n : ℕ) → length (all_fields s n) ≡ 7 * n
 unfolding all_fields
-length_fields s n = length-joined (λ i. words_at s (offset_of s i) 7) 7 n (λ i. length-words s (offset_of s i) 7)
+length_fields s n = length_joined (λ i. words_at s (offset_of s i) 7) 7 n (λ i. length_words s (offset_of s i) 7)
 
-pub length-cids : (s : List ℕ) (n : ℕ) → length (all_cids s n) ≡ sum_of (cids_of_element s) n
+pub length_cids : (s : List ℕ) (n : ℕ) → length (all_cids s n) ≡ sum_of (cids_of_element s) n
 unfolding all_cids cids_at
-length-cids s n = joined-sum (λ i. cids_at s (offset_of s i)) (cids_of_element s) n (λ i. length-list _ (cids_of_element s i))
+length_cids s n = joined_sum (λ i. cids_at s (offset_of s i)) (cids_of_element s) n (λ i. length_list _ (cids_of_element s i))
 
 -- a list that fits has at most 32 elements
-pub few-listed : (z : ZeroSize) (s : List ℕ) → verdict_with z s ≡ Fits → count_of s ≤ 32
+pub few_listed : (z : ZeroSize) (s : List ℕ) → verdict_with z s ≡ Fits → count_of s ≤ 32
 unfolding verdict_with
-few-listed z s e = few (length s) (count_of s) (left-fits _ _ e)
+few_listed z s e = few (length s) (count_of s) (left_fits _ _ e)
 
-pub fields-next : (s out : List ℕ) (i : ℕ) {o : ℕ} {t u : List ℕ} → o ≡ offset_of s i → t ≡ sets out 0 (all_fields s i) → u ≡ sets t (7 * i) (words_at s o 7)
+pub fields_next : (s out : List ℕ) (i : ℕ) {o : ℕ} {t u : List ℕ} → o ≡ offset_of s i → t ≡ sets out 0 (all_fields s i) → u ≡ sets t (7 * i) (words_at s o 7)
     → u ≡ sets out 0 (all_fields s (i + 1))
 unfolding all_fields
-fields-next s out i {o} {t} e p q =
-    join-next (λ j. words_at s (offset_of s j) 7) i 0 out p (omega (arith, length_fields s i)) (q ∙ ap (λ (k : ℕ). sets t (7 * i) (words_at s k 7)) e)
+fields_next s out i {o} {t} e p q =
+    join_next (λ j. words_at s (offset_of s j) 7) i 0 out p (omega (arith, length_fields s i)) (q ∙ ap (λ (k : ℕ). sets t (7 * i) (words_at s k 7)) e)
 
-pub cids-next : (s out : List ℕ) (i : ℕ) {o n at : ℕ} {t u : List ℕ} → o ≡ offset_of s i → n ≡ cid_count_at s o → at ≡ sum_of (cids_of_element s) i
+pub cids_next : (s out : List ℕ) (i : ℕ) {o n at : ℕ} {t u : List ℕ} → o ≡ offset_of s i → n ≡ cid_count_at s o → at ≡ sum_of (cids_of_element s) i
     → t ≡ sets out 0 (all_cids s i) → u ≡ sets t at (words_at s (o + 28) n) → u ≡ sets out 0 (all_cids s (i + 1))
 unfolding all_cids
-cids-next s out i {o} {n} {at} {t} e c a p q =
-    let w : words_at s (o + 28) n ≡ cids_at s (offset_of s i) = rw (c, e) (cids-words s (offset_of s i)) in
-    join-next (λ j. cids_at s (offset_of s j)) i 0 out p (omega (arith, length-cids s i, a)) (q ∙ ap (sets t at) w)
+cids_next s out i {o} {n} {at} {t} e c a p q =
+    let w : words_at s (o + 28) n ≡ cids_at s (offset_of s i) = rw (c, e) (cids_words s (offset_of s i)) in
+    join_next (λ j. cids_at s (offset_of s j)) i 0 out p (omega (arith, length_cids s i, a)) (q ∙ ap (sets t at) w)
 
-pub total-next : (s : List ℕ) (i : ℕ) {o n t : ℕ} → o ≡ offset_of s i → n ≡ cid_count_at s o → t ≡ sum_of (cids_of_element s) i
+pub total_next : (s : List ℕ) (i : ℕ) {o n t : ℕ} → o ≡ offset_of s i → n ≡ cid_count_at s o → t ≡ sum_of (cids_of_element s) i
     → t + n ≡ sum_of (cids_of_element s) (i + 1)
-total-next s i e c a = rw (c, e, a) (sym (sum-next (cids_of_element s) i))
+total_next s i e c a = rw (c, e, a) (sym (sum_next (cids_of_element s) i))

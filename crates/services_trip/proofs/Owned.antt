@@ -13,8 +13,8 @@ use Rattle.services_writer.specs.contracts.ServiceElement as Element
 use Rattle.services_writer.specs.declared.ServiceElement.{ServiceElement}
 use Rattle.services_trip.specs.ServicesTrip.{ElementOfWidth}
 
-element-sized : (e : ServiceElement) (vs : List Val) → shadow ((Element.the_row).own_val e vs) → ElementOfWidth e
-element-sized e vs p = record {
+element_sized : (e : ServiceElement) (vs : List Val) → shadow ((Element.the_row).own_val e vs) → ElementOfWidth e
+element_sized e vs p = record {
   fields = record {
     word0 = omega (arith, p.1.1.0);
     word1 = omega (arith, p.1.1.0);
@@ -29,9 +29,9 @@ element-sized e vs p = record {
 }
 
 -- each element of an array
-pub elements-sized : (es : List ServiceElement) (us : List Val) (i : ℕ) (z : ServiceElement) → i < length es
+pub elements_sized : (es : List ServiceElement) (us : List Val) (i : ℕ) (z : ServiceElement) → i < length es
     → shadow (each (Element.the_row).Denot (Element.the_row).own_val es us) → ElementOfWidth (get_or es i z)
-elements-sized [] us i z h p = absurd (omega arith)
-elements-sized (e ∷ es) [] i z h p = absurd p
-elements-sized (e ∷ es) (u ∷ us) zero z h p = element-sized e (u ∷ []) p.0
-elements-sized (e ∷ es) (u ∷ us) (suc i) z h p = elements-sized es us i z (omega arith) p.1
+elements_sized [] us i z h p = absurd (omega arith)
+elements_sized (e ∷ es) [] i z h p = absurd p
+elements_sized (e ∷ es) (u ∷ us) zero z h p = element_sized e (u ∷ []) p.0
+elements_sized (e ∷ es) (u ∷ us) (suc i) z h p = elements_sized es us i z (omega arith) p.1

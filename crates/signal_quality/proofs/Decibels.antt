@@ -38,31 +38,31 @@ fits_by : (k : ℕ) → rows (small k) 128 ≡ rows always 128 → (c : ℕ) →
 unfolding small always
 fits_by k e c h = record { sfits = ltb-true (mag (less k c)) (2 ^ 15) (agree (small k) always 128 e c h) }
 
-pub dbm-fits : (c : ℕ) → c < 128 → SFits w16 (less 157 c)
+pub dbm_fits : (c : ℕ) → c < 128 → SFits w16 (less 157 c)
 unfolding small always
-dbm-fits = fits_by 157 refl
+dbm_fits = fits_by 157 refl
 
-pub db-fits : (c : ℕ) → c < 128 → SFits w16 (less 47 c)
+pub db_fits : (c : ℕ) → c < 128 → SFits w16 (less 47 c)
 unfolding small always
-db-fits = fits_by 47 refl
+db_fits = fits_by 47 refl
 
-dbm-exact : (c : ℕ) → c < 128 → of_int binary32 (back 157 c) ≡ exactly (pos c -ℤ pos 157) 0
+dbm_exact : (c : ℕ) → c < 128 → of_int binary32 (back 157 c) ≡ exactly (pos c -ℤ pos 157) 0
 unfolding exactly odd of_int
-dbm-exact c h = agree (λ c. of_int binary32 (back 157 c)) (λ c. exactly (pos c -ℤ pos 157) 0) 128 refl c h
+dbm_exact c h = agree (λ c. of_int binary32 (back 157 c)) (λ c. exactly (pos c -ℤ pos 157) 0) 128 refl c h
 
-db-exact : (c : ℕ) → c < 128 → div binary32 (of_int binary32 (back 47 c)) (of_bits binary32 0x40000000) ≡ exactly (pos c -ℤ pos 47) 1
+db_exact : (c : ℕ) → c < 128 → div binary32 (of_int binary32 (back 47 c)) (of_bits binary32 0x40000000) ≡ exactly (pos c -ℤ pos 47) 1
 unfolding exactly odd of_int div of_bits
-db-exact c h =
+db_exact c h =
     agree (λ c. div binary32 (of_int binary32 (back 47 c)) (of_bits binary32 0x40000000)) (λ c. exactly (pos c -ℤ pos 47) 1) 128 refl c h
 
 -- a reading that is not shown may be any
-shown-same : (mark : ℕ) (edge : Float) (a b : Reading) (c : ℕ) → (c < mark → a ≡ b) → coded mark edge a c ≡ coded mark edge b c
+shown_same : (mark : ℕ) (edge : Float) (a b : Reading) (c : ℕ) → (c < mark → a ≡ b) → coded mark edge a c ≡ coded mark edge b c
 unfolding coded
-shown-same mark edge a b c h = by-mark (ltb c mark) refl
+shown_same mark edge a b c h = by_mark (ltb c mark) refl
   where
-    by-mark : (t : Bool) → ltb c mark ≡ t → coded mark edge a c ≡ coded mark edge b c
-    by-mark true e = ap (λ (r : Reading). coded mark edge r c) (h (ltb-true c mark e))
-    by-mark false e = past (eqb c mark) refl
+    by_mark : (t : Bool) → ltb c mark ≡ t → coded mark edge a c ≡ coded mark edge b c
+    by_mark true e = ap (λ (r : Reading). coded mark edge r c) (h (ltb-true c mark e))
+    by_mark false e = past (eqb c mark) refl
       where
         past : (t : Bool) → eqb c mark ≡ t → coded mark edge a c ≡ coded mark edge b c
         past true q = rw q
@@ -71,13 +71,13 @@ shown-same mark edge a b c h = by-mark (ltb c mark) refl
 within : (c : ℕ) → c < 128 → c % 128 ≡ c
 within c h = omega arith
 
-pub dbm-read : (c : ℕ) → coded 127 (exactly (negsuc 155) 0) (Dbm (of_int binary32 (back 157 (c % 128)))) c ≡ rsrp_of c
+pub dbm_read : (c : ℕ) → coded 127 (exactly (negsuc 155) 0) (Dbm (of_int binary32 (back 157 (c % 128)))) c ≡ rsrp_of c
 unfolding rsrp_of
-dbm-read c = shown-same 127 _ _ _ c (λ h. rw (within c (omega arith)) (ap Dbm (dbm-exact c (omega arith))))
+dbm_read c = shown_same 127 _ _ _ c (λ h. rw (within c (omega arith)) (ap Dbm (dbm_exact c (omega arith))))
 
-pub db-read : (c : ℕ) → coded 128 (exactly (negsuc 22) 0) (Db (div binary32 (of_int binary32 (back 47 (c % 128))) (of_bits binary32 0x40000000))) c ≡ snr_of c
+pub db_read : (c : ℕ) → coded 128 (exactly (negsuc 22) 0) (Db (div binary32 (of_int binary32 (back 47 (c % 128))) (of_bits binary32 0x40000000))) c ≡ snr_of c
 unfolding snr_of
-db-read c = shown-same 128 _ _ _ c (λ h. rw (within c h) (ap Db (db-exact c h)))
+db_read c = shown_same 128 _ _ _ c (λ h. rw (within c h) (ap Db (db_exact c h)))
 
 -- ---- what number an exact float is
 
@@ -95,19 +95,19 @@ unfolding coded
 known_read mark edge r c h l = rw (le-ltb mark c (omega arith), ne_eqb c mark (λ e. omega arith), ne_eqb c 0 (λ e. omega arith))
 
 -- RSRP code c from 1 to 126 is c − 157 dBm
-pub rsrp-exact : RsrpExact
+pub rsrp_exact : RsrpExact
 unfolding rsrp_of
-rsrp-exact c h l = (exactly (pos c -ℤ pos 157) 0, (known_read 127 _ _ c h l, exact (pos c -ℤ pos 157) 0))
+rsrp_exact c h l = (exactly (pos c -ℤ pos 157) 0, (known_read 127 _ _ c h l, exact (pos c -ℤ pos 157) 0))
 
 -- SNR code c from 1 to 127 is (c − 47)/2 dB, and twice that is the whole number c − 47
-pub snr-exact : SnrExact
+pub snr_exact : SnrExact
 unfolding snr_of
-snr-exact c h l = (
+snr_exact c h l = (
   exactly (pos c -ℤ pos 47) 1,
   (known_read 128 _ _ c h l, (exact (pos c -ℤ pos 47) 1, rw (twice c l) (exact (pos c -ℤ pos 47) 0))),
 )
 
 -- code 0 is below the range, with its edge: −156 dBm and −23 dB
-pub edges-exact : Edges
+pub edges_exact : Edges
 unfolding rsrp_of snr_of coded
-edges-exact = ((exactly (negsuc 155) 0, (refl, exact (negsuc 155) 0)), (exactly (negsuc 22) 0, (refl, exact (negsuc 22) 0)))
+edges_exact = ((exactly (negsuc 155) 0, (refl, exact (negsuc 155) 0)), (exactly (negsuc 22) 0, (refl, exact (negsuc 22) 0)))

@@ -11,7 +11,7 @@ use lib.Dec.{ltb, eqb}
 use lib.ListN.{length, take, drop, replicate, length-append, length-take, length-replicate}
 use lib.Seq.{sets, length-take-le, take_all, take-take, take-append-le, take-append-add}
 use Rattle.wire.specs.Output.{over}
-use Rattle.wire.proofs.Laws.{take-sets, drop-sets}
+use Rattle.wire.proofs.Laws.{take_sets, drop_sets}
 use Rattle.message.specs.Message.{most_information, most_transfer}
 use Rattle.stream.specs.declared.Said.TheVariants as said
 use Rattle.stream.specs.declared.front.Next.{Next}
@@ -20,7 +20,7 @@ use Rattle.stream.specs.declared.front.Ready.{Ready}
 use Rattle.stream.specs.declared.front.Ready.TheVariants.{Done, Ends, InChunk, InBuffer}
 use Rattle.stream.specs.Stream.{StreamOn, state_of, held_in, next_of, Door, Feeding, small as small_output, length_fault, untaken, wiped, ended_on, passed_on, feed_by, feed_on}
 use Rattle.stream.specs.Ready.{Prepared, prepared, done_by, prepared_by, prepared_of}
-use Rattle.stream.proofs.Starts.{piece-bounds}
+use Rattle.stream.proofs.Starts.{piece_bounds}
 
 -- ---- what the door makes of it
 
@@ -44,15 +44,15 @@ module _ (h piece c : List ℕ) (n : ℕ) (front : take (length h) piece ≡ h) 
   filled : List ℕ
   filled = sets piece (length h) (take (n - length h) c)
 
-  joined-piece : take n filled ≡ take n (h ++ c)
+  joined_piece : take n filled ≡ take n (h ++ c)
   unfolding filled
-  joined-piece = elim (dec_le (length h) n) [
+  joined_piece = elim (dec_le (length h) n) [
     | yes k ↦ (
         let m : length (take (n - length h) c) ≡ n - length h = length-take-le (n - length h) c (omega arith) in
         let e : length h + length (take (n - length h) c) ≡ n = omega arith in
         let f : length h + (n - length h) ≡ n = omega arith in
         ap (λ (j : ℕ). take j (sets piece (length h) (take (n - length h) c))) (sym e)
-        ∙ take-sets piece (take (n - length h) c) (length h) (omega arith)
+        ∙ take_sets piece (take (n - length h) c) (length h) (omega arith)
         ∙ ap (λ (x : List ℕ). x ++ take (n - length h) c) front
         ∙ sym (take-append-add h c (n - length h))
         ∙ ap (λ (j : ℕ). take j (h ++ c)) f)
@@ -64,53 +64,53 @@ module _ (h piece c : List ℕ) (n : ℕ) (front : take (length h) piece ≡ h) 
         ∙ sym (take-append-le n h c (omega arith)))
   ]
 
-  rest-kept : drop n filled ≡ drop n piece
+  rest_kept : drop n filled ≡ drop n piece
   unfolding filled
-  rest-kept = elim (dec_le (length h) n) [
+  rest_kept = elim (dec_le (length h) n) [
     | yes k ↦ (
         let m : length (take (n - length h) c) ≡ n - length h = length-take-le (n - length h) c (omega arith) in
         let e : length h + length (take (n - length h) c) ≡ n = omega arith in
         ap (λ (j : ℕ). drop j (sets piece (length h) (take (n - length h) c))) (sym e)
-        ∙ drop-sets piece (take (n - length h) c) (length h) (omega arith)
+        ∙ drop_sets piece (take (n - length h) c) (length h) (omega arith)
         ∙ ap (λ (j : ℕ). drop j piece) e)
     | no k ↦ (let z : n - length h ≡ 0 = omega arith in ap (λ (j : ℕ). drop n (sets piece (length h) (take j c))) z)
   ]
 
-  wiped-filled : wiped n filled ≡ wiped n piece
+  wiped_filled : wiped n filled ≡ wiped n piece
   unfolding over
-  wiped-filled = rw (length-replicate {A = ℕ} n 0) (ap (λ (x : List ℕ). replicate n 0 ++ x) rest-kept)
+  wiped_filled = rw (length-replicate {A = ℕ} n 0) (ap (λ (x : List ℕ). replicate n 0 ++ x) rest_kept)
 
 -- ---- the call, by what stands at the front
 
 module _ {A : Type 0} (d : Door A) (a : A) (h piece c : List ℕ) (front : take (length h) piece ≡ h) (fits : length h ≤ length piece) (whole : most_transfer ≤ length piece) where
-  piece-done : (n : ℕ) → next_of (h ++ c) ≡ next.Piece n → (b : Bool) → eqb (length h) 0 ≡ b
+  piece_done : (n : ℕ) → next_of (h ++ c) ≡ next.Piece n → (b : Bool) → eqb (length h) 0 ≡ b
       → finished d a c (cond b (record { ready = InChunk n; piece = piece }) (record { ready = InBuffer n (n - length h); piece = sets piece (length h) (take (n - length h) c) }))
       ≡ passed_on (d.receive a (take n (h ++ c))) (cond b piece (wiped n piece)) (n - length h)
   unfolding finished_by filled
-  piece-done n e true z =
+  piece_done n e true z =
       let k : length h ≡ 0 = eqb-true _ _ z in
       let m : n ≡ n - length h = omega arith in
       let none : h ≡ [] = sym front ∙ ap (λ (j : ℕ). take j piece) k in
       ap (λ (x : List ℕ). passed_on (d.receive a (take n (x ++ c))) piece n) (sym none) ∙ ap (passed_on (d.receive a (take n (h ++ c))) piece) m
-  piece-done n e false z =
-      let b = piece-bounds (h ++ c) n e in
-      let there : n ≤ length h + length c = omega (arith, b.2, length-join) in
+  piece_done n e false z =
+      let b = piece_bounds (h ++ c) n e in
+      let there : n ≤ length h + length c = omega (arith, b.2, length_join) in
       let r : n ≤ length piece = omega (arith, b.1) in
-      ap (λ (x : List ℕ). passed_on (d.receive a x) (wiped n (sets piece (length h) (take (n - length h) c))) (n - length h)) (joined-piece h piece c n front fits r there)
-      ∙ ap (λ (x : List ℕ). passed_on (d.receive a (take n (h ++ c))) x (n - length h)) (wiped-filled h piece c n front fits r there)
+      ap (λ (x : List ℕ). passed_on (d.receive a x) (wiped n (sets piece (length h) (take (n - length h) c))) (n - length h)) (joined_piece h piece c n front fits r there)
+      ∙ ap (λ (x : List ℕ). passed_on (d.receive a (take n (h ++ c))) x (n - length h)) (wiped_filled h piece c n front fits r there)
     where
-      length-join : length (h ++ c) ≡ length h + length c
-      length-join = length-append h c
+      length_join : length (h ++ c) ≡ length h + length c
+      length_join = length-append h c
 
   by_next : (v : Next) → next_of (h ++ c) ≡ v → finished d a c (prepared_by h piece c v) ≡ feed_by d a h piece c v
   unfolding prepared_by feed_by finished_by
   by_next next.Short e = refl
   by_next (next.Ends t) e = refl
-  by_next (next.Piece n) e = piece-done n e (eqb (length h) 0) refl
+  by_next (next.Piece n) e = piece_done n e (eqb (length h) 0) refl
 
 -- the bytes held are at the front of the buffer
-held-front : (k : ℕ) (piece : List ℕ) → take (length (take k piece)) piece ≡ take k piece
-held-front k piece = elim (dec_le k (length piece)) [
+held_front : (k : ℕ) (piece : List ℕ) → take (length (take k piece)) piece ≡ take k piece
+held_front k piece = elim (dec_le k (length piece)) [
   | yes l ↦ ap (λ (j : ℕ). take j piece) (length-take-le k piece l)
   | no l ↦ (
       let e : take k piece ≡ piece = take_all k piece (omega arith) in
@@ -120,12 +120,12 @@ held-front k piece = elim (dec_le k (length piece)) [
 held_fits : (k : ℕ) (piece : List ℕ) → length (take k piece) ≤ length piece
 held_fits k piece = simp length-take (omega arith)
 
-pub finished-is : {A : Type 0} (d : Door A) (s : StreamOn A) (c : List ℕ) (room : ℕ) → most_transfer ≤ length s.piece
+pub finished_is : {A : Type 0} (d : Door A) (s : StreamOn A) (c : List ℕ) (room : ℕ) → most_transfer ≤ length s.piece
     → finished d s.assembly c (prepared_of s.state s.piece c room) ≡ feed_on d s c room
 unfolding prepared_of feed_on finished_by
-finished-is d s c room whole =
+finished_is d s c room whole =
     rw (le-ltb (length s.piece) most_transfer whole)
-    (go (ltb room most_information) s.state.ended (by_next d s.assembly h s.piece c (held-front s.state.held s.piece) (held_fits s.state.held s.piece) whole (next_of (h ++ c)) refl))
+    (go (ltb room most_information) s.state.ended (by_next d s.assembly h s.piece c (held_front s.state.held s.piece) (held_fits s.state.held s.piece) whole (next_of (h ++ c)) refl))
   where
     h : List ℕ
     h = held_in s.state s.piece

@@ -17,7 +17,7 @@ use Rattle.assembler.specs.Door.{Receiving, receive_of}
 use Rattle.assembler.specs.declared.Progress.{Progress}
 use Rattle.assembler.specs.declared.Assembly.{Assembly}
 use Rattle.assembler.specs.declared.door.ReceiptInPlace.{ReceiptInPlace}
-use Rattle.assembler.proofs.Room.{receive-room}
+use Rattle.assembler.proofs.Room.{receive_room}
 use Rattle.stream.specs.declared.State.{State}
 use Rattle.stream.specs.declared.FedInPlace.{FedInPlace}
 use Rattle.stream.specs.declared.Said.{Said}
@@ -29,32 +29,32 @@ use Rattle.stream.specs.declared.front.Ready.TheVariants.{Done, Ends, InChunk, I
 use Rattle.stream.specs.Stream.{state_of, held_in, next_of, Feeding, length_fault, wiped, ended_on, passed_on, value_door, feed_of, in_place, placed, ended_in_place, passed_in_place}
 use Rattle.stream.specs.Stream.{small}
 use Rattle.stream.specs.Ready.{prepared, done_by, prepared_by, prepared_of}
-use Rattle.stream.proofs.Starts.{short-bound, piece-bounds}
-use Rattle.stream.proofs.Laws.{held-length}
-use Rattle.stream.proofs.Finished.{finished_by, finished-is}
+use Rattle.stream.proofs.Starts.{short_bound, piece_bounds}
+use Rattle.stream.proofs.Laws.{held_length}
+use Rattle.stream.proofs.Finished.{finished_by, finished_is}
 
 -- ---- the buffer, of which `held` bytes are held
 
 -- zeros stored over its first bytes
-pub wiped-front : (n : ℕ) (piece : List ℕ) {b : List ℕ} → n ≤ length piece → b ≡ replicate (length (take n piece)) 0 → b ++ drop n piece ≡ wiped n piece
+pub wiped_front : (n : ℕ) (piece : List ℕ) {b : List ℕ} → n ≤ length piece → b ≡ replicate (length (take n piece)) 0 → b ++ drop n piece ≡ wiped n piece
 unfolding over
-wiped-front n piece l e =
+wiped_front n piece l e =
     rw (e, length-take-le n piece l, length-replicate {A = ℕ} n 0)
 
 module _ (held : ℕ) (piece c : List ℕ) (fits : held ≤ length piece) where
-  pub short-fits : next_of (take held piece ++ c) ≡ next.Short → held + length c < 4096
-  short-fits e = omega (arith, short-bound (take held piece ++ c) e, held-length held piece c fits)
+  pub short_fits : next_of (take held piece ++ c) ≡ next.Short → held + length c < 4096
+  short_fits e = omega (arith, short_bound (take held piece ++ c) e, held_length held piece c fits)
 
-  pub piece-there : (n : ℕ) → next_of (take held piece ++ c) ≡ next.Piece n → (n ≤ held + length c) × (n ≤ 4096)
-  piece-there n e =
-      let b = piece-bounds (take held piece ++ c) n e in
-      (omega (arith, b.2, held-length held piece c fits), b.1)
+  pub piece_there : (n : ℕ) → next_of (take held piece ++ c) ≡ next.Piece n → (n ≤ held + length c) × (n ≤ 4096)
+  piece_there n e =
+      let b = piece_bounds (take held piece ++ c) n e in
+      (omega (arith, b.2, held_length held piece c fits), b.1)
 
 -- an ended stream repeats its refusal
-pub ended-prepared : (s : State) (piece c : List ℕ) (room : ℕ) → most_information ≤ room → most_transfer ≤ length piece → s.ended ≡ true
+pub ended_prepared : (s : State) (piece c : List ℕ) (room : ℕ) → most_information ≤ room → most_transfer ≤ length piece → s.ended ≡ true
     → prepared_of s piece c room ≡ prepared (done_by s (Ended length_fault)) piece
 unfolding prepared_of
-ended-prepared s piece c room l w e =
+ended_prepared s piece c room l w e =
     rw (le-ltb room most_information l, le-ltb (length piece) most_transfer w)
     (ap (λ (b : Bool). cond b (prepared (done_by s (Ended length_fault)) piece) (prepared_by (held_in s piece) piece c (next_of (held_in s piece ++ c)))) e)
 
@@ -66,21 +66,21 @@ Says h c room (Ends t n) = Unit
 Says h c room (InChunk n) = (most_information ≤ room) × (n ≤ length c) × (length h ≡ 0)
 Says h c room (InBuffer n k) = (most_information ≤ room) × (n ≤ most_transfer)
 
-open-says : (h piece c : List ℕ) (room : ℕ) → most_information ≤ room → (v : Next) → next_of (h ++ c) ≡ v → Says h c room (prepared_by h piece c v).ready
+open_says : (h piece c : List ℕ) (room : ℕ) → most_information ≤ room → (v : Next) → next_of (h ++ c) ≡ v → Says h c room (prepared_by h piece c v).ready
 unfolding prepared_by
-open-says h piece c room l next.Short e = tt
-open-says h piece c room l (next.Ends t) e = tt
-open-says h piece c room l (next.Piece n) e = go (eqb (length h) 0) refl
+open_says h piece c room l next.Short e = tt
+open_says h piece c room l (next.Ends t) e = tt
+open_says h piece c room l (next.Piece n) e = go (eqb (length h) 0) refl
   where
     go : (b : Bool) → eqb (length h) 0 ≡ b → Says h c room (cond b (prepared (InChunk n) piece) (prepared (InBuffer n (n - length h)) (sets piece (length h) (take (n - length h) c)))).ready
     go true z =
         let none : length h ≡ 0 = eqb-true (length h) 0 z in
-        (l, omega (arith, (piece-bounds (h ++ c) n e).2, length-append h c, none), none)
-    go false z = (l, (piece-bounds (h ++ c) n e).1)
+        (l, omega (arith, (piece_bounds (h ++ c) n e).2, length-append h c, none), none)
+    go false z = (l, (piece_bounds (h ++ c) n e).1)
 
-ready-says : (s : State) (piece c : List ℕ) (room : ℕ) → Says (held_in s piece) c room (prepared_of s piece c room).ready
+ready_says : (s : State) (piece c : List ℕ) (room : ℕ) → Says (held_in s piece) c room (prepared_of s piece c room).ready
 unfolding prepared_of
-ready-says s piece c room = go (ltb room most_information) refl (ltb (length piece) most_transfer) s.ended
+ready_says s piece c room = go (ltb room most_information) refl (ltb (length piece) most_transfer) s.ended
   where
     h : List ℕ
     h = held_in s piece
@@ -90,20 +90,20 @@ ready-says s piece c room = go (ltb room most_information) refl (ltb (length pie
     go true e short ended = tt
     go false e true ended = tt
     go false e false true = tt
-    go false e false false = open-says h piece c room (ltb-false _ _ e) (next_of (h ++ c)) refl
+    go false e false false = open_says h piece c room (ltb-false _ _ e) (next_of (h ++ c)) refl
 
-pub in-chunk : (s : State) (piece c : List ℕ) (room : ℕ) {x : Ready} {n : ℕ} → x ≡ (prepared_of s piece c room).ready → x ≡ InChunk n
+pub in_chunk : (s : State) (piece c : List ℕ) (room : ℕ) {x : Ready} {n : ℕ} → x ≡ (prepared_of s piece c room).ready → x ≡ InChunk n
     → (most_information ≤ room) × (n ≤ length c) × (length (held_in s piece) ≡ 0)
-in-chunk s piece c room e f = rw (sym e ∙ f) at (ready-says s piece c room)
+in_chunk s piece c room e f = rw (sym e ∙ f) at (ready_says s piece c room)
 
 pub in_buffer : (s : State) (piece c : List ℕ) (room : ℕ) {x : Ready} {n k : ℕ} → x ≡ (prepared_of s piece c room).ready → x ≡ InBuffer n k → (most_information ≤ room) × (n ≤ most_transfer)
-in_buffer s piece c room e f = rw (sym e ∙ f) at (ready-says s piece c room)
+in_buffer s piece c room e f = rw (sym e ∙ f) at (ready_says s piece c room)
 
 -- where a stream that has not ended has room, what is done is that the chunk is held
-pub done-open : (held : ℕ) (piece c : List ℕ) (room : ℕ) {x : Ready} {t : State} {y : Said} {n : ℕ} → most_information ≤ room → most_transfer ≤ length piece
+pub done_open : (held : ℕ) (piece c : List ℕ) (room : ℕ) {x : Ready} {t : State} {y : Said} {n : ℕ} → most_information ≤ room → most_transfer ≤ length piece
     → x ≡ (prepared_of (state_of held false) piece c room).ready → x ≡ Done t y n → (t.held < 4096) × (t.ended ≡ false)
 unfolding prepared_of prepared_by
-done-open held piece c room {x} {t} {y} {n} l w e f = go (next_of (h ++ c)) refl (sym made ∙ f)
+done_open held piece c room {x} {t} {y} {n} l w e f = go (next_of (h ++ c)) refl (sym made ∙ f)
   where
     h : List ℕ
     h = take held piece
@@ -114,25 +114,25 @@ done-open held piece c room {x} {t} {y} {n} l w e f = go (next_of (h ++ c)) refl
     go : (v : Next) → next_of (h ++ c) ≡ v → (prepared_by h piece c v).ready ≡ Done t y n → (t.held < 4096) × (t.ended ≡ false)
     go next.Short k g =
         let same : state_of (length h + length c) false ≡ t = cc in
-        rw (← same) (omega (arith, short-bound (h ++ c) k, length-append h c), refl)
+        rw (← same) (omega (arith, short_bound (h ++ c) k, length-append h c), refl)
     go (next.Ends u) k g = let z : ◌≡◌ {A = ℕ} 0 1 = cc in absurd (omega arith)
-    go (next.Piece m) k g = by-none (eqb (length h) 0) g
+    go (next.Piece m) k g = by_none (eqb (length h) 0) g
       where
-        by-none : (b : Bool) → (cond b (prepared (InChunk m) piece) (prepared (InBuffer m (m - length h)) (sets piece (length h) (take (m - length h) c)))).ready ≡ Done t y n → (t.held < 4096) × (t.ended ≡ false)
-        by-none true q = let z : ◌≡◌ {A = ℕ} 0 1 = cc in absurd (omega arith)
-        by-none false q = let z : ◌≡◌ {A = ℕ} 0 1 = cc in absurd (omega arith)
+        by_none : (b : Bool) → (cond b (prepared (InChunk m) piece) (prepared (InBuffer m (m - length h)) (sets piece (length h) (take (m - length h) c)))).ready ≡ Done t y n → (t.held < 4096) × (t.ended ≡ false)
+        by_none true q = let z : ◌≡◌ {A = ℕ} 0 1 = cc in absurd (omega arith)
+        by_none false q = let z : ◌≡◌ {A = ℕ} 0 1 = cc in absurd (omega arith)
 
 -- the buffer stays as long as it is
-pub over-length : (b s : List ℕ) → length b ≤ length s → length (over b s) ≡ length s
+pub over_length : (b s : List ℕ) → length b ≤ length s → length (over b s) ≡ length s
 unfolding over
-over-length b s l = length-append b (drop (length b) s) ∙ omega (arith, length-drop (length b) s, l)
+over_length b s l = length-append b (drop (length b) s) ∙ omega (arith, length-drop (length b) s, l)
 
-pub wiped-length : (n : ℕ) (piece : List ℕ) → n ≤ length piece → length (wiped n piece) ≡ length piece
-wiped-length n piece l = over-length (replicate n 0) piece (omega (arith, length-replicate {A = ℕ} n 0, l))
+pub wiped_length : (n : ℕ) (piece : List ℕ) → n ≤ length piece → length (wiped n piece) ≡ length piece
+wiped_length n piece l = over_length (replicate n 0) piece (omega (arith, length-replicate {A = ℕ} n 0, l))
 
-pub prepared-length : (s : State) (piece c : List ℕ) (room : ℕ) → length (prepared_of s piece c room).piece ≡ length piece
+pub prepared_length : (s : State) (piece c : List ℕ) (room : ℕ) → length (prepared_of s piece c room).piece ≡ length piece
 unfolding prepared_of prepared_by
-prepared-length s piece c room = go (ltb room most_information || ltb (length piece) most_transfer) s.ended (next_of (h ++ c))
+prepared_length s piece c room = go (ltb room most_information || ltb (length piece) most_transfer) s.ended (next_of (h ++ c))
   where
     h : List ℕ
     h = held_in s piece
@@ -142,25 +142,25 @@ prepared-length s piece c room = go (ltb room most_information || ltb (length pi
     go true ended v = refl
     go false true v = refl
     go false false next.Short = length-sets piece (length h) c
-    go false false (next.Ends t) = wiped-length (length h) piece (simp length-take (omega arith))
-    go false false (next.Piece n) = by-none (eqb (length h) 0)
+    go false false (next.Ends t) = wiped_length (length h) piece (simp length-take (omega arith))
+    go false false (next.Piece n) = by_none (eqb (length h) 0)
       where
-        by-none : (z : Bool) → length (cond z (prepared (InChunk n) piece) (prepared (InBuffer n (n - length h)) (sets piece (length h) (take (n - length h) c)))).piece ≡ length piece
-        by-none true = refl
-        by-none false = length-sets piece (length h) (take (n - length h) c)
+        by_none : (z : Bool) → length (cond z (prepared (InChunk n) piece) (prepared (InBuffer n (n - length h)) (sets piece (length h) (take (n - length h) c)))).piece ≡ length piece
+        by_none true = refl
+        by_none false = length-sets piece (length h) (take (n - length h) c)
 
 module _ (s : State) (piece c : List ℕ) (room n k : ℕ) {x : Ready} {q : List ℕ} (whole : length piece ≡ 4096)
     (made : x ≡ (prepared_of s piece c room).ready) (left : q ≡ (prepared_of s piece c room).piece) (is : x ≡ InBuffer n k) where
-  pub buffer-fits : n ≤ length q
-  buffer-fits =
-      let e : length q ≡ length piece = ap length left ∙ prepared-length s piece c room in
+  pub buffer_fits : n ≤ length q
+  buffer_fits =
+      let e : length q ≡ length piece = ap length left ∙ prepared_length s piece c room in
       omega (arith, (in_buffer s piece c room made is).1, e, whole)
 
-  pub buffer-wiped : {b : List ℕ} → b ≡ replicate (length (take n q)) 0 → b ++ drop n q ≡ wiped n q
-  buffer-wiped e = wiped-front n q buffer-fits e
+  pub buffer_wiped : {b : List ℕ} → b ≡ replicate (length (take n q)) 0 → b ++ drop n q ≡ wiped n q
+  buffer_wiped e = wiped_front n q buffer_fits e
 
-  pub buffer-same : {b : List ℕ} → b ≡ replicate (length (take n q)) 0 → length (b ++ drop n q) ≡ length piece
-  buffer-same e = ap length (buffer-wiped e) ∙ wiped-length n q buffer-fits ∙ ap length left ∙ prepared-length s piece c room
+  pub buffer_same : {b : List ℕ} → b ≡ replicate (length (take n q)) 0 → length (b ++ drop n q) ≡ length piece
+  buffer_same e = ap length (buffer_wiped e) ∙ wiped_length n q buffer_fits ∙ ap length left ∙ prepared_length s piece c room
 
 -- ---- the whole function, in place
 
@@ -171,47 +171,47 @@ Gives f r bytes piece before out =
 
 module _ (p : Progress) (bytes : List ℕ) (s : State) (piece c out : List ℕ) (whole : length piece ≡ 4096) {x : Ready} {q : List ℕ}
     (made : x ≡ (prepared_of s piece c (length out)).ready) (left : q ≡ (prepared_of s piece c (length out)).piece) where
-  is-finished : (v : Ready) → x ≡ v → finished_by value_door (assembly_of p bytes) c q v ≡ feed_of (placed p bytes s piece) c (length out)
+  is_finished : (v : Ready) → x ≡ v → finished_by value_door (assembly_of p bytes) c q v ≡ feed_of (placed p bytes s piece) c (length out)
   unfolding feed_of
-  is-finished v e =
+  is_finished v e =
       (λ i. finished_by value_door (assembly_of p bytes) c (left i) ((sym e ∙ made) i))
-      ∙ finished-is value_door (record { assembly = assembly_of p bytes; state = s; piece = piece }) c (length out) (omega (arith, whole))
+      ∙ finished_is value_door (record { assembly = assembly_of p bytes; state = s; piece = piece }) c (length out) (omega (arith, whole))
 
-  pub done-gives : (t : State) (y : Said) (n : ℕ) → x ≡ Done t y n
+  pub done_gives : (t : State) (y : Said) (n : ℕ) → x ≡ Done t y n
       → Gives (feed_of (placed p bytes s piece) c (length out)) (record { progress = p; state = t; said = y; taken = n }) bytes q out out
   unfolding finished_by over
-  done-gives t y n e = rw (← is-finished (Done t y n) e) (record { value = refl; bytes_after = refl; piece_after = refl; out_after = refl })
+  done_gives t y n e = rw (← is_finished (Done t y n) e) (record { value = refl; bytes_after = refl; piece_after = refl; out_after = refl })
 
-  pub end-gives : (t n : ℕ) {r : FedInPlace} {b : List ℕ} → x ≡ Ends t n → record { value : r ≡ ended_in_place (ended_on value_door (assembly_of p bytes) t) n; bytes_after : b ≡ (ended_on value_door (assembly_of p bytes) t).bytes }
+  pub end_gives : (t n : ℕ) {r : FedInPlace} {b : List ℕ} → x ≡ Ends t n → record { value : r ≡ ended_in_place (ended_on value_door (assembly_of p bytes) t) n; bytes_after : b ≡ (ended_on value_door (assembly_of p bytes) t).bytes }
       → Gives (feed_of (placed p bytes s piece) c (length out)) r b q out out
   unfolding finished_by over
-  end-gives t n e E = rw (← is-finished (Ends t n) e) (record { value = E.value; bytes_after = E.bytes_after; piece_after = refl; out_after = refl })
+  end_gives t n e E = rw (← is_finished (Ends t n) e) (record { value = E.value; bytes_after = E.bytes_after; piece_after = refl; out_after = refl })
 
   -- the piece y went through the door
-  passed-gives : (y z : List ℕ) (n : ℕ) {i : ReceiptInPlace} {r : FedInPlace} {b o : List ℕ} → most_information ≤ length out
+  passed_gives : (y z : List ℕ) (n : ℕ) {i : ReceiptInPlace} {r : FedInPlace} {b o : List ℕ} → most_information ≤ length out
       → i ≡ door.in_place (receive_of (assembly_of p bytes) y (length out)) → b ≡ (receive_of (assembly_of p bytes) y (length out)).assembly.bytes
       → o ≡ over (receive_of (assembly_of p bytes) y (length out)).information out → r ≡ passed_in_place i n
       → Gives (passed_on (value_door.receive (assembly_of p bytes) y) z n) r b z out o
-  passed-gives y z n l ei eb eo er =
-      let k : receive_of (assembly_of p bytes) y (length out) ≡ receive_of (assembly_of p bytes) y most_information = receive-room (assembly_of p bytes) y (length out) l in record {
+  passed_gives y z n l ei eb eo er =
+      let k : receive_of (assembly_of p bytes) y (length out) ≡ receive_of (assembly_of p bytes) y most_information = receive_room (assembly_of p bytes) y (length out) l in record {
         value = er ∙ ap (λ (j : ReceiptInPlace). passed_in_place j n) (ei ∙ ap door.in_place k);
         bytes_after = eb ∙ ap (λ (f : Receiving). f.assembly.bytes) k;
         piece_after = refl;
         out_after = eo ∙ ap (λ (f : Receiving). over f.information out) k;
       }
 
-  pub chunk-gives : (n : ℕ) {i : ReceiptInPlace} {r : FedInPlace} {b o : List ℕ} → x ≡ InChunk n
+  pub chunk_gives : (n : ℕ) {i : ReceiptInPlace} {r : FedInPlace} {b o : List ℕ} → x ≡ InChunk n
       → i ≡ door.in_place (receive_of (assembly_of p bytes) (take n c) (length out)) → b ≡ (receive_of (assembly_of p bytes) (take n c) (length out)).assembly.bytes
       → o ≡ over (receive_of (assembly_of p bytes) (take n c) (length out)).information out → r ≡ passed_in_place i n
       → Gives (feed_of (placed p bytes s piece) c (length out)) r b q out o
   unfolding finished_by
-  chunk-gives n e ei eb eo er =
-      rw (← is-finished (InChunk n) e) (passed-gives (take n c) q n (in-chunk s piece c (length out) made e).0 ei eb eo er)
+  chunk_gives n e ei eb eo er =
+      rw (← is_finished (InChunk n) e) (passed_gives (take n c) q n (in_chunk s piece c (length out) made e).0 ei eb eo er)
 
-  pub buffer-gives : (n k : ℕ) {i : ReceiptInPlace} {r : FedInPlace} {b z o : List ℕ} → x ≡ InBuffer n k
+  pub buffer_gives : (n k : ℕ) {i : ReceiptInPlace} {r : FedInPlace} {b z o : List ℕ} → x ≡ InBuffer n k
       → i ≡ door.in_place (receive_of (assembly_of p bytes) (take n q) (length out)) → b ≡ (receive_of (assembly_of p bytes) (take n q) (length out)).assembly.bytes
       → o ≡ over (receive_of (assembly_of p bytes) (take n q) (length out)).information out → r ≡ passed_in_place i k → z ≡ wiped n q
       → Gives (feed_of (placed p bytes s piece) c (length out)) r b z out o
   unfolding finished_by
-  buffer-gives n k e ei eb eo er ez =
-      rw (← is-finished (InBuffer n k) e, ez) (passed-gives (take n q) (wiped n q) k (in_buffer s piece c (length out) made e).0 ei eb eo er)
+  buffer_gives n k e ei eb eo er ez =
+      rw (← is_finished (InBuffer n k) e, ez) (passed_gives (take n q) (wiped n q) k (in_buffer s piece c (length out) made e).0 ei eb eo er)

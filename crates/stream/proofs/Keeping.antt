@@ -15,7 +15,7 @@ use Rattle.stream.specs.declared.Said.TheVariants.{Nothing, Ended}
 use Rattle.stream.specs.declared.front.Next.{Next}
 use Rattle.stream.specs.declared.front.Next.TheVariants as next
 use Rattle.stream.specs.Stream.{state_of, keeping, next_of, Door, Feeding, length_fault, wiped, ended_on, passed_on, feed_by, feed_on}
-use Rattle.stream.proofs.Starts.{short-bound, piece-bounds, piece-past}
+use Rattle.stream.proofs.Starts.{short_bound, piece_bounds, piece_past}
 
 -- ---- a buffer with the bytes h at its front and zeros past them
 
@@ -25,25 +25,25 @@ zeros n = replicate n 0
 abbrev pub padded : List ℕ → List ℕ
 padded h = h ++ zeros (most_transfer - length h)
 
-drop-zeros : (n m : ℕ) → n ≤ m → drop n (zeros m) ≡ zeros (m - n)
-drop-zeros n m l =
+drop_zeros : (n m : ℕ) → n ≤ m → drop n (zeros m) ≡ zeros (m - n)
+drop_zeros n m l =
     let e : n + (m - n) ≡ m = omega arith in
     ap (λ (k : ℕ). drop n (zeros k)) (sym e)
     ∙ ap (drop n) (sym (replicate-append-replicate n (m - n) 0))
     ∙ drop_at (zeros n) (zeros (m - n)) n (length-replicate {A = ℕ} n 0)
 
 -- past n bytes of it there are zeros
-drop-padded : (n : ℕ) (h : List ℕ) → length h ≤ n → n ≤ most_transfer → drop n (padded h) ≡ zeros (most_transfer - n)
-drop-padded n h l m =
+drop_padded : (n : ℕ) (h : List ℕ) → length h ≤ n → n ≤ most_transfer → drop n (padded h) ≡ zeros (most_transfer - n)
+drop_padded n h l m =
     let k : length h + (n - length h) ≡ n = omega arith in
     let e : most_transfer - length h - (n - length h) ≡ most_transfer - n = omega arith in
     ap (λ (j : ℕ). drop j (padded h)) (sym k)
     ∙ drop-append-add h (zeros (most_transfer - length h)) (n - length h)
-    ∙ drop-zeros (n - length h) (most_transfer - length h) (omega arith)
+    ∙ drop_zeros (n - length h) (most_transfer - length h) (omega arith)
     ∙ ap (λ (j : ℕ). zeros j) e
 
-pub padded-length : (h : List ℕ) → length h ≤ most_transfer → length (padded h) ≡ most_transfer
-padded-length h l =
+pub padded_length : (h : List ℕ) → length h ≤ most_transfer → length (padded h) ≡ most_transfer
+padded_length h l =
     length-append h (zeros (most_transfer - length h)) ∙ omega (arith, length-replicate {A = ℕ} (most_transfer - length h) 0)
 
 pub held_back : (h : List ℕ) → take (length h) (padded h) ≡ h
@@ -54,23 +54,23 @@ held_more : (h c : List ℕ) → length h + length c ≤ most_transfer → sets 
 held_more h c l =
     let n = length-append h c in
     let e : length h + length c ≡ length (h ++ c) = sym n in
-    sets-eq c (padded h) (length h) (omega (arith, padded-length h (omega arith)))
+    sets-eq c (padded h) (length h) (omega (arith, padded_length h (omega arith)))
     ∙ ap (λ (x : List ℕ). x ++ c ++ drop (length h + length c) (padded h)) (held_back h)
-    ∙ ap (λ (x : List ℕ). h ++ c ++ x) (drop-padded (length h + length c) h (omega arith) l)
+    ∙ ap (λ (x : List ℕ). h ++ c ++ x) (drop_padded (length h + length c) h (omega arith) l)
     ∙ ap (λ (k : ℕ). h ++ c ++ zeros (most_transfer - k)) e
 
 -- zeros over the bytes held
-wiped-padded : (n : ℕ) (h : List ℕ) → length h ≤ n → n ≤ most_transfer → wiped n (padded h) ≡ zeros most_transfer
+wiped_padded : (n : ℕ) (h : List ℕ) → length h ≤ n → n ≤ most_transfer → wiped n (padded h) ≡ zeros most_transfer
 unfolding over
-wiped-padded n h l m =
+wiped_padded n h l m =
     let e : n + (most_transfer - n) ≡ most_transfer = omega arith in
     rw (length-replicate {A = ℕ} n 0)
-    (ap (λ (x : List ℕ). zeros n ++ x) (drop-padded n h l m) ∙ replicate-append-replicate n (most_transfer - n) 0 ∙ ap (λ (k : ℕ). zeros k) e)
+    (ap (λ (x : List ℕ). zeros n ++ x) (drop_padded n h l m) ∙ replicate-append-replicate n (most_transfer - n) 0 ∙ ap (λ (k : ℕ). zeros k) e)
 
 -- nothing is held
-none-padded : (h : List ℕ) → length h ≡ 0 → padded h ≡ zeros most_transfer
-none-padded [] e = refl
-none-padded (x ∷ xs) e = absurd (omega arith)
+none_padded : (h : List ℕ) → length h ≡ 0 → padded h ≡ zeros most_transfer
+none_padded [] e = refl
+none_padded (x ∷ xs) e = absurd (omega arith)
 
 -- ---- one call on it
 
@@ -81,19 +81,19 @@ kept_by d a h c (next.Ends t) = record { stream = keeping (ended_on d a t) [] tr
 kept_by d a h c (next.Piece n) = passed_on (d.receive a (take n (h ++ c))) (replicate most_transfer 0) (n - length h)
 
 module _ {A : Type 0} (d : Door A) (a : A) (h c : List ℕ) (held : next_of h ≡ next.Short) where
-  kept-short : next_of (h ++ c) ≡ next.Short → feed_by d a h (padded h) c next.Short ≡ kept_by d a h c next.Short
+  kept_short : next_of (h ++ c) ≡ next.Short → feed_by d a h (padded h) c next.Short ≡ kept_by d a h c next.Short
   unfolding feed_by
-  kept-short e =
+  kept_short e =
       let n = length-append h c in
-      let l : length h + length c ≤ most_transfer = omega (arith, short-bound (h ++ c) e, n) in
+      let l : length h + length c ≤ most_transfer = omega (arith, short_bound (h ++ c) e, n) in
       let g = held_more h c l in
       let k : length h + length c ≡ length (h ++ c) = sym n in
       λ i. record { stream = record { assembly = a; state = state_of (k i) false; piece = g i }; said = Nothing; information = []; taken = length c }
 
-  kept-fault : (t : ℕ) → feed_by d a h (padded h) c (next.Ends t) ≡ kept_by d a h c (next.Ends t)
+  kept_fault : (t : ℕ) → feed_by d a h (padded h) c (next.Ends t) ≡ kept_by d a h c (next.Ends t)
   unfolding feed_by
-  kept-fault t =
-      let g = wiped-padded (length h) h (omega arith) (omega (arith, short-bound h held)) in
+  kept_fault t =
+      let g = wiped_padded (length h) h (omega arith) (omega (arith, short_bound h held)) in
       ap (λ (x : List ℕ). record { stream = record { assembly = ended_on d a t; state = state_of 0 true; piece = x }; said = Ended length_fault; information = []; taken = 8 - length h }) g
 
   kept_piece : (n : ℕ) → next_of (h ++ c) ≡ next.Piece n → feed_by d a h (padded h) c (next.Piece n) ≡ kept_by d a h c (next.Piece n)
@@ -101,19 +101,19 @@ module _ {A : Type 0} (d : Door A) (a : A) (h c : List ℕ) (held : next_of h �
   kept_piece n e = ap (λ (x : List ℕ). passed_on (d.receive a (take n (h ++ c))) x (n - length h)) (go (eqb (length h) 0) refl)
     where
       go : (b : Bool) → eqb (length h) 0 ≡ b → cond b (padded h) (wiped n (padded h)) ≡ replicate most_transfer 0
-      go true z = none-padded h (eqb-true (length h) 0 z)
-      go false z = wiped-padded n h (omega (arith, piece-past h c n held e)) (piece-bounds (h ++ c) n e).1
+      go true z = none_padded h (eqb-true (length h) 0 z)
+      go false z = wiped_padded n h (omega (arith, piece_past h c n held e)) (piece_bounds (h ++ c) n e).1
 
-  kept-open : (v : Next) → next_of (h ++ c) ≡ v → feed_by d a h (padded h) c v ≡ kept_by d a h c v
-  kept-open next.Short e = kept-short e
-  kept-open (next.Ends t) e = kept-fault t
-  kept-open (next.Piece n) e = kept_piece n e
+  kept_open : (v : Next) → next_of (h ++ c) ≡ v → feed_by d a h (padded h) c v ≡ kept_by d a h c v
+  kept_open next.Short e = kept_short e
+  kept_open (next.Ends t) e = kept_fault t
+  kept_open (next.Piece n) e = kept_piece n e
 
-  pub kept-call : (room : ℕ) → most_information ≤ room → feed_on d (keeping a h false) c room ≡ kept_by d a h c (next_of (h ++ c))
+  pub kept_call : (room : ℕ) → most_information ≤ room → feed_on d (keeping a h false) c room ≡ kept_by d a h c (next_of (h ++ c))
   unfolding feed_on
-  kept-call room l = rw (le-ltb room most_information l, held_back h) (kept-open (next_of (h ++ c)) refl)
+  kept_call room l = rw (le-ltb room most_information l, held_back h) (kept_open (next_of (h ++ c)) refl)
 
 -- nothing is held
-pub nothing-held : next_of [] ≡ next.Short
+pub nothing_held : next_of [] ≡ next.Short
 unfolding next_of
-nothing-held = refl
+nothing_held = refl

@@ -11,14 +11,14 @@ use lib.Dec.{ltb}
 use lib.ListN.{length, get_or, take, length-append, get_or-append}
 use lib.Seq.{length-take-le, get_or-take, get_or-append-add, take_all}
 use Rattle.wire.specs.Numbers.{num, u32_at}
-use Rattle.wire.proofs.Laws.{num-skip, num-in}
+use Rattle.wire.proofs.Laws.{num_skip, num_in}
 use Rattle.stream.specs.declared.front.Next.TheVariants.{Short, Ends, Piece}
 use Rattle.stream.specs.Stream.{wrong_start, next_of}
-use Rattle.stream.proofs.Starts.{word-front}
+use Rattle.stream.proofs.Starts.{word_front}
 
 -- no more bytes are held than the buffer has
-pub take-least : (k m : ℕ) (piece : List ℕ) → m ≡ min k (length piece) → take m piece ≡ take k piece
-take-least k m piece e = elim (dec_le k (length piece)) [
+pub take_least : (k m : ℕ) (piece : List ℕ) → m ≡ min k (length piece) → take m piece ≡ take k piece
+take_least k m piece e = elim (dec_le k (length piece)) [
   | yes f ↦ (let g : m ≡ k = omega arith in ap (λ (j : ℕ). take j piece) g)
   | no f ↦ take_all m piece (omega arith) ∙ sym (take_all k piece (omega arith))
 ]
@@ -26,15 +26,15 @@ take-least k m piece e = elim (dec_le k (length piece)) [
 -- ---- the bytes held and then a chunk
 
 module _ (held : ℕ) (piece chunk : List ℕ) (fits : held ≤ length piece) where
-  pub held-length : length (take held piece ++ chunk) ≡ held + length chunk
-  held-length = omega (arith, length-append (take held piece) chunk, length-take-le held piece fits)
+  pub held_length : length (take held piece ++ chunk) ≡ held + length chunk
+  held_length = omega (arith, length-append (take held piece) chunk, length-take-le held piece fits)
 
-  pub byte-held : (at : ℕ) → at < held → get_or piece at 0 ≡ get_or (take held piece ++ chunk) at 0
-  byte-held at l =
+  pub byte_held : (at : ℕ) → at < held → get_or piece at 0 ≡ get_or (take held piece ++ chunk) at 0
+  byte_held at l =
       sym (get_or-append (take held piece) chunk 0 at (omega (arith, length-take-le held piece fits)) ∙ get_or-take held piece at 0 l)
 
-  pub byte-fed : (at : ℕ) → held ≤ at → get_or chunk (at - held) 0 ≡ get_or (take held piece ++ chunk) at 0
-  byte-fed at l =
+  pub byte_fed : (at : ℕ) → held ≤ at → get_or chunk (at - held) 0 ≡ get_or (take held piece ++ chunk) at 0
+  byte_fed at l =
       let e : length (take held piece) + (at - held) ≡ at = omega (arith, length-take-le held piece fits) in
       sym (get_or-append-add (take held piece) chunk (at - held) 0) ∙ ap (λ (k : ℕ). get_or (take held piece ++ chunk) k 0) e
 
@@ -43,28 +43,28 @@ module _ (held : ℕ) (piece chunk : List ℕ) (fits : held ≤ length piece) wh
   unfolding u32_at
   word_held at l =
       let e : 0 + at ≡ at = omega arith in
-      sym (num-in 4 held piece 0 at l ∙ ap (num 4 piece) e) ∙ sym (word-front (take held piece) chunk at (omega (arith, length-take-le held piece fits)))
+      sym (num_in 4 held piece 0 at l ∙ ap (num 4 piece) e) ∙ sym (word_front (take held piece) chunk at (omega (arith, length-take-le held piece fits)))
 
-  pub word-fed : (at : ℕ) → held ≤ at → u32_at chunk (at - held) ≡ u32_at (take held piece ++ chunk) at
+  pub word_fed : (at : ℕ) → held ≤ at → u32_at chunk (at - held) ≡ u32_at (take held piece ++ chunk) at
   unfolding u32_at
-  word-fed at l =
+  word_fed at l =
       let e : length (take held piece) + (at - held) ≡ at = omega (arith, length-take-le held piece fits) in
-      sym (num-skip 4 (take held piece) chunk (at - held)) ∙ ap (num 4 (take held piece ++ chunk)) e
+      sym (num_skip 4 (take held piece) chunk (at - held)) ∙ ap (num 4 (take held piece ++ chunk)) e
 
 -- the sum need not fit
-pub short-left : (a b n : ℕ) → a < n → ltb b (n - a) ≡ ltb (a + b) n
-short-left a b n l = elim (dec_le n (a + b)) [
+pub short_left : (a b n : ℕ) → a < n → ltb b (n - a) ≡ ltb (a + b) n
+short_left a b n l = elim (dec_le n (a + b)) [
   | yes k ↦ le-ltb b (n - a) (omega arith) ∙ sym (le-ltb (a + b) n k)
   | no k ↦ lt-ltb b (n - a) (omega arith) ∙ sym (lt-ltb (a + b) n (omega arith))
 ]
 
 -- ---- what stands at their front, by the code's numbers
 
-pub next-head : (x : List ℕ) {m : ℕ} → length x ≡ m → ltb m 8 ≡ true → Short ≡ next_of x
+pub next_head : (x : List ℕ) {m : ℕ} → length x ≡ m → ltb m 8 ≡ true → Short ≡ next_of x
 unfolding next_of
-next-head x {m} e h = rw (e, h)
+next_head x {m} e h = rw (e, h)
 
-pub next-by : (x : List ℕ) {m t n : ℕ} → length x ≡ m → t ≡ u32_at x 0 → n ≡ u32_at x 4
+pub next_by : (x : List ℕ) {m t n : ℕ} → length x ≡ m → t ≡ u32_at x 0 → n ≡ u32_at x 4
     → cond (ltb m 8) Short (cond (wrong_start t n) (Ends t) (cond (ltb m n) Short (Piece n))) ≡ next_of x
 unfolding next_of
-next-by x e f g = rw (e, ← f, ← g)
+next_by x e f g = rw (e, ← f, ← g)

@@ -18,13 +18,13 @@ use Rattle.stream.specs.Stream.{wrong_start, next_of}
 
 -- ---- numbers at the front
 
-num-front : (n : ℕ) (y r : List ℕ) (at : ℕ) → at + n ≤ length y → num n (y ++ r) at ≡ num n y at
-num-front zero y r at h = refl
-num-front (suc n) y r at h = rw (get_or-append y r 0 at (omega arith), num-front n y r (suc at) (omega arith))
+num_front : (n : ℕ) (y r : List ℕ) (at : ℕ) → at + n ≤ length y → num n (y ++ r) at ≡ num n y at
+num_front zero y r at h = refl
+num_front (suc n) y r at h = rw (get_or-append y r 0 at (omega arith), num_front n y r (suc at) (omega arith))
 
-pub word-front : (y r : List ℕ) (at : ℕ) → at + 4 ≤ length y → u32_at (y ++ r) at ≡ u32_at y at
+pub word_front : (y r : List ℕ) (at : ℕ) → at + 4 ≤ length y → u32_at (y ++ r) at ≡ u32_at y at
 unfolding u32_at
-word-front y r at h = num-front 4 y r at h
+word_front y r at h = num_front 4 y r at h
 
 -- ---- a length field that doesn't end the stream is 12 to 4,096
 
@@ -36,9 +36,9 @@ whole_bounds t = go (eqb t CLOSE)
     go true = (omega arith, omega arith)
     go false = (omega arith, omega arith)
 
-pub right-start : (t n : ℕ) → wrong_start t n ≡ false → (12 ≤ n) × (n ≤ 4096)
+pub right_start : (t n : ℕ) → wrong_start t n ≡ false → (12 ≤ n) × (n ≤ 4096)
 unfolding wrong_start
-right-start t n = go (is_whole t) (ltb n 20) refl
+right_start t n = go (is_whole t) (ltb n 20) refl
   where
     go : (w l : Bool) → ltb n 20 ≡ l → cond w (not (eqb n (whole_length t))) (l || ltb 4096 n) ≡ false → (12 ≤ n) × (n ≤ 4096)
     go true l e h =
@@ -81,74 +81,74 @@ says x = go (ltb (length x) 8) refl (wrong_start (u32_at x 0) (u32_at x 4)) refl
     go false ea false eb true ed = body (ltb-false _ _ ea) eb (ltb-true _ _ ed)
     go false ea false eb false ed = record { long = ltb-false _ _ ea; field = refl; right = eb; there = ltb-false _ _ ed }
 
-pub piece-says : (x : List ℕ) (n : ℕ) → next_of x ≡ Piece n → IsPiece x n
-piece-says x n e = rw e at (says x)
+pub piece_says : (x : List ℕ) (n : ℕ) → next_of x ≡ Piece n → IsPiece x n
+piece_says x n e = rw e at (says x)
 
-pub fault-says : (x : List ℕ) (t : ℕ) → next_of x ≡ Ends t → IsFault x t
-fault-says x t e = rw e at (says x)
+pub fault_says : (x : List ℕ) (t : ℕ) → next_of x ≡ Ends t → IsFault x t
+fault_says x t e = rw e at (says x)
 
-pub short-says : (x : List ℕ) → next_of x ≡ Short → IsShort x
-short-says x e = rw e at (says x)
+pub short_says : (x : List ℕ) → next_of x ≡ Short → IsShort x
+short_says x e = rw e at (says x)
 
-pub is-piece : (x : List ℕ) (n : ℕ) → IsPiece x n → next_of x ≡ Piece n
+pub is_piece : (x : List ℕ) (n : ℕ) → IsPiece x n → next_of x ≡ Piece n
 unfolding next_of
-is-piece x n P = rw (P.field, le-ltb (length x) 8 P.long, P.right, le-ltb (length x) n P.there)
+is_piece x n P = rw (P.field, le-ltb (length x) 8 P.long, P.right, le-ltb (length x) n P.there)
 
-is-fault : (x : List ℕ) (t : ℕ) → IsFault x t → next_of x ≡ Ends t
+is_fault : (x : List ℕ) (t : ℕ) → IsFault x t → next_of x ≡ Ends t
 unfolding next_of
-is-fault x t F = rw (P-type, le-ltb (length x) 8 F.long, F.wrong)
+is_fault x t F = rw (P-type, le-ltb (length x) 8 F.long, F.wrong)
   where
     P-type : u32_at x 0 ≡ t
     P-type = F.type
 
 -- the bytes that a piece has, held and fed
-pub piece-bounds : (x : List ℕ) (n : ℕ) → next_of x ≡ Piece n → (12 ≤ n) × (n ≤ 4096) × (n ≤ length x)
-piece-bounds x n e =
-    let P = piece-says x n e in
-    let b = right-start (u32_at x 0) n P.right in
+pub piece_bounds : (x : List ℕ) (n : ℕ) → next_of x ≡ Piece n → (12 ≤ n) × (n ≤ 4096) × (n ≤ length x)
+piece_bounds x n e =
+    let P = piece_says x n e in
+    let b = right_start (u32_at x 0) n P.right in
     (b.0, b.1, P.there)
 
 -- fewer than 4,096 bytes are held
-pub short-bound : (x : List ℕ) → next_of x ≡ Short → length x < 4096
-short-bound x e = go (short-says x e)
+pub short_bound : (x : List ℕ) → next_of x ≡ Short → length x < 4096
+short_bound x e = go (short_says x e)
   where
     go : IsShort x → length x < 4096
     go (head l) = omega arith
-    go (body f r l) = omega (arith, (right-start _ _ r).1)
+    go (body f r l) = omega (arith, (right_start _ _ r).1)
 
 -- ---- more bytes behind change nothing
 
-pub piece-front : (x r : List ℕ) (n : ℕ) → next_of x ≡ Piece n → next_of (x ++ r) ≡ Piece n
-piece-front x r n e =
-    let P = piece-says x n e in
-    is-piece (x ++ r) n (record {
+pub piece_front : (x r : List ℕ) (n : ℕ) → next_of x ≡ Piece n → next_of (x ++ r) ≡ Piece n
+piece_front x r n e =
+    let P = piece_says x n e in
+    is_piece (x ++ r) n (record {
       long = omega (arith, P.long, length-append x r);
-      field = word-front x r 4 P.long ∙ P.field;
-      right = ap (λ (t : ℕ). wrong_start t n) (word-front x r 0 (omega (arith, P.long))) ∙ P.right;
+      field = word_front x r 4 P.long ∙ P.field;
+      right = ap (λ (t : ℕ). wrong_start t n) (word_front x r 0 (omega (arith, P.long))) ∙ P.right;
       there = omega (arith, P.there, length-append x r);
     })
 
-pub fault-front : (x r : List ℕ) (t : ℕ) → next_of x ≡ Ends t → next_of (x ++ r) ≡ Ends t
-fault-front x r t e =
-    let P = fault-says x t e in
-    is-fault (x ++ r) t (record {
+pub fault_front : (x r : List ℕ) (t : ℕ) → next_of x ≡ Ends t → next_of (x ++ r) ≡ Ends t
+fault_front x r t e =
+    let P = fault_says x t e in
+    is_fault (x ++ r) t (record {
       long = omega (arith, P.long, length-append x r);
-      type = word-front x r 0 (omega (arith, P.long)) ∙ P.type;
-      wrong = ap (wrong_start t) (word-front x r 4 P.long) ∙ P.wrong;
+      type = word_front x r 0 (omega (arith, P.long)) ∙ P.type;
+      wrong = ap (wrong_start t) (word_front x r 4 P.long) ∙ P.wrong;
     })
 
 -- ---- so what is held of an unfinished piece is shorter than the piece, and than a field that ends the stream
 
-pub piece-past : (h c : List ℕ) (n : ℕ) → next_of h ≡ Short → next_of (h ++ c) ≡ Piece n → length h < n
-piece-past h c n s e = elim (dec_le n (length h)) [
+pub piece_past : (h c : List ℕ) (n : ℕ) → next_of h ≡ Short → next_of (h ++ c) ≡ Piece n → length h < n
+piece_past h c n s e = elim (dec_le n (length h)) [
   | yes l ↦ (
-      let P = piece-says (h ++ c) n e in
-      let b = right-start (u32_at (h ++ c) 0) n P.right in
+      let P = piece_says (h ++ c) n e in
+      let b = right_start (u32_at (h ++ c) 0) n P.right in
       let long : 8 ≤ length h = omega (arith, b.0) in
-      let q : next_of h ≡ Piece n = is-piece h n (record {
+      let q : next_of h ≡ Piece n = is_piece h n (record {
         long = long;
-        field = sym (word-front h c 4 long) ∙ P.field;
-        right = ap (λ (t : ℕ). wrong_start t n) (sym (word-front h c 0 (omega arith))) ∙ P.right;
+        field = sym (word_front h c 4 long) ∙ P.field;
+        right = ap (λ (t : ℕ). wrong_start t n) (sym (word_front h c 0 (omega arith))) ∙ P.right;
         there = l;
       }) in
       let z : ◌≡◌ {A = ℕ} 0 1 = cc in absurd (omega arith))
@@ -158,11 +158,11 @@ piece-past h c n s e = elim (dec_le n (length h)) [
 pub fault_past : (h c : List ℕ) (t : ℕ) → next_of h ≡ Short → next_of (h ++ c) ≡ Ends t → length h < 8
 fault_past h c t s e = elim (dec_le 8 (length h)) [
   | yes l ↦ (
-      let P = fault-says (h ++ c) t e in
-      let q : next_of h ≡ Ends t = is-fault h t (record {
+      let P = fault_says (h ++ c) t e in
+      let q : next_of h ≡ Ends t = is_fault h t (record {
         long = l;
-        type = sym (word-front h c 0 (omega arith)) ∙ P.type;
-        wrong = ap (wrong_start t) (sym (word-front h c 4 l)) ∙ P.wrong;
+        type = sym (word_front h c 0 (omega arith)) ∙ P.type;
+        wrong = ap (wrong_start t) (sym (word_front h c 4 l)) ∙ P.wrong;
       }) in
       let z : ◌≡◌ {A = ℕ} 0 1 = cc in absurd (omega arith))
   | no l ↦ omega arith

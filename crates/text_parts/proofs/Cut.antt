@@ -16,40 +16,40 @@ use Rattle.text_parts.specs.declared.Reached.TheVariants.{Word, Column}
 
 -- ---- a part of a front is the same part of the whole
 
-pub part-front : (at m n : ℕ) (s : List ℕ) → at + m ≤ n → take m (drop at (take n s)) ≡ take m (drop at s)
-part-front zero m n s h = take-take m n s (omega arith)
-part-front (suc at) m zero s h = absurd (omega arith)
-part-front (suc at) m (suc n) [] h = refl
-part-front (suc at) m (suc n) (x ∷ s) h = part-front at m n s (omega arith)
+pub part_front : (at m n : ℕ) (s : List ℕ) → at + m ≤ n → take m (drop at (take n s)) ≡ take m (drop at s)
+part_front zero m n s h = take-take m n s (omega arith)
+part_front (suc at) m zero s h = absurd (omega arith)
+part_front (suc at) m (suc n) [] h = refl
+part_front (suc at) m (suc n) (x ∷ s) h = part_front at m n s (omega arith)
 
-agreement-front : (s w : List ℕ) → agreement s w ≡ agreement (take (length w) s) w
+agreement_front : (s w : List ℕ) → agreement s w ≡ agreement (take (length w) s) w
 unfolding agreement
-agreement-front s [] = refl
-agreement-front [] (x ∷ w) = refl
-agreement-front (b ∷ s) (x ∷ w) = ap (λ (k : ℕ). cond (eqb b x) (suc k) 0) (agreement-front s w)
+agreement_front s [] = refl
+agreement_front [] (x ∷ w) = refl
+agreement_front (b ∷ s) (x ∷ w) = ap (λ (k : ℕ). cond (eqb b x) (suc k) 0) (agreement_front s w)
 
-agreement-cut : (at n : ℕ) (s w : List ℕ) → at + length w ≤ n → agreement (drop at (take n s)) w ≡ agreement (drop at s) w
-agreement-cut at n s w h =
-    agreement-front (drop at (take n s)) w ∙ ap (λ (x : List ℕ). agreement x w) (part-front at (length w) n s h) ∙ sym (agreement-front (drop at s) w)
+agreement_cut : (at n : ℕ) (s w : List ℕ) → at + length w ≤ n → agreement (drop at (take n s)) w ≡ agreement (drop at s) w
+agreement_cut at n s w h =
+    agreement_front (drop at (take n s)) w ∙ ap (λ (x : List ℕ). agreement x w) (part_front at (length w) n s h) ∙ sym (agreement_front (drop at s) w)
 
 -- ---- words of a text that is cut
 
 word_cut : (r : Reached) (at n : ℕ) (s : List ℕ) (w : WordRow) → at + length w.text ≤ n → also_word r (take n s) at w ≡ also_word r s at w
 word_cut (Word k) at n s w h = refl
-word_cut (Column c) at n s w h = rw (agreement-cut at n s w.text h)
+word_cut (Column c) at n s w h = rw (agreement_cut at n s w.text h)
 
 -- each word of a table ends before n
 abbrev pub Short : ℕ → ℕ → List WordRow → Type 0
 Short at n [] = Unit
 Short at n (w ∷ ws) = (at + length w.text ≤ n) × Short at n ws
 
-pub reach-cut : (ws : List WordRow) (r : Reached) (at n : ℕ) (s : List ℕ) → Short at n ws → reach_from r (take n s) at ws ≡ reach_from r s at ws
-reach-cut [] r at n s h = refl
-reach-cut (w ∷ ws) r at n s h =
-    ap (λ (x : Reached). reach_from x (take n s) at ws) (word_cut r at n s w h.0) ∙ reach-cut ws (also_word r s at w) at n s h.1
+pub reach_cut : (ws : List WordRow) (r : Reached) (at n : ℕ) (s : List ℕ) → Short at n ws → reach_from r (take n s) at ws ≡ reach_from r s at ws
+reach_cut [] r at n s h = refl
+reach_cut (w ∷ ws) r at n s h =
+    ap (λ (x : Reached). reach_from x (take n s) at ws) (word_cut r at n s w h.0) ∙ reach_cut ws (also_word r s at w) at n s h.1
 
 -- ---- digits of a text that is cut
 
-pub hex-digits-cut : (most from n : ℕ) (s : List ℕ) → from + most ≤ n → hex_digits_at most (take n s) from ≡ hex_digits_at most s from
+pub hex_digits_cut : (most from n : ℕ) (s : List ℕ) → from + most ≤ n → hex_digits_at most (take n s) from ≡ hex_digits_at most s from
 unfolding hex_digits_at
-hex-digits-cut most from n s h = ap hex_run (part-front from most n s h)
+hex_digits_cut most from n s h = ap hex_run (part_front from most n s h)

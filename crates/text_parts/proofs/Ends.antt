@@ -10,21 +10,21 @@ use lib.Dec.{eqb, ltb}
 use lib.ListN.{length, take, drop, get_or, length-append, length-drop, length-take, get_or-eq_default}
 use lib.Seq.{get_or-drop, get_or-take, get_or-append_seam, length-take-le}
 use Rattle.ascii.specs.Ascii.{line_feed, hex_run}
-use Rattle.ascii.proofs.Laws.{run-le}
+use Rattle.ascii.proofs.Laws.{run_le}
 use Rattle.text_parts.specs.Parts.{whole, stops, further}
 use Rattle.text_parts.specs.Hex.{reach_hex_line, HexDigits, hex_digits_at, line_end_at, end_column}
 use Rattle.text_parts.specs.declared.LineEnd.TheVariants.{Digits, Column}
-use Rattle.text_parts.proofs.Hex.{hex-at, hex-found, hex-digits-le}
-use Rattle.text_parts.proofs.Cut.{hex-digits-cut}
+use Rattle.text_parts.proofs.Hex.{hex_at, hex_found, hex_digits_le}
+use Rattle.text_parts.proofs.Cut.{hex_digits_cut}
 
 -- the digits lie in the text
-pub hex-digits-within : (most : ℕ) (s : List ℕ) (from : ℕ) → hex_digits_at most s from ≤ length s - from
+pub hex_digits_within : (most : ℕ) (s : List ℕ) (from : ℕ) → hex_digits_at most s from ≤ length s - from
 unfolding hex_digits_at
-hex-digits-within most s from = omega (arith, run-le (take most (drop from s)), length-take most (drop from s), length-drop from s)
+hex_digits_within most s from = omega (arith, run_le (take most (drop from s)), length-take most (drop from s), length-drop from s)
 
 -- a line feed lies in the text
-pub feed-inside : (s : List ℕ) (e : ℕ) → get_or s e 0 ≡ 10 → e < length s
-feed-inside s e f = go (ltb e (length s)) refl
+pub feed_inside : (s : List ℕ) (e : ℕ) → get_or s e 0 ≡ 10 → e < length s
+feed_inside s e f = go (ltb e (length s)) refl
   where
     go : (t : Bool) → ltb e (length s) ≡ t → e < length s
     go true h = ltb-true e (length s) h
@@ -39,11 +39,11 @@ odd_even n = go (eqb (n % 2) 1) refl
     go true e = let f = eqb-true (n % 2) 1 e in ne_eqb (n % 2) 0 (λ z. omega arith)
     go false e = let f = eqb-false (n % 2) 1 e in eq-eqb (n % 2) 0 (omega arith)
 
-pub end-column : (most : ℕ) (s : List ℕ) (from : ℕ) → end_column (line_end_at most s from) ≡ further from (reach_hex_line most (drop from s))
+pub end_column_lem : (most : ℕ) (s : List ℕ) (from : ℕ) → end_column (line_end_at most s from) ≡ further from (reach_hex_line most (drop from s))
 unfolding line_end_at hex_digits_at
-end-column most s from =
+end_column_lem most s from =
     let n = hex_digits_at most s from in
-    go (eqb (n % 2) 1) (eqb (n % 2) 0) (eqb (get_or s (from + n) 0) 10) (ltb (from + n + 1) (length s)) n (odd_even n) ∙ sym (hex-at most from s n refl)
+    go (eqb (n % 2) 1) (eqb (n % 2) 0) (eqb (get_or s (from + n) 0) 10) (ltb (from + n + 1) (length s)) n (odd_even n) ∙ sym (hex_at most from s n refl)
   where
     go : (a a' b c : Bool) (n : ℕ) → a' ≡ not a
         → end_column (cond a (Column (from + n)) (cond b (cond c (Column (from + n + 1)) (Digits n)) (Column (from + n))))
@@ -55,10 +55,10 @@ end-column most s from =
 
 -- ---- found where it stands, and only there
 
-pub end-found : (most : ℕ) (hex : List ℕ) → HexDigits most hex → (s : List ℕ) (from : ℕ) → drop from s ≡ hex ++ (line_feed ∷ []) → line_end_at most s from ≡ Digits (length hex)
+pub end_found : (most : ℕ) (hex : List ℕ) → HexDigits most hex → (s : List ℕ) (from : ℕ) → drop from s ≡ hex ++ (line_feed ∷ []) → line_end_at most s from ≡ Digits (length hex)
 unfolding line_end_at hex_digits_at
-end-found most hex p s from e =
-    let d : hex_digits_at most s from ≡ length hex = ap (λ (u : List ℕ). hex_run (take most u)) e ∙ hex-found most hex p in
+end_found most hex p s from e =
+    let d : hex_digits_at most s from ≡ length hex = ap (λ (u : List ℕ). hex_run (take most u)) e ∙ hex_found most hex p in
     let f : get_or s (from + length hex) 0 ≡ line_feed =
     sym (get_or-drop from s (length hex) 0) ∙ ap (λ (u : List ℕ). get_or u (length hex) 0) e ∙ get_or-append_seam hex line_feed [] 0 in
     let n : length s ≡ from + length hex + 1 = omega (arith, ap length e, length-drop from s, length-append hex (line_feed ∷ [])) in
@@ -69,9 +69,9 @@ end-found most hex p s from e =
 abbrev pub Within : ℕ → List ℕ → ℕ → ℕ → Type 0
 Within most s from n = (from + n + 1 ≡ length s) × (n ≤ most)
 
-pub end-within : (most : ℕ) (s : List ℕ) (from n : ℕ) → line_end_at most s from ≡ Digits n → Within most s from n
+pub end_within : (most : ℕ) (s : List ℕ) (from n : ℕ) → line_end_at most s from ≡ Digits n → Within most s from n
 unfolding line_end_at
-end-within most s from n e =
+end_within most s from n e =
     let k = hex_digits_at most s from in
     go (eqb (k % 2) 1) (eqb (get_or s (from + k) 0) line_feed) (ltb (from + k + 1) (length s)) refl refl e
   where
@@ -84,16 +84,16 @@ end-within most s from n e =
     go false true false f h p =
         let d : hex_digits_at most s from ≡ n = cc in
         let k = hex_digits_at most s from in
-        (omega (arith, ltb-false (from + k + 1) (length s) h, feed-inside s (from + k) (eqb-true (get_or s (from + k) 0) line_feed f)), omega (arith, hex-digits-le most s from))
+        (omega (arith, ltb-false (from + k + 1) (length s) h, feed_inside s (from + k) (eqb-true (get_or s (from + k) 0) line_feed f)), omega (arith, hex_digits_le most s from))
 
 -- ---- of a text that is cut behind it
 
-pub end-cut : (most from n : ℕ) (s : List ℕ) → from + most + 2 ≤ n → n ≤ length s → line_end_at most (take n s) from ≡ line_end_at most s from
+pub end_cut : (most from n : ℕ) (s : List ℕ) → from + most + 2 ≤ n → n ≤ length s → line_end_at most (take n s) from ≡ line_end_at most s from
 unfolding line_end_at
-end-cut most from n s h l =
+end_cut most from n s h l =
     let k = hex_digits_at most s from in
-    let d = hex-digits-le most s from in
-    let c : hex_digits_at most (take n s) from ≡ k = hex-digits-cut most from n s (omega arith) in
+    let d = hex_digits_le most s from in
+    let c : hex_digits_at most (take n s) from ≡ k = hex_digits_cut most from n s (omega arith) in
     let g : get_or (take n s) (from + k) 0 ≡ get_or s (from + k) 0 = get_or-take n s (from + k) 0 (omega arith) in
     let x : ltb (from + k + 1) n ≡ true = lt-ltb (from + k + 1) n (omega arith) in
     let y : ltb (from + k + 1) (length s) ≡ true = lt-ltb (from + k + 1) (length s) (omega arith) in

@@ -11,11 +11,11 @@ use lib.Dec.{eqb, ltb}
 use lib.ListN.{length, drop}
 use Rattle.protocol.proofs.Tests.{and_both}
 use Rattle.ascii.specs.Ascii.{agreement}
-use Rattle.ascii.proofs.Laws.{agreement-le}
+use Rattle.ascii.proofs.Laws.{agreement_le}
 use Rattle.text_parts.specs.Parts.{Reach, whole, stops, Right, further, better}
 use Rattle.text_parts.specs.Words.{Worded, worded, WordRow, also_word, reach_from}
-use Rattle.text_parts.proofs.Parts.{or_right, zero-better}
-use Rattle.text_parts.proofs.Words.{word-right, agree-by}
+use Rattle.text_parts.proofs.Parts.{or_right, zero_better}
+use Rattle.text_parts.proofs.Words.{word_right, agree_by}
 use Rattle.text_parts.specs.declared.Reached.{Reached}
 use Rattle.text_parts.specs.declared.Reached.TheVariants.{Word, Column}
 
@@ -45,18 +45,18 @@ abbrev pub all_differ : List WordRow → Bool
 all_differ [] = true
 all_differ (w ∷ ws) = differ_from w ws && all_differ ws
 
-from-tested : (w : WordRow) (ws : List WordRow) → differ_from w ws ≡ true → Each (Differ w) ws
-from-tested w [] e = tt
-from-tested w (v ∷ vs) e =
+from_tested : (w : WordRow) (ws : List WordRow) → differ_from w ws ≡ true → Each (Differ w) ws
+from_tested w [] e = tt
+from_tested w (v ∷ vs) e =
     let a = ltb (agreement w.text v.text) (length w.text) in
     let b = ltb (agreement v.text w.text) (length v.text) in
     let p = and_both (a && b) (differ_from w vs) e in
     let q = and_both a b p.0 in
-    ((ltb-true _ _ q.0, ltb-true _ _ q.1), from-tested w vs p.1)
+    ((ltb-true _ _ q.0, ltb-true _ _ q.1), from_tested w vs p.1)
 
 pub all_tested : (ws : List WordRow) → all_differ ws ≡ true → AllDiffer ws
 all_tested [] e = tt
-all_tested (w ∷ ws) e = let p = and_both (differ_from w ws) (all_differ ws) e in (from-tested w ws p.0, all_tested ws p.1)
+all_tested (w ∷ ws) e = let p = and_both (differ_from w ws) (all_differ ws) e in (from_tested w ws p.0, all_tested ws p.1)
 
 -- a word of the table, or a text of the kind L
 abbrev pub AnyOf : (List ℕ → Type 0) → (List ℕ → Type 0) → List WordRow → List ℕ → Type 0
@@ -68,23 +68,23 @@ abbrev pub on : Reached → (ℕ → Reach) → Reach
 on (Column c) J = stops c
 on (Word n) J = J n
 
-low-better : (c l : ℕ) (r : Reach) → c ≤ l → better (stops c) (further l r) ≡ further l r
-low-better c l whole h = refl
-low-better c l (stops k) h = ap stops (omega arith)
+low_better : (c l : ℕ) (r : Reach) → c ≤ l → better (stops c) (further l r) ≡ further l r
+low_better c l whole h = refl
+low_better c l (stops k) h = ap stops (omega arith)
 
-better-low : (c l : ℕ) (r : Reach) → c ≤ l → better (further l r) (stops c) ≡ further l r
-better-low c l whole h = refl
-better-low c l (stops k) h = ap stops (omega arith)
+better_low : (c l : ℕ) (r : Reach) → c ≤ l → better (further l r) (stops c) ≡ further l r
+better_low c l whole h = refl
+better_low c l (stops k) h = ap stops (omega arith)
 
 -- of two words of a table at most one stands whole
-not-whole : (u : List ℕ) (w v : WordRow) → agreement u w.text ≡ length w.text → Differ w v → agreement u v.text < length v.text
-not-whole u w v f p = go (eqb (agreement u v.text) (length v.text)) refl
+not_whole : (u : List ℕ) (w v : WordRow) → agreement u w.text ≡ length w.text → Differ w v → agreement u v.text < length v.text
+not_whole u w v f p = go (eqb (agreement u v.text) (length v.text)) refl
   where
     go : (t : Bool) → eqb (agreement u v.text) (length v.text) ≡ t → agreement u v.text < length v.text
     go true e =
         let k = eqb-true (agreement u v.text) (length v.text) e in
-        absurd (omega (arith, agree-by u w.text v.text f p.0, agree-by u v.text w.text k p.1, p.0, p.1))
-    go false e = let k = eqb-false (agreement u v.text) (length v.text) e in omega (arith, agreement-le u v.text)
+        absurd (omega (arith, agree_by u w.text v.text f p.0, agree_by u v.text w.text k p.1, p.0, p.1))
+    go false e = let k = eqb-false (agreement u v.text) (length v.text) e in omega (arith, agreement_le u v.text)
 
 -- ---- the best of the words
 
@@ -103,17 +103,17 @@ abbrev pub table_reach : (List ℕ → Reach) → WordRow → List WordRow → L
 table_reach K w ws u = best_of K u (reach_word K u w) ws
 
 module _ (T : List ℕ → Type 0) (K : List ℕ → Reach) (right : (u : List ℕ) → Right T u (K u)) (t : List ℕ) (g : T t) (u : List ℕ) where
-  word-said : (w : WordRow) → Right (Worded w.text T) u (reach_word K u w)
-  word-said w = word-right T t g w.text u (said K u w) (right (drop (length w.text) u))
+  word_said : (w : WordRow) → Right (Worded w.text T) u (reach_word K u w)
+  word_said w = word_right T t g w.text u (said K u w) (right (drop (length w.text) u))
 
-  best-right : (L : List ℕ → Type 0) (r : Reach) (ws : List WordRow) → Right L u r → Right (AnyOf T L ws) u (best_of K u r ws)
-  best-right L r [] h = h
-  best-right L r (w ∷ ws) h =
-      best-right (λ x. L x ⊎ Worded w.text T x) (better r (reach_word K u w)) ws (or_right L (Worded w.text T) u r (reach_word K u w) h (word-said w))
+  best_right : (L : List ℕ → Type 0) (r : Reach) (ws : List WordRow) → Right L u r → Right (AnyOf T L ws) u (best_of K u r ws)
+  best_right L r [] h = h
+  best_right L r (w ∷ ws) h =
+      best_right (λ x. L x ⊎ Worded w.text T x) (better r (reach_word K u w)) ws (or_right L (Worded w.text T) u r (reach_word K u w) h (word_said w))
 
   -- a table is read right
-  pub table-right : (w : WordRow) (ws : List WordRow) → Right (AnyOf T (Worded w.text T) ws) u (table_reach K w ws u)
-  table-right w ws = best-right (Worded w.text T) (reach_word K u w) ws (word-said w)
+  pub table_right : (w : WordRow) (ws : List WordRow) → Right (AnyOf T (Worded w.text T) ws) u (table_reach K w ws u)
+  table_right w ws = best_right (Worded w.text T) (reach_word K u w) ws (word_said w)
 
 -- ---- the listing's way through a table
 
@@ -137,14 +137,14 @@ module _ (K : List ℕ → Reach) (J : ℕ → Reach) (s : List ℕ) (at : ℕ) 
   seen_end r (Column c) h = rw (h.1, h.2)
   seen_end r (Word n) h = sym h.3
 
-  seen-word : (r : Reach) (q : Reached) (w : WordRow) (ws : List WordRow) → Each (Differ w) ws → Leads w → Seen r q (w ∷ ws)
+  seen_word : (r : Reach) (q : Reached) (w : WordRow) (ws : List WordRow) → Each (Differ w) ws → Leads w → Seen r q (w ∷ ws)
       → Seen (better r (reach_word K (drop at s) w)) (also_word q s at w) ws
-  seen-word r (Word n) w ws a j h =
+  seen_word r (Word n) w ws a j h =
       let n : eqb (agreement (drop at s) w.text) (length w.text) ≡ false =
       ne_eqb (agreement (drop at s) w.text) (length w.text) (λ e. omega (arith, h.4.0.0)) in
-      let e : better r (reach_word K (drop at s) w) ≡ r = rw (n, h.2) (better-low (agreement (drop at s) w.text) h.0 h.1 h.4.0.1) in
+      let e : better r (reach_word K (drop at s) w) ≡ r = rw (n, h.2) (better_low (agreement (drop at s) w.text) h.0 h.1 h.4.0.1) in
       rw e (h.0, h.1, h.2, h.3, h.4.1)
-  seen-word r (Column c) w ws a j h = go (eqb (agreement (drop at s) w.text) (length w.text)) refl
+  seen_word r (Column c) w ws a j h = go (eqb (agreement (drop at s) w.text) (length w.text)) refl
     where
       go : (t : Bool) → eqb (agreement (drop at s) w.text) (length w.text) ≡ t
           → Seen (better r (cond t (further (length w.text) (said K (drop at s) w)) (stops (agreement (drop at s) w.text))))
@@ -152,32 +152,32 @@ module _ (K : List ℕ → Reach) (J : ℕ → Reach) (s : List ℕ) (at : ℕ) 
       go true e =
           let f = eqb-true (agreement (drop at s) w.text) (length w.text) e in
           let b : better r (further (length w.text) (said K (drop at s) w)) ≡ further (length w.text) (said K (drop at s) w) =
-          rw h.1 (low-better h.0 (length w.text) (said K (drop at s) w) (h.3.0 f)) in (
+          rw h.1 (low_better h.0 (length w.text) (said K (drop at s) w) (h.3.0 f)) in (
             length w.text,
             said K (drop at s) w,
             b,
             j ∙ ap (further at) (sym b),
             each_map (Differ w) (Differ w) (Under (length w.text))
-                (λ v p q. let k = agree-by (drop at s) w.text v.text f p.0 in (not-whole (drop at s) w v f p, omega (arith, k, p.0))) ws a a,
+                (λ v p q. let k = agree_by (drop at s) w.text v.text f p.0 in (not_whole (drop at s) w v f p, omega (arith, k, p.0))) ws a a,
           )
       go false e = (
         max h.0 (agreement (drop at s) w.text),
         rw h.1,
         omega (arith, h.2),
         each_map (Differ w) (Low h.0) (Low (max h.0 (agreement (drop at s) w.text)))
-            (λ v p q f. omega (arith, q f, agree-by (drop at s) v.text w.text f p.1, p.1)) ws a h.3.1,
+            (λ v p q f. omega (arith, q f, agree_by (drop at s) v.text w.text f p.1, p.1)) ws a h.3.1,
       )
 
   table_on : (r : Reach) (q : Reached) (ws : List WordRow) → AllDiffer ws → Each Leads ws → Seen r q ws → further at (best_of K (drop at s) r ws) ≡ on (reach_from q s at ws) J
   table_on r q [] a j h = seen_end r q h
-  table_on r q (w ∷ ws) a j h = table_on (better r (reach_word K (drop at s) w)) (also_word q s at w) ws a.1 j.1 (seen-word r q w ws a.0 j.0 h)
+  table_on r q (w ∷ ws) a j h = table_on (better r (reach_word K (drop at s) w)) (also_word q s at w) ws a.1 j.1 (seen_word r q w ws a.0 j.0 h)
 
   pub table_at : (w : WordRow) (ws : List WordRow) → AllDiffer (w ∷ ws) → Each Leads (w ∷ ws) → further at (table_reach K w ws (drop at s)) ≡ on (reach_from (Column at) s at (w ∷ ws)) J
   table_at w ws a j =
       let z : at ≡ at + 0 = omega arith in
       let start : Seen (stops 0) (Column at) (w ∷ ws) = (0, refl, z, nothing (w ∷ ws)) in
       table_on (reach_word K (drop at s) w) (also_word (Column at) s at w) ws a.1 j.1
-      (rw (zero-better (reach_word K (drop at s) w)) at (seen-word (stops 0) (Column at) w ws a.0 j.0 start))
+      (rw (zero_better (reach_word K (drop at s) w)) at (seen_word (stops 0) (Column at) w ws a.0 j.0 start))
     where
       nothing : (vs : List WordRow) → Each (Low 0) vs
       nothing [] = tt

@@ -9,18 +9,18 @@ use borrow.Author.Tests.{ne_eqb, eqb-true, eqb-false}
 use lib.Dec.{eqb, eqb-suc-suc}
 use lib.ListN.{length, drop}
 use Rattle.ascii.specs.Ascii.{agreement}
-use Rattle.ascii.proofs.Laws.{by-test}
+use Rattle.ascii.proofs.Laws.{by_test}
 use Rattle.text_parts.specs.Parts.{Reach, stops, Right, further, next}
 use Rattle.text_parts.specs.Words.{Worded, worded}
-use Rattle.text_parts.proofs.Parts.{step_right, none_right, none-empty, same-right, further-zero, next-further}
+use Rattle.text_parts.proofs.Parts.{step_right, none_right, none_empty, same_right, further_zero, next_further}
 
-pub word-right : (T : List ℕ → Type 0) (t : List ℕ) → T t → (w s : List ℕ) (r : Reach) → Right T (drop (length w) s) r → Right (Worded w T) s (worded w s r)
+pub word_right : (T : List ℕ → Type 0) (t : List ℕ) → T t → (w s : List ℕ) (r : Reach) → Right T (drop (length w) s) r → Right (Worded w T) s (worded w s r)
 unfolding agreement
-word-right T t g [] s r h = rw (further-zero r) (same-right (Worded [] T) T (λ u m. (u, m, refl)) (λ u m. rw m.2 m.1) s r h)
-word-right T t g (x ∷ w) [] r h =
+word_right T t g [] s r h = rw (further_zero r) (same_right (Worded [] T) T (λ u m. (u, m, refl)) (λ u m. rw m.2 m.1) s r h)
+word_right T t g (x ∷ w) [] r h =
     rw (ne_eqb 0 (suc (length w)) (omega arith))
-    (none-empty (Worded (x ∷ w) T) (x ∷ w ++ t) (t, g, refl) (λ m. let e = m.2 in let z : ◌≡◌ {A = ℕ} 0 1 = cc in omega arith))
-word-right T t g (x ∷ w) (b ∷ s) r h = go (eqb b x) refl (word-right T t g w s r h)
+    (none_empty (Worded (x ∷ w) T) (x ∷ w ++ t) (t, g, refl) (λ m. let e = m.2 in let z : ◌≡◌ {A = ℕ} 0 1 = cc in omega arith))
+word_right T t g (x ∷ w) (b ∷ s) r h = go (eqb b x) refl (word_right T t g w s r h)
   where
     go : (e : Bool) → eqb b x ≡ e → Right (Worded w T) s (worded w s r)
         → Right (Worded (x ∷ w) T) (b ∷ s)
@@ -31,7 +31,7 @@ word-right T t g (x ∷ w) (b ∷ s) r h = go (eqb b x) refl (word-right T t g w
         (step_right (Worded (x ∷ w) T) (Worded w T) b (λ u m. (m.0, m.1, cc m.2)) (λ u m. (m.0, m.1, cc m.2)) s (worded w s r) k)
       where
         more : (a : Bool) → next (cond a (further (length w) r) (stops (agreement s w))) ≡ cond a (further (suc (length w)) r) (stops (suc (agreement s w)))
-        more true = next-further (length w) r
+        more true = next_further (length w) r
         more false = refl
     go false e k =
         rw (ne_eqb 0 (suc (length w)) (omega arith))
@@ -39,12 +39,12 @@ word-right T t g (x ∷ w) (b ∷ s) r h = go (eqb b x) refl (word-right T t g w
         (λ u m. let e₂ = m.2 in let q : b ≡ x = cc in eqb-false b x e q) s)
 
 -- two words that a text agrees with: the one that stands whole decides how far the other goes
-pub agree-by : (s w v : List ℕ) → agreement s w ≡ length w → agreement w v < length w → agreement s v ≡ agreement w v
+pub agree_by : (s w v : List ℕ) → agreement s w ≡ length w → agreement w v < length w → agreement s v ≡ agreement w v
 unfolding agreement
-agree-by s [] v e l = absurd (omega arith)
-agree-by [] (x ∷ w) v e l = absurd (omega arith)
-agree-by (b ∷ s) (x ∷ w) [] e l = refl
-agree-by (b ∷ s) (x ∷ w) (y ∷ v) e l = go (eqb b x) (eqb x y) refl refl e l (agree-by s w v)
+agree_by s [] v e l = absurd (omega arith)
+agree_by [] (x ∷ w) v e l = absurd (omega arith)
+agree_by (b ∷ s) (x ∷ w) [] e l = refl
+agree_by (b ∷ s) (x ∷ w) (y ∷ v) e l = go (eqb b x) (eqb x y) refl refl e l (agree_by s w v)
   where
     go : (t u : Bool) → eqb b x ≡ t → eqb x y ≡ u → cond t (suc (agreement s w)) 0 ≡ suc (length w) → cond u (suc (agreement w v)) 0 < suc (length w)
         → (agreement s w ≡ length w → agreement w v < length w → agreement s v ≡ agreement w v)
@@ -57,8 +57,8 @@ agree-by (b ∷ s) (x ∷ w) (y ∷ v) e l = go (eqb b x) (eqb x y) refl refl e 
         pick false l = refl
 
 -- an agreement is no longer than the text
-pub agreement-in : (s w : List ℕ) → agreement s w ≤ length s
+pub agreement_in : (s w : List ℕ) → agreement s w ≤ length s
 unfolding agreement
-agreement-in s [] = omega arith
-agreement-in [] (x ∷ w) = omega arith
-agreement-in (b ∷ s) (x ∷ w) = by-test (λ (k : ℕ). k ≤ suc (length s)) (eqb b x) (omega (arith, agreement-in s w)) (omega arith)
+agreement_in s [] = omega arith
+agreement_in [] (x ∷ w) = omega arith
+agreement_in (b ∷ s) (x ∷ w) = by_test (λ (k : ℕ). k ≤ suc (length s)) (eqb b x) (omega (arith, agreement_in s w)) (omega arith)

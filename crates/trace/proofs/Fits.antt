@@ -10,7 +10,7 @@ use borrow.Author.Tests.{ne_eqb}
 use lib.Dec.{eqb, ltb}
 use lib.ListN.{length, drop, length-append, length-drop, get_or}
 use Rattle.ascii.specs.Ascii.{line_feed, ascii, decimal_in, hexed_in, hex_pair, glyph_of}
-use Rattle.ascii.proofs.Laws.{by-test}
+use Rattle.ascii.proofs.Laws.{by_test}
 use Rattle.folds.specs.Folds.{joined}
 use Rattle.protocol.specs.Service.{id_bytes}
 use Rattle.protocol.specs.declared.Version.{Version}
@@ -25,11 +25,11 @@ use Rattle.device_services.specs.DeviceServices.{offset_of, cid_count_at, elemen
 use Rattle.device_services.specs.declared.DeviceServicesRead.{DeviceServicesRead}
 use Rattle.device_services.specs.declared.DeviceServicesRead.TheVariants.{Info, Refused}
 use Rattle.rows.specs.Rows.{header, field, row, indexed_row, refused_line}
-use Rattle.rows.proofs.Lengths.{refused-le}
-use Rattle.payload_rows.proofs.Lengths.{packet-le, version-le, registration-le, set-pin-le, pin-info-le}
+use Rattle.rows.proofs.Lengths.{refused_le}
+use Rattle.payload_rows.proofs.Lengths.{packet_le, version_le, registration_le, set_pin_le, pin_info_le}
 use Rattle.entry_rows.specs.Services.{id_row, cid_row, cid_rows, element_rows, elements_rows, services_text}
-use Rattle.entry_rows.proofs.Services.{few-cids}
-use Rattle.entry_rows.proofs.Lengths.{signal-le, services-le}
+use Rattle.entry_rows.proofs.Services.{few_cids}
+use Rattle.entry_rows.proofs.Lengths.{signal_le, services_le}
 use Rattle.request_line.specs.declared.ListingKind.{ListingKind}
 use Rattle.request_line.specs.declared.ListingKind.TheVariants as listing
 use Rattle.listing.specs.Listing.{payload_text}
@@ -39,8 +39,8 @@ use Rattle.trace.specs.Marked.{marked_from, marked, header_in, without_header}
 use Rattle.trace.specs.Heads.{listing_kind, head_of}
 use Rattle.trace.specs.Replay.{mark_of, fields_by, fields_in, fields_of, answer_text}
 use Rattle.trace.specs.Claims.{LineFits}
-use Rattle.trace.proofs.Laws.{mark-le}
-use Rattle.trace.proofs.Lengths.{head-le}
+use Rattle.trace.proofs.Laws.{mark_le}
+use Rattle.trace.proofs.Lengths.{head_le}
 
 -- ---- line feeds
 
@@ -51,31 +51,31 @@ feeds : List ℕ → ℕ
 feeds [] = 0
 feeds (b ∷ s) = feed_of b + feeds s
 
-feed-le : (t : Bool) → cond t 1 0 ≤ 1
-feed-le t = by-test (λ (n : ℕ). n ≤ 1) t (omega arith) (omega arith)
+feed_le : (t : Bool) → cond t 1 0 ≤ 1
+feed_le t = by_test (λ (n : ℕ). n ≤ 1) t (omega arith) (omega arith)
 
-feeds-le : (s : List ℕ) → feeds s ≤ length s
+feeds_le : (s : List ℕ) → feeds s ≤ length s
 unfolding feeds feed_of
-feeds-le [] = omega arith
-feeds-le (b ∷ s) = omega (arith, feed-le (eqb b line_feed), feeds-le s)
+feeds_le [] = omega arith
+feeds_le (b ∷ s) = omega (arith, feed_le (eqb b line_feed), feeds_le s)
 
-feeds-append : (x y : List ℕ) → feeds (x ++ y) ≡ feeds x + feeds y
+feeds_append : (x y : List ℕ) → feeds (x ++ y) ≡ feeds x + feeds y
 unfolding feeds
-feeds-append [] y = omega arith
-feeds-append (b ∷ x) y = omega (arith, feeds-append x y)
+feeds_append [] y = omega arith
+feeds_append (b ∷ x) y = omega (arith, feeds_append x y)
 
-feeds-drop : (n : ℕ) (s : List ℕ) → feeds (drop n s) ≤ feeds s
+feeds_drop : (n : ℕ) (s : List ℕ) → feeds (drop n s) ≤ feeds s
 unfolding feeds
-feeds-drop zero s = omega arith
-feeds-drop (suc n) [] = omega arith
-feeds-drop (suc n) (b ∷ s) = omega (arith, feeds-drop n s)
+feeds_drop zero s = omega arith
+feeds_drop (suc n) [] = omega arith
+feeds_drop (suc n) (b ∷ s) = omega (arith, feeds_drop n s)
 
 -- with marks of at most 48 bytes
-marked-from-le : (mark : List ℕ) (begins : Bool) (s : List ℕ) → length mark ≤ 48 → length (marked_from mark begins s) ≤ length s + 48 * (cond begins 1 0 + feeds s)
+marked_from_le : (mark : List ℕ) (begins : Bool) (s : List ℕ) → length mark ≤ 48 → length (marked_from mark begins s) ≤ length s + 48 * (cond begins 1 0 + feeds s)
 unfolding marked_from feeds feed_of
-marked-from-le mark begins [] h = omega arith
-marked-from-le mark begins (b ∷ s) h =
-    let k = marked-from-le mark (eqb b line_feed) s h in
+marked_from_le mark begins [] h = omega arith
+marked_from_le mark begins (b ∷ s) h =
+    let k = marked_from_le mark (eqb b line_feed) s h in
     let m : length (cond begins mark []) ≤ 48 * cond begins 1 0 = go begins in
     rw (length-append (cond begins mark []) (b ∷ marked_from mark (eqb b line_feed) s)) (omega (arith, k, m))
   where
@@ -83,96 +83,96 @@ marked-from-le mark begins (b ∷ s) h =
     go true = omega arith
     go false = omega arith
 
-marked-le : (mark s : List ℕ) (a b : ℕ) → length mark ≤ 48 → length s ≤ a → feeds s ≤ b → length (marked mark s) ≤ a + 48 * (1 + b)
-marked-le mark s a b h k l = omega (arith, marked-from-le mark true s h)
+marked_le : (mark s : List ℕ) (a b : ℕ) → length mark ≤ 48 → length s ≤ a → feeds s ≤ b → length (marked mark s) ≤ a + 48 * (1 + b)
+marked_le mark s a b h k l = omega (arith, marked_from_le mark true s h)
 
 -- ---- digits are no line feeds
 
-digit-feeds : (n : ℕ) → 10 < n → feed_of n ≡ 0
+digit_feeds : (n : ℕ) → 10 < n → feed_of n ≡ 0
 unfolding feed_of
-digit-feeds n h = rw (ne_eqb n line_feed (λ e. omega arith))
+digit_feeds n h = rw (ne_eqb n line_feed (λ e. omega arith))
 
-decimal-feeds : (k n : ℕ) → feeds (decimal_in k n) ≡ 0
+decimal_feeds : (k n : ℕ) → feeds (decimal_in k n) ≡ 0
 unfolding decimal_in feeds
-decimal-feeds zero n = refl
-decimal-feeds (suc k) n =
-    by-test (λ (s : List ℕ). feeds s ≡ 0) (ltb n 10) (omega (arith, digit-feeds (48 + n) (omega arith)))
-    (feeds-append (decimal_in k (n / 10)) ((48 + n % 10) ∷ []) ∙ omega (arith, decimal-feeds k (n / 10), digit-feeds (48 + n % 10) (omega arith)))
+decimal_feeds zero n = refl
+decimal_feeds (suc k) n =
+    by_test (λ (s : List ℕ). feeds s ≡ 0) (ltb n 10) (omega (arith, digit_feeds (48 + n) (omega arith)))
+    (feeds_append (decimal_in k (n / 10)) ((48 + n % 10) ∷ []) ∙ omega (arith, decimal_feeds k (n / 10), digit_feeds (48 + n % 10) (omega arith)))
 
-glyph-feeds : (n : ℕ) → feed_of (glyph_of n) ≡ 0
-glyph-feeds n = by-test (λ (b : ℕ). feed_of b ≡ 0) (ltb n 10) (digit-feeds (48 + n) (omega arith)) (digit-feeds (87 + n) (omega arith))
+glyph_feeds : (n : ℕ) → feed_of (glyph_of n) ≡ 0
+glyph_feeds n = by_test (λ (b : ℕ). feed_of b ≡ 0) (ltb n 10) (digit_feeds (48 + n) (omega arith)) (digit_feeds (87 + n) (omega arith))
 
-hexed-feeds : (n : ℕ) (s : List ℕ) → feeds (hexed_in n s) ≡ 0
+hexed_feeds : (n : ℕ) (s : List ℕ) → feeds (hexed_in n s) ≡ 0
 unfolding hexed_in hex_pair feeds
-hexed-feeds zero s = refl
-hexed-feeds (suc n) s =
-    feeds-append (hexed_in n s) (hex_pair (get_or s n 0)) ∙ omega (arith, hexed-feeds n s, glyph-feeds (get_or s n 0 / 16), glyph-feeds (get_or s n 0 % 16))
+hexed_feeds zero s = refl
+hexed_feeds (suc n) s =
+    feeds_append (hexed_in n s) (hex_pair (get_or s n 0)) ∙ omega (arith, hexed_feeds n s, glyph_feeds (get_or s n 0 / 16), glyph_feeds (get_or s n 0 % 16))
 
 -- ---- the rows of a services list
 
-field-feeds : (v : ℕ) → feeds (field v) ≡ 0
+field_feeds : (v : ℕ) → feeds (field v) ≡ 0
 unfolding field feeds feed_of
-field-feeds v = omega (arith, decimal-feeds 20 v)
+field_feeds v = omega (arith, decimal_feeds 20 v)
 
-end-feeds : feeds (line_feed ∷ []) ≡ 1
+end_feeds : feeds (line_feed ∷ []) ≡ 1
 unfolding feeds feed_of
-end-feeds = refl
+end_feeds = refl
 
-row-feeds : (name : List ℕ) (v : ℕ) → feeds name ≡ 0 → feeds (row name v) ≡ 1
+row_feeds : (name : List ℕ) (v : ℕ) → feeds name ≡ 0 → feeds (row name v) ≡ 1
 unfolding row
-row-feeds name v h = simp feeds-append (omega (arith, field-feeds v, end-feeds))
+row_feeds name v h = simp feeds_append (omega (arith, field_feeds v, end_feeds))
 
-open-feeds : feeds (ascii "[") ≡ 0
+open_feeds : feeds (ascii "[") ≡ 0
 unfolding feeds feed_of
-open-feeds = refl
+open_feeds = refl
 
-close-feeds : feeds (ascii "]") ≡ 0
+close_feeds : feeds (ascii "]") ≡ 0
 unfolding feeds feed_of
-close-feeds = refl
+close_feeds = refl
 
-indexed-feeds : (name : List ℕ) (i v : ℕ) → feeds name ≡ 0 → feeds (indexed_row name i v) ≡ 1
+indexed_feeds : (name : List ℕ) (i v : ℕ) → feeds name ≡ 0 → feeds (indexed_row name i v) ≡ 1
 unfolding indexed_row
-indexed-feeds name i v h = simp feeds-append (omega (arith, open-feeds, close-feeds, decimal-feeds 20 i, field-feeds v, end-feeds))
+indexed_feeds name i v h = simp feeds_append (omega (arith, open_feeds, close_feeds, decimal_feeds 20 i, field_feeds v, end_feeds))
 
-joined-feeds : (f : ℕ → List ℕ) (b n : ℕ) → ((i : ℕ) → i < n → feeds (f i) ≤ b) → feeds (joined f n) ≤ b * n
+joined_feeds : (f : ℕ → List ℕ) (b n : ℕ) → ((i : ℕ) → i < n → feeds (f i) ≤ b) → feeds (joined f n) ≤ b * n
 unfolding joined feeds
-joined-feeds f b zero h = omega (arith, mul-zero b)
-joined-feeds f b (suc n) h = omega (arith, mul-suc b n, feeds-append (joined f n) (f n), joined-feeds f b n (λ i l. h i (omega arith)), h n (omega arith))
+joined_feeds f b zero h = omega (arith, mul-zero b)
+joined_feeds f b (suc n) h = omega (arith, mul-suc b n, feeds_append (joined f n) (f n), joined_feeds f b n (λ i l. h i (omega arith)), h n (omega arith))
 
-id-feeds : (i : ℕ) (id : ServiceId) → feeds (ascii "DeviceServiceId[") ≡ 0 → feeds (ascii "]\t") ≡ 0 → feeds (id_row i id) ≡ 1
+id_feeds : (i : ℕ) (id : ServiceId) → feeds (ascii "DeviceServiceId[") ≡ 0 → feeds (ascii "]\t") ≡ 0 → feeds (id_row i id) ≡ 1
 unfolding id_row
-id-feeds i id p q = simp feeds-append (omega (arith, decimal-feeds 20 i, hexed-feeds (length (id_bytes id)) (id_bytes id), end-feeds))
+id_feeds i id p q = simp feeds_append (omega (arith, decimal_feeds 20 i, hexed_feeds (length (id_bytes id)) (id_bytes id), end_feeds))
 
-cid-feeds : (i j cid : ℕ) → feeds (ascii "Cid[") ≡ 0 → feeds (ascii "][") ≡ 0 → feeds (cid_row i j cid) ≡ 1
+cid_feeds : (i j cid : ℕ) → feeds (ascii "Cid[") ≡ 0 → feeds (ascii "][") ≡ 0 → feeds (cid_row i j cid) ≡ 1
 unfolding cid_row
-cid-feeds i j cid p q = simp feeds-append (omega (arith, decimal-feeds 20 i, decimal-feeds 20 j, close-feeds, field-feeds cid, end-feeds))
+cid_feeds i j cid p q = simp feeds_append (omega (arith, decimal_feeds 20 i, decimal_feeds 20 j, close_feeds, field_feeds cid, end_feeds))
 
-cids-feeds : (s : List ℕ) (at i n : ℕ) → feeds (cid_rows s at i n) ≤ 1 * n
+cids_feeds : (s : List ℕ) (at i n : ℕ) → feeds (cid_rows s at i n) ≤ 1 * n
 unfolding cid_rows feeds feed_of
-cids-feeds s at i n = joined-feeds (λ j. cid_row i j (cid_at s at j)) 1 n (λ j l. omega (arith, cid-feeds i j (cid_at s at j) refl refl))
+cids_feeds s at i n = joined_feeds (λ j. cid_row i j (cid_at s at j)) 1 n (λ j l. omega (arith, cid_feeds i j (cid_at s at j) refl refl))
 
-element-feeds : (s : List ℕ) (at i : ℕ) → cid_count_at s at ≤ 128 → feeds (element_rows s at i) ≤ 132
+element_feeds : (s : List ℕ) (at i : ℕ) → cid_count_at s at ≤ 128 → feeds (element_rows s at i) ≤ 132
 unfolding element_rows element_at feeds feed_of
-element-feeds s at i h =
+element_feeds s at i h =
     let e = element_at s at in
-    simp feeds-append
-    (omega (arith, id-feeds i e.device_service_id refl refl, indexed-feeds (ascii "DssPayload") i e.dss_payload refl, indexed-feeds (ascii "MaxDssInstances") i e.max_dss_instances refl, indexed-feeds (ascii "CidCount") i e.cid_count refl, cids-feeds s at i e.cid_count))
+    simp feeds_append
+    (omega (arith, id_feeds i e.device_service_id refl refl, indexed_feeds (ascii "DssPayload") i e.dss_payload refl, indexed_feeds (ascii "MaxDssInstances") i e.max_dss_instances refl, indexed_feeds (ascii "CidCount") i e.cid_count refl, cids_feeds s at i e.cid_count))
 
-header-feeds : feeds header ≡ 1
+header_feeds : feeds header ≡ 1
 unfolding header feeds feed_of
-header-feeds = refl
+header_feeds = refl
 
-services-feeds : (s : List ℕ) → feeds (services_text s (services_read Strict s)) ≤ 4300
+services_feeds : (s : List ℕ) → feeds (services_text s (services_read Strict s)) ≤ 4300
 unfolding services_text elements_rows feeds feed_of
-services-feeds s = go (services_read Strict s) refl
+services_feeds s = go (services_read Strict s) refl
   where
     go : (r : DeviceServicesRead) → services_read Strict s ≡ r → feeds (services_text s r) ≤ 4300
-    go (Refused r) e = omega (arith, feeds-le (refused_line r), refused-le r)
+    go (Refused r) e = omega (arith, feeds_le (refused_line r), refused_le r)
     go (Info p) e =
-        let k = few-cids Strict s e in
+        let k = few_cids Strict s e in
         let n = p.device_services_count in
-        simp feeds-append
-        (omega (arith, k.0, header-feeds, row-feeds (ascii "DeviceServicesCount") n refl, row-feeds (ascii "MaxDssSessions") p.max_dss_sessions refl, joined-feeds (λ i. element_rows s (offset_of s i) i) 132 n (λ i l. element-feeds s (offset_of s i) i (k.1 i l))))
+        simp feeds_append
+        (omega (arith, k.0, header_feeds, row_feeds (ascii "DeviceServicesCount") n refl, row_feeds (ascii "MaxDssSessions") p.max_dss_sessions refl, joined_feeds (λ i. element_rows s (offset_of s i) i) 132 n (λ i l. element_feeds s (offset_of s i) i (k.1 i l))))
 
 -- ---- any listing, with marks
 
@@ -184,46 +184,46 @@ few : (s : List ℕ) (a b : ℕ) → length s ≤ a → feeds s ≤ b → a + 48
 unfolding Fits
 few s a b h k l mark m =
     let n = header_in s in
-    omega (arith, marked-le mark (drop n s) a b m (rw (length-drop n s) (omega arith)) (omega (arith, feeds-drop n s)))
+    omega (arith, marked_le mark (drop n s) a b m (rw (length-drop n s) (omega arith)) (omega (arith, feeds_drop n s)))
 
 short : (s : List ℕ) → length s ≤ 10000 → Fits s
-short s h = few s 10000 10000 h (omega (arith, feeds-le s)) (omega arith)
+short s h = few s 10000 10000 h (omega (arith, feeds_le s)) (omega arith)
 
-payload-fits : (kind : ListingKind) (v : Version) (s : List ℕ) → Fits (payload_text kind v s)
+payload_fits : (kind : ListingKind) (v : Version) (s : List ℕ) → Fits (payload_text kind v s)
 unfolding payload_text
-payload-fits listing.PacketService v s = short _ (omega (arith, packet-le v s))
-payload-fits listing.Version v s = short _ (omega (arith, version-le s))
-payload-fits listing.Registration v s = short _ (omega (arith, registration-le v Strict s))
-payload-fits listing.SignalState v s = short _ (signal-le v Strict s)
-payload-fits listing.DeviceServices v s = few _ 524288 4300 (services-le Strict s) (services-feeds s) (omega arith)
-payload-fits listing.SetPin v s = short _ (omega (arith, set-pin-le Strict s))
-payload-fits listing.PinInfo v s = short _ (omega (arith, pin-info-le s))
+payload_fits listing.PacketService v s = short _ (omega (arith, packet_le v s))
+payload_fits listing.Version v s = short _ (omega (arith, version_le s))
+payload_fits listing.Registration v s = short _ (omega (arith, registration_le v Strict s))
+payload_fits listing.SignalState v s = short _ (signal_le v Strict s)
+payload_fits listing.DeviceServices v s = few _ 524288 4300 (services_le Strict s) (services_feeds s) (omega arith)
+payload_fits listing.SetPin v s = short _ (omega (arith, set_pin_le Strict s))
+payload_fits listing.PinInfo v s = short _ (omega (arith, pin_info_le s))
 
-none-fits : Fits []
-none-fits = short [] (omega arith)
+none_fits : Fits []
+none_fits = short [] (omega arith)
 
-shown-fits : (v : Version) (information : List ℕ) (x : Shown) → Fits (fields_by v information x)
+shown_fits : (v : Version) (information : List ℕ) (x : Shown) → Fits (fields_by v information x)
 unfolding fields_by
-shown-fits v information (shown.Payload kind) = payload-fits (listing_kind kind) v information
-shown-fits v information shown.NoPayload = none-fits
-shown-fits v information (shown.Refused r) = none-fits
+shown_fits v information (shown.Payload kind) = payload_fits (listing_kind kind) v information
+shown_fits v information shown.NoPayload = none_fits
+shown_fits v information (shown.Refused r) = none_fits
 
-received-fits : (v : Version) (information : List ℕ) (x : Received) → Fits (fields_in v information x)
+received_fits : (v : Version) (information : List ℕ) (x : Received) → Fits (fields_in v information x)
 unfolding fields_in
-received-fits v information (received.Complete m n d) = shown-fits v information (shown_of m)
-received-fits v information (received.Whole t k w) = none-fits
-received-fits v information (received.Pending t k d) = none-fits
-received-fits v information (received.Refused r) = none-fits
+received_fits v information (received.Complete m n d) = shown_fits v information (shown_of m)
+received_fits v information (received.Whole t k w) = none_fits
+received_fits v information (received.Pending t k d) = none_fits
+received_fits v information (received.Refused r) = none_fits
 
 fields_fit : (x : Replayed) (information : List ℕ) → Fits (fields_of x information)
 unfolding fields_of
-fields_fit (BadLine r) information = none-fits
-fields_fit (Piece e s v w x) information = received-fits v information x
+fields_fit (BadLine r) information = none_fits
+fields_fit (Piece e s v w x) information = received_fits v information x
 
-pub line-fits : LineFits
+pub line_fits : LineFits
 unfolding answer_text Fits
-line-fits number x information =
+line_fits number x information =
     let mark = mark_of number x in
-    let m = mark-le number x in
+    let m = mark_le number x in
     rw (length-append (marked mark (head_of x)) (marked mark (without_header (fields_of x information))))
-    (omega (arith, marked-le mark (head_of x) 1024 1024 m (head-le x) (omega (arith, feeds-le (head_of x), head-le x)), fields_fit x information mark m))
+    (omega (arith, marked_le mark (head_of x) 1024 1024 m (head_le x) (omega (arith, feeds_le (head_of x), head_le x)), fields_fit x information mark m))

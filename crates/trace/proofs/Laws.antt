@@ -9,12 +9,12 @@ use lib.Dec.{eqb}
 use lib.ListN.{length, take, drop, length-append, length-drop, drop_of_length-le}
 use lib.Seq.{drop-drop, drop_at, take_at}
 use Rattle.wire.specs.Output.{over}
-use Rattle.wire.proofs.Laws.{take-over}
+use Rattle.wire.proofs.Laws.{take_over}
 use Rattle.ascii.specs.Ascii.{line_feed, agreement, through}
-use Rattle.ascii.proofs.Laws.{length-decimal}
+use Rattle.ascii.proofs.Laws.{length_decimal}
 use Rattle.rows.specs.Rows.{Put}
-use Rattle.rows.proofs.Laws.{put_then, put-kept, put-over}
-use Rattle.rows.proofs.Lengths.{field-le}
+use Rattle.rows.proofs.Laws.{put_then, put_kept, put_over}
+use Rattle.rows.proofs.Lengths.{field_le}
 use Rattle.trace_line.specs.declared.Sender.{Sender}
 use Rattle.trace_line.specs.declared.Sender.TheVariants.{Host, Device}
 use Rattle.trace_step.specs.declared.Replayed.{Replayed}
@@ -56,28 +56,28 @@ marked_next mark text done i n l e h =
     ∙ ap (λ (x : List ℕ). done ++ x) (sym (marked_row mark r (rw (length-drop i text) (omega arith))))
     ∙ h
 
-pub marked-end : (mark text done : List ℕ) (i : ℕ) → length text ≤ i → done ++ marked mark (drop i text) ≡ marked mark text → done ≡ marked mark text
+pub marked_end : (mark text done : List ℕ) (i : ℕ) → length text ≤ i → done ++ marked mark (drop i text) ≡ marked mark text → done ≡ marked mark text
 unfolding marked_from
-marked-end mark text done i l h = sym (append-nil done) ∙ (rw (drop_of_length-le text l) at h)
+marked_end mark text done i l h = sym (append-nil done) ∙ (rw (drop_of_length-le text l) at h)
 
 -- ---- marks are short
 
-sender-le : (sender : Sender) → length (sender_text sender) ≤ 3
-sender-le Host = omega arith
-sender-le Device = omega arith
+sender_le : (sender : Sender) → length (sender_text sender) ≤ 3
+sender_le Host = omega arith
+sender_le Device = omega arith
 
-pub mark-le : (number : ℕ) (x : Replayed) → length (mark_of number x) ≤ 48
+pub mark_le : (number : ℕ) (x : Replayed) → length (mark_of number x) ≤ 48
 unfolding mark_of
-mark-le number (BadLine r) = simp length-append (omega (arith, length-decimal 20 number))
-mark-le number (Piece elapsed sender version whole x) = simp length-append (omega (arith, length-decimal 20 number, field-le elapsed, sender-le sender))
+mark_le number (BadLine r) = simp length-append (omega (arith, length_decimal 20 number))
+mark_le number (Piece elapsed sender version whole x) = simp length-append (omega (arith, length_decimal 20 number, field_le elapsed, sender_le sender))
 
 -- ---- a word that a text agrees with is no longer than the text
 
-pub agreement-le : (s w : List ℕ) → agreement s w ≤ length s
+pub agreement_le : (s w : List ℕ) → agreement s w ≤ length s
 unfolding agreement
-agreement-le s [] = omega arith
-agreement-le [] (x ∷ w) = omega arith
-agreement-le (b ∷ s) (x ∷ w) = go (eqb b x) (agreement-le s w)
+agreement_le s [] = omega arith
+agreement_le [] (x ∷ w) = omega arith
+agreement_le (b ∷ s) (x ∷ w) = go (eqb b x) (agreement_le s w)
   where
     go : (t : Bool) → agreement s w ≤ length s → cond t (suc (agreement s w)) 0 ≤ suc (length s)
     go true h = omega arith
@@ -95,12 +95,12 @@ pub record Stored (s : List ℕ) (x y : List ℕ) (t : List ℕ) (n m : ℕ) : T
 pub stored : {s u t : List ℕ} {x y : List ℕ} {n m : ℕ} → Put s 0 x u n → Put u n y t m → length (x ++ y) ≤ length s → Stored s x y t n m
 stored {s} {u} {t} {x} {y} {n} {m} p q h =
     let l = length-append x y in
-    let a = put-over p (omega arith) in
-    let b = put-over (put_then p q) h in
-    let e : take m t ≡ x ++ y = ap (take m) b.1 ∙ take-over (x ++ y) s m (sym b.0) in
+    let a = put_over p (omega arith) in
+    let b = put_over (put_then p q) h in
+    let e : take m t ≡ x ++ y = ap (take m) b.1 ∙ take_over (x ++ y) s m (sym b.0) in
     record {
       all = b.1;
-      within = omega (arith, put-kept (put_then p q), b.0);
+      within = omega (arith, put_kept (put_then p q), b.0);
       ordered = omega (arith, a.0, b.0);
       first = ap (take n) e ∙ take_at x y n (sym a.0);
       second = ap (drop n) e ∙ drop_at x y n (sym a.0);
@@ -108,29 +108,29 @@ stored {s} {u} {t} {x} {y} {n} {m} p q h =
 
 -- ---- the payload at the front of the bytes that a step gave is the information of the message
 
-held-front : (x : Received) (information out : List ℕ) → Held x information out → Fronted x out
-held-front (received.Complete m n d) information out h = h.0
-held-front (received.Whole t k w) information out h = tt
-held-front (received.Pending t k d) information out h = tt
-held-front (received.Refused r) information out h = tt
+held_front : (x : Received) (information out : List ℕ) → Held x information out → Fronted x out
+held_front (received.Complete m n d) information out h = h.0
+held_front (received.Whole t k w) information out h = tt
+held_front (received.Pending t k d) information out h = tt
+held_front (received.Refused r) information out h = tt
 
-pub holds-front : (x : Replayed) (information out : List ℕ) → Holds x information out → FrontedIn x out
-holds-front (BadLine r) information out h = tt
-holds-front (Piece e s v w x) information out h = held-front x information out h
+pub holds_front : (x : Replayed) (information out : List ℕ) → Holds x information out → FrontedIn x out
+holds_front (BadLine r) information out h = tt
+holds_front (Piece e s v w x) information out h = held_front x information out h
 
-held-fields : (v : Version) (x : Received) (information out : List ℕ) → Held x information out → fields_in v (front_for x out) x ≡ fields_in v information x
+held_fields : (v : Version) (x : Received) (information out : List ℕ) → Held x information out → fields_in v (front_for x out) x ≡ fields_in v information x
 unfolding fields_in
-held-fields v (received.Complete m n d) information out h = ap (λ (s : List ℕ). fields_by v s (shown_of m)) h.1
-held-fields v (received.Whole t k w) information out h = refl
-held-fields v (received.Pending t k d) information out h = refl
-held-fields v (received.Refused r) information out h = refl
+held_fields v (received.Complete m n d) information out h = ap (λ (s : List ℕ). fields_by v s (shown_of m)) h.1
+held_fields v (received.Whole t k w) information out h = refl
+held_fields v (received.Pending t k d) information out h = refl
+held_fields v (received.Refused r) information out h = refl
 
-pub holds-fields : (x : Replayed) (information out : List ℕ) → Holds x information out → fields_of x (front_in x out) ≡ fields_of x information
+pub holds_fields : (x : Replayed) (information out : List ℕ) → Holds x information out → fields_of x (front_in x out) ≡ fields_of x information
 unfolding fields_of
-holds-fields (BadLine r) information out h = refl
-holds-fields (Piece e s v w x) information out h = held-fields v x information out h
+holds_fields (BadLine r) information out h = refl
+holds_fields (Piece e s v w x) information out h = held_fields v x information out h
 
-pub holds-answer : (number : ℕ) (x : Replayed) (information out : List ℕ) → Holds x information out → answer_text number x (front_in x out) ≡ answer_text number x information
+pub holds_answer : (number : ℕ) (x : Replayed) (information out : List ℕ) → Holds x information out → answer_text number x (front_in x out) ≡ answer_text number x information
 unfolding answer_text
-holds-answer number x information out h =
-    ap (λ (f : List ℕ). marked (mark_of number x) (head_of x) ++ marked (mark_of number x) (without_header f)) (holds-fields x information out h)
+holds_answer number x information out h =
+    ap (λ (f : List ℕ). marked (mark_of number x) (head_of x) ++ marked (mark_of number x) (without_header f)) (holds_fields x information out h)

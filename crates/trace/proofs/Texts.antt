@@ -9,14 +9,14 @@ use Rattle.trace_step.specs.Run.{run_of}
 use Rattle.trace.specs.Replay.{line_text, columns, answers_text}
 use Rattle.trace.specs.Claims.{lines_text, StartsEmpty, TextOfLines}
 
-pub starts-empty : StartsEmpty
+pub starts_empty : StartsEmpty
 unfolding empty
-starts-empty = refl
+starts_empty = refl
 
-lines-text : (number : ℕ) (s : State) (ls : List (List ℕ)) → answers_text number (run_of s ls).answers ≡ lines_text number s ls
+lines_text_lem : (number : ℕ) (s : State) (ls : List (List ℕ)) → answers_text number (run_of s ls).answers ≡ lines_text number s ls
 unfolding answers_text run_of lines_text
-lines-text number s [] = refl
-lines-text number s (l ∷ ls) = ap (λ (x : List ℕ). line_text number s l ++ x) (lines-text (number + 1) (step_of s l).state ls)
+lines_text_lem number s [] = refl
+lines_text_lem number s (l ∷ ls) = ap (λ (x : List ℕ). line_text number s l ++ x) (lines_text_lem (number + 1) (step_of s l).state ls)
 
-pub text-of-lines : TextOfLines
-text-of-lines lines = ap (λ (x : List ℕ). columns ++ x) (lines-text 1 start lines)
+pub text_of_lines : TextOfLines
+text_of_lines lines = ap (λ (x : List ℕ). columns ++ x) (lines_text_lem 1 start lines)

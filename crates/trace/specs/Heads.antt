@@ -2,7 +2,7 @@
 -- In this order: types; whole messages; pending and complete ones; what a message shows; any answer.
 use Rattle.std.specs.Prelude.{ℕ, Bool, cond, List, [], ◌++◌, eqb}
 use Rattle.ascii.specs.Ascii.{ascii}
-use Rattle.protocol.specs.MessageType.{OPEN, CLOSE, COMMAND, HOST-ERROR, OPEN-DONE, CLOSE-DONE, COMMAND-DONE, FUNCTION-ERROR}
+use Rattle.protocol.specs.MessageType.{OPEN, CLOSE, COMMAND, HOST_ERROR, OPEN_DONE, CLOSE_DONE, COMMAND_DONE, FUNCTION_ERROR}
 use Rattle.protocol.specs.Service.{id_bytes}
 use Rattle.protocol.specs.declared.Version.{Version}
 use Rattle.protocol.specs.declared.Version.TheVariants.{V1, V2}
@@ -28,11 +28,11 @@ type_name t =
     cond (eqb t OPEN) (ascii "\tOPEN\n")
     (cond (eqb t CLOSE) (ascii "\tCLOSE\n")
     (cond (eqb t COMMAND) (ascii "\tCOMMAND\n")
-    (cond (eqb t HOST-ERROR) (ascii "\tHOST_ERROR\n")
-    (cond (eqb t OPEN-DONE) (ascii "\tOPEN_DONE\n")
-    (cond (eqb t CLOSE-DONE) (ascii "\tCLOSE_DONE\n")
-    (cond (eqb t COMMAND-DONE) (ascii "\tCOMMAND_DONE\n")
-    (cond (eqb t FUNCTION-ERROR) (ascii "\tFUNCTION_ERROR\n") (ascii "\tINDICATE_STATUS\n"))))))))
+    (cond (eqb t HOST_ERROR) (ascii "\tHOST_ERROR\n")
+    (cond (eqb t OPEN_DONE) (ascii "\tOPEN_DONE\n")
+    (cond (eqb t CLOSE_DONE) (ascii "\tCLOSE_DONE\n")
+    (cond (eqb t COMMAND_DONE) (ascii "\tCOMMAND_DONE\n")
+    (cond (eqb t FUNCTION_ERROR) (ascii "\tFUNCTION_ERROR\n") (ascii "\tINDICATE_STATUS\n"))))))))
 
 unfoldable pub type_row : List ℕ → ℕ → List ℕ
 type_row name t = name ++ type_name t
@@ -43,7 +43,7 @@ unfoldable pub whole_word_row : ℕ → ℕ → List ℕ
 whole_word_row t word =
     cond (eqb t OPEN) (row (ascii "MaxControlTransfer") word)
     (cond (eqb t CLOSE) []
-    (cond (eqb t OPEN-DONE) (row (ascii "Status") word) (cond (eqb t CLOSE-DONE) (row (ascii "Status") word) (row (ascii "ErrorStatusCode") word))))
+    (cond (eqb t OPEN_DONE) (row (ascii "Status") word) (cond (eqb t CLOSE_DONE) (row (ascii "Status") word) (row (ascii "ErrorStatusCode") word))))
 
 unfoldable pub whole_rows : ℕ → ℕ → ℕ → List ℕ
 whole_rows t transaction word = type_row (ascii "whole") t ++ (row (ascii "TransactionId") transaction ++ whole_word_row t word)
@@ -58,7 +58,7 @@ fragment_rows name t transaction dropped = type_row name t ++ (dropped_row dropp
 
 -- a command's type or a reply's status
 unfoldable pub word_row : ℕ → ℕ → List ℕ
-word_row t word = cond (eqb t COMMAND) (row (ascii "CommandType") word) (cond (eqb t COMMAND-DONE) (row (ascii "Status") word) [])
+word_row t word = cond (eqb t COMMAND) (row (ascii "CommandType") word) (cond (eqb t COMMAND_DONE) (row (ascii "Status") word) [])
 
 unfoldable pub message_rows : MessageHeader → ℕ → Bool → List ℕ
 message_rows m n dropped =

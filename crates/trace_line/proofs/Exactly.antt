@@ -9,9 +9,9 @@ use lib.ListN.{length, drop}
 use lib.Seq.{get_or-append_seam, get_or-append-add, drop-append-add}
 use Rattle.ascii.specs.Ascii.{tab, line_feed, value_from}
 use Rattle.text_parts.specs.Parts.{Longest}
-use Rattle.text_parts.proofs.Parts.{longest-one}
-use Rattle.text_parts.proofs.Decimals.{number-found}
-use Rattle.text_parts.proofs.Ends.{end-found}
+use Rattle.text_parts.proofs.Parts.{longest_one}
+use Rattle.text_parts.proofs.Decimals.{number_found}
+use Rattle.text_parts.proofs.Ends.{end_found}
 use Rattle.trace_line.specs.declared.Sender.{Sender}
 use Rattle.trace_line.specs.declared.Sender.TheVariants.{Host, Device}
 use Rattle.trace_line.specs.declared.LineRead.{LineRead}
@@ -19,60 +19,60 @@ use Rattle.trace_line.specs.declared.LineRead.TheVariants.{Line, BadLine}
 use Rattle.trace_line.specs.Good.{letter, most_decimal, largest, most_digits, GoodParts, text_of, Good, GoodWith}
 use Rattle.trace_line.specs.TraceLine.{sender_of, counter_of, line_by, bytes_from, sender_from, line_of}
 use Rattle.trace_line.specs.Claims.{AcceptedExactly, BadExactly}
-use Rattle.trace_line.proofs.Rows.{sender-letter, line-right}
+use Rattle.trace_line.proofs.Rows.{sender_letter, line_right}
 
 -- ---- the parts of a good line are found
 
-sender-of-letter : (x : Sender) → sender_of (letter x) ≡ x
-sender-of-letter Host = refl
-sender-of-letter Device = refl
+sender_of_letter : (x : Sender) → sender_of (letter x) ≡ x
+sender_of_letter Host = refl
+sender_of_letter Device = refl
 
 module _ (d : List ℕ) (x : Sender) (h : List ℕ) (p : GoodParts d h) where
-  counter-found : counter_of (text_of d x h) ≡ record { digits = length d; value = value_from 0 d }
-  counter-found = number-found most_decimal largest d tab (letter x ∷ tab ∷ (h ++ (line_feed ∷ []))) p.counter refl
+  counter_found : counter_of (text_of d x h) ≡ record { digits = length d; value = value_from 0 d }
+  counter_found = number_found most_decimal largest d tab (letter x ∷ tab ∷ (h ++ (line_feed ∷ []))) p.counter refl
 
   rest : drop (length d + 3) (text_of d x h) ≡ h ++ (line_feed ∷ [])
   rest = drop-append-add d (tab ∷ letter x ∷ tab ∷ (h ++ (line_feed ∷ []))) 3
 
-  bytes-found : (counter : ℕ) → bytes_from (text_of d x h) counter x (length d + 3) ≡ Line counter x (length d + 3) (length h)
+  bytes_found : (counter : ℕ) → bytes_from (text_of d x h) counter x (length d + 3) ≡ Line counter x (length d + 3) (length h)
   unfolding bytes_from
-  bytes-found counter = ap (line_by counter x (length d + 3)) (end-found most_digits h p.bytes (text_of d x h) (length d + 3) rest)
+  bytes_found counter = ap (line_by counter x (length d + 3)) (end_found most_digits h p.bytes (text_of d x h) (length d + 3) rest)
 
-  line-found : line_of (text_of d x h) ≡ Line (value_from 0 d) x (length d + 3) (length h)
+  line_found : line_of (text_of d x h) ≡ Line (value_from 0 d) x (length d + 3) (length h)
   unfolding line_of sender_from
-  line-found =
+  line_found =
       let e : length d + 1 + 2 ≡ length d + 3 = omega arith in
       let k : length d + 1 + 1 ≡ length d + 2 = omega arith in
       let u = tab ∷ letter x ∷ tab ∷ (h ++ (line_feed ∷ [])) in
-      rw (counter-found, lt-ltb 0 (length d) p.counter.some, get_or-append_seam d tab (letter x ∷ tab ∷ (h ++ (line_feed ∷ []))) 0, get_or-append-add d u 1 0, sender-letter x, k, get_or-append-add d u 2 0, sender-of-letter x, e) (bytes-found (value_from 0 d))
+      rw (counter_found, lt-ltb 0 (length d) p.counter.some, get_or-append_seam d tab (letter x ∷ tab ∷ (h ++ (line_feed ∷ []))) 0, get_or-append-add d u 1 0, sender_letter x, k, get_or-append-add d u 2 0, sender_of_letter x, e) (bytes_found (value_from 0 d))
 
 -- ---- the claims
 
 -- (1) accepted exactly: the answer is a line with these parts where the text is a good line with these parts, and nowhere else
 pub accepted : (s : List ℕ) (counter : ℕ) (x : Sender) (from n : ℕ) → line_of s ≡ Line counter x from n → GoodWith s counter x from n
 accepted s counter x from n e =
-    let g : Good s = rw e at (line-right s) in
+    let g : Good s = rw e at (line_right s) in
     let f : Line counter x from n ≡ Line (value_from 0 g.0) g.1 (length g.0 + 3) (length g.2) =
-    sym e ∙ ap line_of g.4 ∙ line-found g.0 g.1 g.2 g.3 in
+    sym e ∙ ap line_of g.4 ∙ line_found g.0 g.1 g.2 g.3 in
     let same : g.1 ≡ x = cc in
     (g.0, g.2, g.3, rw same at g.4, cc, cc, cc)
 
 pub acceptable : (s : List ℕ) (counter : ℕ) (x : Sender) (from n : ℕ) → GoodWith s counter x from n → line_of s ≡ Line counter x from n
-acceptable s counter x from n g = rw (g.3, g.4, g.5, g.6) (line-found g.0 x g.1 g.2)
+acceptable s counter x from n g = rw (g.3, g.4, g.5, g.6) (line_found g.0 x g.1 g.2)
 
-pub accepted-exactly : AcceptedExactly
-accepted-exactly s counter x from n = (accepted s counter x from n, acceptable s counter x from n)
+pub accepted_exactly : AcceptedExactly
+accepted_exactly s counter x from n = (accepted s counter x from n, acceptable s counter x from n)
 
 -- (2) the column: the first c bytes begin a good line and no more do, and the text is not a good line itself
-pub bad-column : (s : List ℕ) (c : ℕ) → line_of s ≡ BadLine c → Longest Good s c × (Good s → ⊥)
-bad-column s c e = rw e at (line-right s)
+pub bad_column : (s : List ℕ) (c : ℕ) → line_of s ≡ BadLine c → Longest Good s c × (Good s → ⊥)
+bad_column s c e = rw e at (line_right s)
 
-pub column-bad : (s : List ℕ) (c : ℕ) → Longest Good s c → (Good s → ⊥) → line_of s ≡ BadLine c
-column-bad s c p never = go (line_of s) refl
+pub column_bad : (s : List ℕ) (c : ℕ) → Longest Good s c → (Good s → ⊥) → line_of s ≡ BadLine c
+column_bad s c p never = go (line_of s) refl
   where
     go : (r : LineRead) → line_of s ≡ r → r ≡ BadLine c
-    go (Line counter x from n) e = absurd (never (rw e at (line-right s)))
-    go (BadLine d) e = ap BadLine (longest-one Good s d c (bad-column s d e).0 p)
+    go (Line counter x from n) e = absurd (never (rw e at (line_right s)))
+    go (BadLine d) e = ap BadLine (longest_one Good s d c (bad_column s d e).0 p)
 
-pub bad-exactly : BadExactly
-bad-exactly s c = (bad-column s c, λ h. column-bad s c h.0 h.1)
+pub bad_exactly : BadExactly
+bad_exactly s c = (bad_column s c, λ h. column_bad s c h.0 h.1)

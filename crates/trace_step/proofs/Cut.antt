@@ -2,22 +2,22 @@
 -- Assumes nothing.
 use Rattle.std.proofs.Common.{◌≡◌, ℕ, ◌/◌, List, take, refl, ap, ◌∙◌, arith, length-take}
 use Rattle.ascii.specs.Ascii.{unhexed}
-use Rattle.text_parts.proofs.Cut.{part-front}
+use Rattle.text_parts.proofs.Cut.{part_front}
 use Rattle.trace_line.specs.TraceLine.{line_of}
 use Rattle.trace_line.specs.declared.LineRead.{LineRead}
 use Rattle.trace_line.specs.declared.LineRead.TheVariants as line
-use Rattle.trace_line.proofs.Cut.{line-cut}
+use Rattle.trace_line.proofs.Cut.{line_cut}
 use Rattle.trace_step.specs.Step.{State, piece_step, step_by, step_of}
 use Rattle.trace_step.specs.Run.{StepCut}
 use Rattle.trace_step.proofs.Laws.{within}
 
-step-front : (n : ℕ) (s : State) (text : List ℕ) (r : LineRead) → line_of (take n text) ≡ r → step_by s (take n text) r ≡ step_by s text r
+step_front : (n : ℕ) (s : State) (text : List ℕ) (r : LineRead) → line_of (take n text) ≡ r → step_by s (take n text) r ≡ step_by s text r
 unfolding step_by
-step-front n s text (line.BadLine c) e = refl
-step-front n s text (line.Line counter sender from m) e =
+step_front n s text (line.BadLine c) e = refl
+step_front n s text (line.Line counter sender from m) e =
     let w = within (take n text) counter sender from m e in
-    ap (λ (x : List ℕ). piece_step s counter sender (unhexed (m / 2) x)) (part-front from m n text (omega (arith, w.ends, length-take n text)))
+    ap (λ (x : List ℕ). piece_step s counter sender (unhexed (m / 2) x)) (part_front from m n text (omega (arith, w.ends, length-take n text)))
 
 pub step_cut : StepCut
 unfolding step_of
-step_cut n s text h = step-front n s text (line_of (take n text)) refl ∙ ap (step_by s text) (line-cut n text h)
+step_cut n s text h = step_front n s text (line_of (take n text)) refl ∙ ap (step_by s text) (line_cut n text h)

@@ -2,7 +2,7 @@
 -- Assumes nothing.
 use Rattle.std.proofs.Common.{◌≡◌, ℕ, ◌+◌, ◌≤◌, List, [], ◌∷◌, ◌++◌, length, drop, refl, ap, arith, length-append, length-drop}
 use Rattle.wire.specs.Output.{over}
-use Rattle.wire.proofs.Laws.{take-over}
+use Rattle.wire.proofs.Laws.{take_over}
 use Rattle.ascii.specs.Ascii.{tab, line_feed}
 use Rattle.protocol.specs.declared.Version.{Version}
 use Rattle.assembler.specs.declared.Assembly.{Assembly}
@@ -27,7 +27,7 @@ fronted (received.Pending t x d) information out h = tt
 fronted (received.Refused r) information out h = tt
 
 pub held : (x : Received) (information out : List ℕ) → Delivered x information (length out) → Held x information (over information out)
-held (received.Complete m n d) information out h = (fronted (received.Complete m n d) information out h, take-over information out n h.0)
+held (received.Complete m n d) information out h = (fronted (received.Complete m n d) information out h, take_over information out n h.0)
 held (received.Whole t x w) information out h = tt
 held (received.Pending t x d) information out h = tt
 held (received.Refused r) information out h = tt
@@ -36,16 +36,16 @@ pub same_version : (sender : Sender) (v : Version) (x : Received) (information o
     → version_after sender v x (front_for x (over information out)) ≡ version_after sender v x information
 unfolding version_from
 same_version sender v (received.Complete m n d) information out h =
-    ap (λ (s : List ℕ). version_after sender v (received.Complete m n d) s) (take-over information out n h.0)
+    ap (λ (s : List ℕ). version_after sender v (received.Complete m n d) s) (take_over information out n h.0)
 same_version sender v (received.Whole t x w) information out h = refl
 same_version sender v (received.Pending t x d) information out h = refl
 same_version sender v (received.Refused r) information out h = refl
 
 -- ---- of two assemblies the progress of the one for the sender
 
-pub chosen-progress : (sender : Sender) (a b : Assembly) → by_sender sender a.progress b.progress ≡ (by_sender sender a b).progress
-chosen-progress Host a b = refl
-chosen-progress Device a b = refl
+pub chosen_progress : (sender : Sender) (a b : Assembly) → by_sender sender a.progress b.progress ≡ (by_sender sender a b).progress
+chosen_progress Host a b = refl
+chosen_progress Device a b = refl
 
 -- ---- the digits of a good line
 

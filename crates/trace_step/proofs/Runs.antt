@@ -14,10 +14,10 @@ use Rattle.trace_step.specs.Run.{Answered, answered_of, run_of, good_lines, good
 
 -- ---- bad lines
 
-bad-answers : (s : State) (ls : List (List ℕ)) → good_answers (run_of s ls).answers ≡ (run_of s (good_lines ls)).answers
+bad_answers : (s : State) (ls : List (List ℕ)) → good_answers (run_of s ls).answers ≡ (run_of s (good_lines ls)).answers
 unfolding run_of good_answers good_lines step_of step_by piece_step
-bad-answers s [] = refl
-bad-answers s (l ∷ ls) = go (line_of l) refl (bad-answers s ls) (λ t. bad-answers t ls)
+bad_answers s [] = refl
+bad_answers s (l ∷ ls) = go (line_of l) refl (bad_answers s ls) (λ t. bad_answers t ls)
   where
     go : (r : LineRead) → line_of l ≡ r → good_answers (run_of s ls).answers ≡ (run_of s (good_lines ls)).answers
         → ((t : State) → good_answers (run_of t ls).answers ≡ (run_of t (good_lines ls)).answers)
@@ -25,10 +25,10 @@ bad-answers s (l ∷ ls) = go (line_of l) refl (bad-answers s ls) (λ t. bad-ans
     go (line.BadLine c) e h k = rw e h
     go (line.Line counter sender from n) e h k = rw (e, e) (ap (λ (x : List Answered). answered_of (step_by s l (line.Line counter sender from n)) ∷ x) (k (step_by s l (line.Line counter sender from n)).state))
 
-bad-end : (s : State) (ls : List (List ℕ)) → (run_of s ls).end ≡ (run_of s (good_lines ls)).end
+bad_end : (s : State) (ls : List (List ℕ)) → (run_of s ls).end ≡ (run_of s (good_lines ls)).end
 unfolding run_of good_lines step_of step_by
-bad-end s [] = refl
-bad-end s (l ∷ ls) = go (line_of l) refl (bad-end s ls) (λ t. bad-end t ls)
+bad_end s [] = refl
+bad_end s (l ∷ ls) = go (line_of l) refl (bad_end s ls) (λ t. bad_end t ls)
   where
     go : (r : LineRead) → line_of l ≡ r → (run_of s ls).end ≡ (run_of s (good_lines ls)).end → ((t : State) → (run_of t ls).end ≡ (run_of t (good_lines ls)).end)
         → (run_of s (l ∷ ls)).end ≡ (run_of s (good_lines (l ∷ ls))).end
@@ -55,10 +55,10 @@ apart who s (l ∷ ls) = go who (line_of l) refl (λ t. apart who t ls)
 
 -- ---- elapsed milliseconds
 
-elapsed-steps : (s : State) (ls : List (List ℕ)) → elapsed_in (run_of s ls).answers ≡ steps_from s.previous (counters_of ls)
+elapsed_steps : (s : State) (ls : List (List ℕ)) → elapsed_in (run_of s ls).answers ≡ steps_from s.previous (counters_of ls)
 unfolding run_of elapsed_in counters_of steps_from step_of step_by piece_step
-elapsed-steps s [] = refl
-elapsed-steps s (l ∷ ls) = go (line_of l) refl (λ t. elapsed-steps t ls)
+elapsed_steps s [] = refl
+elapsed_steps s (l ∷ ls) = go (line_of l) refl (λ t. elapsed_steps t ls)
   where
     go : (r : LineRead) → line_of l ≡ r → ((t : State) → elapsed_in (run_of t ls).answers ≡ steps_from t.previous (counters_of ls))
         → elapsed_in (run_of s (l ∷ ls)).answers ≡ steps_from s.previous (counters_of (l ∷ ls))
@@ -78,12 +78,12 @@ versions s (l ∷ ls) = go (line_of l) refl (λ t. versions t ls)
     go (line.Line counter Host from n) e k = rw e (k (step_by s l (line.Line counter Host from n)).state)
     go (line.Line counter Device from n) e k = rw e (k (step_by s l (line.Line counter Device from n)).state)
 
-pub whole-traces : WholeTraces
+pub whole_traces : WholeTraces
 unfolding Apart
-whole-traces s ls = record {
-  answers = bad-answers s ls;
-  end = bad-end s ls;
+whole_traces s ls = record {
+  answers = bad_answers s ls;
+  end = bad_end s ls;
   apart = λ who. apart who s ls;
-  elapsed = elapsed-steps s ls;
+  elapsed = elapsed_steps s ls;
   version = versions s ls;
 }

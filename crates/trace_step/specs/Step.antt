@@ -5,7 +5,7 @@ use Rattle.std.specs.Prelude.{◌≡◌, ℕ, ◌+◌, ◌-◌, ◌/◌, ◌%◌
 use Rattle.wire.specs.Output.{over}
 use Rattle.ascii.specs.Ascii.{unhexed}
 use Rattle.protocol.specs.Refusal.{refusal, bad_line}
-use Rattle.protocol.specs.MessageType.{COMMAND-DONE}
+use Rattle.protocol.specs.MessageType.{COMMAND_DONE}
 use Rattle.protocol.specs.Status.{success}
 use Rattle.protocol.specs.Service.{extensions, id_at, same_id}
 use Rattle.protocol.specs.declared.Version.{Version}
@@ -71,7 +71,7 @@ elapsed_of (Counter previous) counter = (counter + (2 ^ 32 - previous)) % 2 ^ 32
 -- a reply to VERSION of status 0
 unfoldable pub is_version_reply : MessageHeader → Bool
 is_version_reply m =
-    (m.message_type == COMMAND-DONE) && (m.word == success && (same_id m.service (id_at extensions 0) && m.cid == 15))
+    (m.message_type == COMMAND_DONE) && (m.word == success && (same_id m.service (id_at extensions 0) && m.cid == 15))
 
 abbrev pub version_by : Version → VersionInfoRead → Version
 version_by v (Info i) = version_of i.bcd_mbim_extended_version

@@ -12,28 +12,28 @@ use lib.ListN.{length}
 use Rattle.protocol.specs.Verdict.{Kept, judge, first_of, exact_length}
 use Rattle.protocol.specs.declared.Verdict.{Verdict}
 use Rattle.protocol.specs.declared.Verdict.TheVariants.{Fits, Fault}
-use Rattle.protocol.proofs.Tests.{or_cases, cases-or, not-kept, kept-not, equal-kept, kept-equal}
-use Rattle.protocol.proofs.Verdicts.{fits_kept, kept-fits, then-kept, kept_then, exact-length, length-exact, written_both, both-written}
+use Rattle.protocol.proofs.Tests.{or_cases, cases_or, not_kept, kept_not, equal_kept, kept_equal}
+use Rattle.protocol.proofs.Verdicts.{fits_kept, kept_fits, then_kept, kept_then, exact_length_lem, length_exact, written_both, both_written}
 use Rattle.version_info.specs.declared.VersionInfo.{VersionInfo}
 use Rattle.version_info.specs.declared.VersionInfoRead.TheVariants.{Info}
 use Rattle.version_info.specs.VersionInfo.{is_extension, record_at, rules, verdict_of, shown, read_of, bytes_of, write_of}
 use Rattle.version_info.specs.Claims.{InfoFits, Acceptable, Accepted, AcceptedExactly, WrittenExactly}
 
-info-said : (i : VersionInfo) → Kept (rules i) → InfoFits i
+info_said : (i : VersionInfo) → Kept (rules i) → InfoFits i
 unfolding rules
-info-said i k =
+info_said i k =
     let x = i.bcd_mbim_extended_version in
     record {
-      mbim = equal-kept i.bcd_mbim_version 0x0100 k.0;
-      extension = ⊎_map (eqb-true x 0x0100) (eqb-true x 0x0200) (or_cases (eqb x 0x0100) (eqb x 0x0200) (not-kept (is_extension x) k.1.0));
+      mbim = equal_kept i.bcd_mbim_version 0x0100 k.0;
+      extension = ⊎_map (eqb-true x 0x0100) (eqb-true x 0x0200) (or_cases (eqb x 0x0100) (eqb x 0x0200) (not_kept (is_extension x) k.1.0));
     }
 
-said-info : (i : VersionInfo) → InfoFits i → Kept (rules i)
+said_info : (i : VersionInfo) → InfoFits i → Kept (rules i)
 unfolding rules
-said-info i f =
+said_info i f =
     let x = i.bcd_mbim_extended_version in (
-      kept-equal i.bcd_mbim_version 0x0100 f.mbim,
-      (kept-not (is_extension x) (cases-or (eqb x 0x0100) (eqb x 0x0200) (⊎_map (eq-eqb x 0x0100) (eq-eqb x 0x0200) f.extension)), tt),
+      kept_equal i.bcd_mbim_version 0x0100 f.mbim,
+      (kept_not (is_extension x) (cases_or (eqb x 0x0100) (eqb x 0x0200) (⊎_map (eq-eqb x 0x0100) (eq-eqb x 0x0200) f.extension)), tt),
     )
 
 shows : (d : Verdict) (i j : VersionInfo) → shown d i ≡ Info j → (d ≡ Fits) × (i ≡ j)
@@ -45,24 +45,24 @@ pub accepted : Accepted
 unfolding read_of verdict_of
 accepted s i e =
     let d = shows _ (record_at s) i e in
-    let k = then-kept (exact_length 4 (length s)) (rules (record_at s)) d.0 in
-    (record { long = exact-length 4 (length s) k.0; info = info-said (record_at s) k.1 }, sym d.1)
+    let k = then_kept (exact_length 4 (length s)) (rules (record_at s)) d.0 in
+    (record { long = exact_length_lem 4 (length s) k.0; info = info_said (record_at s) k.1 }, sym d.1)
 
 pub acceptable : (s : List ℕ) → Acceptable s → read_of s ≡ Info (record_at s)
 unfolding read_of verdict_of
 acceptable s a =
     let f : first_of (exact_length 4 (length s)) (judge (rules (record_at s))) ≡ Fits =
-    kept_then (exact_length 4 (length s)) (rules (record_at s)) (length-exact 4 (length s) a.long) (said-info (record_at s) a.info) in
+    kept_then (exact_length 4 (length s)) (rules (record_at s)) (length_exact 4 (length s) a.long) (said_info (record_at s) a.info) in
     rw f
 
-pub accepted-exactly : AcceptedExactly
-accepted-exactly s = (λ e. (accepted s (record_at s) e).0, acceptable s)
+pub accepted_exactly : AcceptedExactly
+accepted_exactly s = (λ e. (accepted s (record_at s) e).0, acceptable s)
 
 -- ---- written exactly when the numbers are in their tables and there is room
 
-pub written-exactly : WrittenExactly
+pub written_exactly : WrittenExactly
 unfolding write_of verdict_of bytes_of
-written-exactly i s = (
-  λ e. let w = written_both (judge (rules i)) (bytes_of i) s 4 e in (info-said i (fits_kept (rules i) w.0), w.1),
-  λ w. both-written (judge (rules i)) (bytes_of i) s (kept-fits (rules i) (said-info i w.0)) w.1,
+written_exactly i s = (
+  λ e. let w = written_both (judge (rules i)) (bytes_of i) s 4 e in (info_said i (fits_kept (rules i) w.0), w.1),
+  λ w. both_written (judge (rules i)) (bytes_of i) s (kept_fits (rules i) (said_info i w.0)) w.1,
 )

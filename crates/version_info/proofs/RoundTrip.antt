@@ -9,11 +9,11 @@ use native.Mathlib.Omega.{arith}
 use borrow.Author.Tests.{eqb-true}
 use lib.Dec.{eqb}
 use Rattle.wire.specs.Numbers.{u16_at}
-use Rattle.wire.proofs.Laws.{num-digits}
+use Rattle.wire.proofs.Laws.{num_digits}
 use Rattle.protocol.specs.Verdict.{first_of}
 use Rattle.protocol.specs.declared.Verdict.TheVariants.{Fits}
-use Rattle.protocol.proofs.Tests.{or_cases, not-kept, equal-kept}
-use Rattle.protocol.proofs.Verdicts.{fits_kept, length-exact, written-fits, written-front}
+use Rattle.protocol.proofs.Tests.{or_cases, not_kept, equal_kept}
+use Rattle.protocol.proofs.Verdicts.{fits_kept, length_exact, written_fits, written_front}
 use Rattle.version_info.specs.declared.VersionInfo.{VersionInfo}
 use Rattle.version_info.specs.declared.VersionInfoRead.TheVariants.{Info}
 use Rattle.version_info.specs.VersionInfo.{is_extension, record_at, rules, verdict_of, read_of, bytes_of, write_of}
@@ -24,23 +24,23 @@ small : (n : ℕ) → (eqb n 0x0100 ≡ true) ⊎ (eqb n 0x0200 ≡ true) → n 
 small n (inl e) = omega (arith, eqb-true n 0x0100 e)
 small n (inr e) = omega (arith, eqb-true n 0x0200 e)
 
-record-back : (i : VersionInfo) → verdict_of i ≡ Fits → record_at (bytes_of i) ≡ i
+record_back : (i : VersionInfo) → verdict_of i ≡ Fits → record_at (bytes_of i) ≡ i
 unfolding verdict_of rules record_at u16_at bytes_of
-record-back i e =
+record_back i e =
     let k = fits_kept (rules i) e in
-    let m : i.bcd_mbim_version < 65536 = omega (arith, equal-kept i.bcd_mbim_version 0x0100 k.0) in
-    let x = small i.bcd_mbim_extended_version (or_cases (eqb i.bcd_mbim_extended_version 0x0100) (eqb i.bcd_mbim_extended_version 0x0200) (not-kept (is_extension i.bcd_mbim_extended_version) k.1.0)) in
+    let m : i.bcd_mbim_version < 65536 = omega (arith, equal_kept i.bcd_mbim_version 0x0100 k.0) in
+    let x = small i.bcd_mbim_extended_version (or_cases (eqb i.bcd_mbim_extended_version 0x0100) (eqb i.bcd_mbim_extended_version 0x0200) (not_kept (is_extension i.bcd_mbim_extended_version) k.1.0)) in
     λ j. record {
-      bcd_mbim_version = num-digits 2 i.bcd_mbim_version [] m j;
-      bcd_mbim_extended_version = num-digits 2 i.bcd_mbim_extended_version [] x j;
+      bcd_mbim_version = num_digits 2 i.bcd_mbim_version [] m j;
+      bcd_mbim_extended_version = num_digits 2 i.bcd_mbim_extended_version [] x j;
     }
 
 -- the bytes of a record that fits show the record
 pub bytes_read : (i : VersionInfo) → verdict_of i ≡ Fits → read_of (bytes_of i) ≡ Info i
 unfolding read_of first_of bytes_of
-bytes_read i e = rw (record-back i e, length-exact 4 4 refl, e)
+bytes_read i e = rw (record_back i e, length_exact 4 4 refl, e)
 
 -- what the writer puts into an output shows the record
 pub round_trip : RoundTrip
 unfolding write_of
-round_trip i s n e = rw (written-front (verdict_of i) (bytes_of i) s n e) (bytes_read i (written-fits (verdict_of i) (bytes_of i) s n e))
+round_trip i s n e = rw (written_front (verdict_of i) (bytes_of i) s n e) (bytes_read i (written_fits (verdict_of i) (bytes_of i) s n e))

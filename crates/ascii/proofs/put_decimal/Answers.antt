@@ -4,7 +4,7 @@ use Prim.Native.Nat.{◌-◌}
 use native.Mathlib.Omega.{arith}
 use lib.ListN.{length, take, drop}
 use lib.Seq.{sets}
-use Rattle.wire.proofs.Laws.{fitted-all, take_rest}
+use Rattle.wire.proofs.Laws.{fitted_all, take_rest}
 use Rattle.ascii.specs.Ascii.{decimal}
 use Rattle.ascii.proofs.put_decimal.Goals as goal
 
@@ -20,4 +20,4 @@ returns c =
     let f = c.digits_of-digits.result.from in
     let t : take (length b - f) (drop f b) ≡ decimal c.args.n =
     take_rest f b ∙ c.digits_of-digits.ensures.0 in
-    record { value = ap length t; out_after = c.put_run.ensures ∙ ap (sets c.args.out.now c.args.at) (fitted-all (take (length b - f) (drop f b)) ∙ t) }
+    record { value = ap length t; out_after = c.put_run.ensures ∙ ap (sets c.args.out.now c.args.at) (fitted_all (take (length b - f) (drop f b)) ∙ t) }

@@ -4,7 +4,7 @@ use native.Mathlib.Nat.{le_antisymm}
 use lib.ListN.{length}
 use lib.Seq.{sets, length-sets}
 use Rattle.ascii.specs.Ascii.{unhexed}
-use Rattle.ascii.proofs.Laws.{unhex-more}
+use Rattle.ascii.proofs.Laws.{unhex_more}
 use Rattle.std.proofs.Common.{rules}
 use Rattle.ascii.proofs.unhex.Goals as goal
 
@@ -13,7 +13,7 @@ unfolding unhexed
 loop-i-init c = (search rules, refl)
 
 pub loop-i-preserved : goal.loop-i-preserved
-loop-i-preserved c = (search rules, unhex-more c.loop-i.i c.args.s.now c.args.out.now c.loop-i.invariant.1 (rw (← c.byte_at.ensures) c.hex_value-high.ensures) (rw (← c.byte_at-in-loop-i.ensures) c.hex_value-low.ensures) c.put_byte.ensures)
+loop-i-preserved c = (search rules, unhex_more c.loop-i.i c.args.s.now c.args.out.now c.loop-i.invariant.1 (rw (← c.byte_at.ensures) c.hex_value-high.ensures) (rw (← c.byte_at-in-loop-i.ensures) c.hex_value-low.ensures) c.put_byte.ensures)
 
 pub shape_of-out : goal.shape_of-out
 shape_of-out c = ap length c.loop-i.invariant.1 ∙ length-sets c.args.out.now 0 (unhexed c.loop-i.i c.args.s.now)

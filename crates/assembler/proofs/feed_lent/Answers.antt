@@ -5,8 +5,8 @@ use Rattle.wire.specs.Output.{over}
 use native.Mathlib.Omega.{arith}
 use lib.ListN.{length, take, length-take}
 use Rattle.assembler.specs.Assembly.{assembly_of, lent_step_of}
-use Rattle.assembler.proofs.Laws.{front-over}
-use Rattle.assembler.proofs.Left.{left-whole}
+use Rattle.assembler.proofs.Laws.{front_over}
+use Rattle.assembler.proofs.Left.{left_whole}
 use Rattle.assembler.proofs.feed_lent.Goals as goal
 
 pub returns-then-bytes-lt-MOST_INFORMATION : goal.returns-then-bytes-lt-MOST_INFORMATION
@@ -27,4 +27,4 @@ returns c =
     let f = c.feed_whole.ensures in
     let whole : length (take 4096 s) ≡ 4096 = simp length-take (omega arith) in
     rw (le-ltb _ _ c.if-bytes-lt-MOST_INFORMATION.false)
-    (record { value = f.value; bytes_after = front-over _ s f.bytes_after (left-whole (assembly_of c.args.progress (take 4096 s)) c.args.piece.now (length c.args.out.now) whole); out_after = f.out_after })
+    (record { value = f.value; bytes_after = front_over _ s f.bytes_after (left_whole (assembly_of c.args.progress (take 4096 s)) c.args.piece.now (length c.args.out.now) whole); out_after = f.out_after })

@@ -1,11 +1,11 @@
 -- By the judgement of the fragment.
 use mathlib.Core.Path.{sym, ◌∙◌}
-use Rattle.message.proofs.Headers.{later-accepted}
+use Rattle.message.proofs.Headers.{later_accepted}
 use Rattle.assembler.specs.Assembly.{judged_by, judged_of}
 use Rattle.assembler.proofs.judge_piece.Goals as goal
 
 pub join-requires : goal.join-requires
-join-requires c = let h = later-accepted _ _ (sym c.judge_fragment.ensures ∙ c.in-Later.is) in (h.long, h.short, h.within)
+join-requires c = let h = later_accepted _ _ (sym c.judge_fragment.ensures ∙ c.in-Later.is) in (h.long, h.short, h.within)
 
 pub returns-in-Refused : goal.returns-in-Refused
 unfolding judged_of judged_by

@@ -3,13 +3,13 @@ use Rattle.std.proofs.Common.{length, sym, refl, ◌∙◌, ltb-false}
 use Rattle.protocol.specs.Verdict.{with_room, first_of}
 use Rattle.protocol.proofs.Verdicts.{fits_kept}
 use Rattle.cutter.specs.Cut.{message_rules, cut_by, cut_after, cut_of}
-use Rattle.cutter.proofs.Whole.{size-right}
+use Rattle.cutter.proofs.Whole.{size_right}
 use Rattle.cutter.proofs.cut.Goals as goal
 
 pub cut_fitting-requires : goal.cut_fitting-requires
 cut_fitting-requires c =
     let k = fits_kept (message_rules c.args.message c.args.size (length c.args.information.now)) (sym c.judge_message.ensures ∙ c.in-Fits.is) in
-    let z = size-right c.args.size k.0 in
+    let z = size_right c.args.size k.0 in
     (z.0, z.1, ltb-false _ _ k.1.1.1.1.0)
 
 pub returns-in-Fits : goal.returns-in-Fits

@@ -1,5 +1,5 @@
 use Rattle.std.proofs.Common.{arith, length-drop, length-take}
-use Rattle.cutter.proofs.Stored.{stored-length}
+use Rattle.cutter.proofs.Stored.{stored_length}
 use Rattle.cutter.proofs.Later.{begin, room, turn, finish}
 use Rattle.cutter.proofs.put_later.Goals as goal
 
@@ -35,7 +35,7 @@ pub loop-number-preserved : goal.loop-number-preserved
 loop-number-preserved c = turn _ _ _ _ _ _ _ c.least-amount.result c.requires.from_in_bounds.1 c.loop-number.invariant c.loop-number-test.true c.least-amount.ensures c.put_fragment.ensures
 
 pub shape_of-out : goal.shape_of-out
-shape_of-out c = let a = c.args in stored-length a.out.now a.at c.loop-number.invariant.w c.loop-number.invariant.is
+shape_of-out c = let a = c.args in stored_length a.out.now a.at c.loop-number.invariant.w c.loop-number.invariant.is
 
 pub returns : goal.returns
 returns c = finish _ _ _ _ _ _ _ c.loop-number.invariant c.loop-number-test.false

@@ -8,7 +8,7 @@ use Rattle.exchange.specs.Messages.{OfWidth, parts}
 use Rattle.exchange.specs.Collected.{Collected, before, collected}
 use Rattle.exchange.specs.Pass.{pass_by, pass_of}
 use Rattle.exchange.proofs.Sent.{sent}
-use Rattle.exchange.proofs.Delivered.{passed-empty}
+use Rattle.exchange.proofs.Delivered.{passed_empty}
 use Rattle.exchange.proofs.pass.Goals as goal
 
 pub slice_bounds-feed_parts-end : goal.slice_bounds-feed_parts-end
@@ -36,7 +36,7 @@ returns-in-Fragments c =
       cid32 = omega (arith, c.well_formed);
       word32 = omega (arith, c.well_formed);
     } in
-    let e = passed-empty a.message a.size a.information.now a.stream.now _ _ (record { width = width; accepted = sym c.cut.ensures.value ∙ c.in-Fragments.is }) a.out.now in
+    let e = passed_empty a.message a.size a.information.now a.stream.now _ _ (record { width = width; accepted = sym c.cut.ensures.value ∙ c.in-Fragments.is }) a.out.now in
     let g : collected (before c.none-none.result zeros a.out.now) (parts c.in-Fragments.count a.size (take c.in-Fragments.length c.cut.new.out)) ≡ _ =
     (λ i. collected (before (c.none-none.ensures i) zeros a.out.now) (parts c.in-Fragments.count a.size (take c.in-Fragments.length (c.cut.ensures.out_after i)))) ∙ e in
     let f = c.feed_parts-fed.ensures in

@@ -7,7 +7,7 @@ use Rattle.folds.specs.Folds.{joined}
 use Rattle.pin_entry.specs.Meaning.{start_row_at, started}
 use Rattle.pin_entry.proofs.Effects.{filled_at}
 use Rattle.lent_pins.specs.LentPins.{row_bytes_at, table_bytes}
-use Rattle.lent_pins.proofs.Places.{row-stored}
+use Rattle.lent_pins.proofs.Places.{row_stored}
 use Rattle.std.proofs.Common.{rules}
 use Rattle.lent_pins.proofs.put_starts.Goals as goal
 
@@ -19,7 +19,7 @@ pub loop-i-preserved : goal.loop-i-preserved
 loop-i-preserved c =
     let rows = c.args.starts.rows in
     let i = c.loop-i.i in
-    (search rules, row-stored (started rows) i c.args.memory.now c.loop-i.invariant.1 (rw (filled_at (start_row_at rows) 17 i c.loop-i-test.true, ← c.row_from.ensures) c.put_row.ensures))
+    (search rules, row_stored (started rows) i c.args.memory.now c.loop-i.invariant.1 (rw (filled_at (start_row_at rows) 17 i c.loop-i-test.true, ← c.row_from.ensures) c.put_row.ensures))
 
 pub shape_of-memory : goal.shape_of-memory
 shape_of-memory c = ap length c.loop-i.invariant.1 ∙ length-sets c.args.memory.now 0 (joined (row_bytes_at (started c.args.starts.rows)) c.loop-i.i)

@@ -7,7 +7,7 @@ use lib.Seq.{sets, length-sets}
 use Rattle.folds.specs.Folds.{joined}
 use Rattle.pin_entry.specs.Meaning.{table_of}
 use Rattle.lent_pins.specs.LentPins.{row_bytes_at, table_bytes}
-use Rattle.lent_pins.proofs.Places.{row-stored}
+use Rattle.lent_pins.proofs.Places.{row_stored}
 use Rattle.std.proofs.Common.{rules}
 use Rattle.lent_pins.proofs.put_table.Goals as goal
 
@@ -16,7 +16,7 @@ unfolding joined
 loop-i-init c = (search rules, refl)
 
 pub loop-i-preserved : goal.loop-i-preserved
-loop-i-preserved c = (search rules, row-stored (table_of c.args.table) c.loop-i.i c.args.memory.now c.loop-i.invariant.1 (rw (← add-one c.loop-i.i, ← c.row_of.ensures) c.put_row.ensures))
+loop-i-preserved c = (search rules, row_stored (table_of c.args.table) c.loop-i.i c.args.memory.now c.loop-i.invariant.1 (rw (← add-one c.loop-i.i, ← c.row_of.ensures) c.put_row.ensures))
 
 pub shape_of-memory : goal.shape_of-memory
 shape_of-memory c = ap length c.loop-i.invariant.1 ∙ length-sets c.args.memory.now 0 (joined (row_bytes_at (table_of c.args.table)) c.loop-i.i)

@@ -3,7 +3,7 @@ use Prim.Native.Nat.{ℕ, ◌+◌, ◌*◌, ◌-◌}
 use native.Mathlib.Omega.{arith}
 use Rattle.protocol.specs.declared.Verdict.{Verdict}
 use Rattle.folds.specs.Folds.{first_fault}
-use Rattle.folds.proofs.Laws.{fits_next, fault-at}
+use Rattle.folds.proofs.Laws.{fits_next, fault_at}
 use Rattle.lists.specs.Lists.{there, list_verdict}
 use Rattle.lists.proofs.judge_lists.Goals as goal
 
@@ -17,7 +17,7 @@ returns-in-Fault c =
     let v = c.loop-i in
     let f : ℕ → Verdict = λ i. list_verdict a.zero_size (there a.form) a.fixed (a.place + 8 * (a.first + i)) a.payload.now in
     let e : a.first + (v.i - a.first) ≡ v.i = omega (arith, v.invariant.0) in
-    sym (fault-at f (a.end - a.first) (v.i - a.first) _ v.invariant.2 (omega (arith, v.invariant.0, c.loop-i-test.true)) (rw e (sym c.judge_there-verdict.ensures ∙ c.in-Fault.is)))
+    sym (fault_at f (a.end - a.first) (v.i - a.first) _ v.invariant.2 (omega (arith, v.invariant.0, c.loop-i-test.true)) (rw e (sym c.judge_there-verdict.ensures ∙ c.in-Fault.is)))
 
 pub loop-i-preserved : goal.loop-i-preserved
 loop-i-preserved c =

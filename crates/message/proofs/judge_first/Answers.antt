@@ -2,14 +2,14 @@
 use native.Mathlib.Omega.{arith}
 use Rattle.protocol.specs.Verdict.{judge_from}
 use Rattle.message.specs.Message.{first_header_of, first_by}
-use Rattle.message.proofs.Headers.{place-most, type_at}
+use Rattle.message.proofs.Headers.{place_most, type_at}
 use Rattle.message.proofs.judge_first.Goals as goal
 
 pub overflow_add-place : goal.overflow_add-place
-overflow_add-place c = omega (arith, c.length_place-place.ensures, place-most c.message_at-message.result.message_type)
+overflow_add-place c = omega (arith, c.length_place-place.ensures, place_most c.message_at-message.result.message_type)
 
 pub overflow_add-place-2 : goal.overflow_add-place-2
-overflow_add-place-2 c = omega (arith, c.length_place-place.ensures, place-most c.message_at-message.result.message_type)
+overflow_add-place-2 c = omega (arith, c.length_place-place.ensures, place_most c.message_at-message.result.message_type)
 
 pub returns-in-Fits : goal.returns-in-Fits
 unfolding first_header_of first_by judge_from

@@ -3,7 +3,7 @@ use borrow.Author.Tests.{eq-eqb, ne_eqb}
 use Rattle.protocol.specs.Verdict.{fault_if, first_of, judge_from}
 use Rattle.protocol.proofs.Verdicts.{last_fits}
 use Rattle.pairs.specs.Pair.{rules, verdict_of}
-use Rattle.pairs.proofs.Laws.{not-strict}
+use Rattle.pairs.proofs.Laws.{not_strict}
 use Rattle.pairs.proofs.judge.Goals as goal
 
 pub returns-then-is_unfit : goal.returns-then-is_unfit
@@ -16,4 +16,4 @@ returns-then-size-eq0 c = rw (← c.is_unfit.ensures, c.if-is_unfit.false, eq-eq
 
 pub returns : goal.returns
 unfolding verdict_of rules judge_from first_of fault_if
-returns c = rw (← c.is_unfit.ensures, c.if-is_unfit.false, ne_eqb _ _ c.if-size-eq0.false, not-strict _, c.also-2.ensures, c.also-aligned.ensures, c.also-outside.ensures)
+returns c = rw (← c.is_unfit.ensures, c.if-is_unfit.false, ne_eqb _ _ c.if-size-eq0.false, not_strict _, c.also-2.ensures, c.also-aligned.ensures, c.also-outside.ensures)

@@ -2,7 +2,7 @@
 use Prim.Native.Nat.{◌+◌}
 use native.Mathlib.Omega.{arith}
 use Rattle.wire.specs.Numbers.{u32_at}
-use Rattle.wire.proofs.Laws.{num-out, word_in, first-in}
+use Rattle.wire.proofs.Laws.{num_out, word_in, first_in}
 use Rattle.pairs.specs.Pair.{range_at}
 use Rattle.pairs.proofs.range_at.Goals as goal
 
@@ -11,11 +11,11 @@ unfolding range_at
 returns-then-place-payload c =
     let s = c.args.payload.now in
     let at = c.args.place in
-    rw (first-in s at 8 (omega arith) c.u32_at.ensures, word_in s at 8 4 (omega arith) c.u32_at-then-place-payload.ensures)
+    rw (first_in s at 8 (omega arith) c.u32_at.ensures, word_in s at 8 4 (omega arith) c.u32_at-then-place-payload.ensures)
 
 pub returns-then-payload-place : goal.returns-then-payload-place
 unfolding range_at u32_at
-returns-then-payload-place c = rw (num-out 4 c.args.payload.now c.args.place c.if-payload-place.true, num-out 4 c.args.payload.now (c.args.place + 4) (omega arith))
+returns-then-payload-place c = rw (num_out 4 c.args.payload.now c.args.place c.if-payload-place.true, num_out 4 c.args.payload.now (c.args.place + 4) (omega arith))
 
 pub returns : goal.returns
 unfolding range_at

@@ -2,7 +2,7 @@
 use borrow.Author.Tests.{eq-eqb, ne_eqb}
 use native.Mathlib.Omega.{arith}
 use Rattle.pin_entry.specs.PinTable.{accepted}
-use Rattle.pin_entry.proofs.Rows.{pin-within}
+use Rattle.pin_entry.proofs.Rows.{pin_within}
 use Rattle.pin_entry.proofs.accept.Goals as goal
 
 pub returns-then-own-eq-NONE : goal.returns-then-own-eq-NONE
@@ -10,7 +10,7 @@ unfolding accepted
 returns-then-own-eq-NONE c = rw (← c.pin_of-own.ensures, eq-eqb _ _ c.if-own-eq-NONE.true, ← c.row_of-row.ensures, ← c.enter_row.ensures, ← c.with_row.ensures) c.reply.ensures
 
 pub with_row-requires-3 : goal.with_row-requires-3
-with_row-requires-3 c = (omega (arith, c.if-own-eq-NONE.false), rw c.pin_of-own.ensures (pin-within c.args.pin_type))
+with_row-requires-3 c = (omega (arith, c.if-own-eq-NONE.false), rw c.pin_of-own.ensures (pin_within c.args.pin_type))
 
 pub returns : goal.returns
 unfolding accepted

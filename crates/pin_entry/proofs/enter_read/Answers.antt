@@ -5,7 +5,7 @@ use native.Mathlib.Omega.{arith}
 use lib.ListN.{length}
 use Rattle.pin_entry.specs.PinTable.{Row, entered}
 use Rattle.pin_entry.specs.Meaning.{table_of}
-use Rattle.pin_entry.proofs.Rows.{present-within}
+use Rattle.pin_entry.proofs.Rows.{present_within}
 use Rattle.std.proofs.Common.{rules}
 use Rattle.pin_entry.proofs.enter_read.Goals as goal
 
@@ -17,7 +17,7 @@ pub judge-requires : goal.judge-requires
 unfolding table_of
 judge-requires c =
     let rows = c.args.table.rows in
-    let w = present-within rows c.args.info.pin_type (rw c.if-row.true at (sym (ap (λ (r : Row). r.present) c.row_of-row.ensures))) in
+    let w = present_within rows c.args.info.pin_type (rw c.if-row.true at (sym (ap (λ (r : Row). r.present) c.row_of-row.ensures))) in
     let long : length rows ≡ 17 = c.well_formed.0.1.1.0.1.0.1 in
     (w.0, (omega (arith, w.1), search rules))
 

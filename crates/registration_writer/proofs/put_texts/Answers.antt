@@ -4,7 +4,7 @@ use mathlib.Core.List.{[], ◌∷◌}
 use Prim.Native.Nat.{ℕ}
 use lib.ListN.{length}
 use Rattle.texts.specs.Texts.{start_of}
-use Rattle.texts.proofs.Rows.{text-stored}
+use Rattle.texts.proofs.Rows.{text_stored}
 use Rattle.registration.specs.Registration.{three}
 use Rattle.registration_writer.proofs.put_texts.Goals as goal
 
@@ -15,5 +15,5 @@ returns c =
     let y = a.provider_name.now in
     let z = a.roaming_text.now in
     let at : ℕ → ℕ = start_of a.fixed (three (length x) (length y) (length z)) in
-    text-stored x (y ∷ (z ∷ [])) (at 0) a.out.now c.put_text.ensures
-    (text-stored y (z ∷ []) (at 1) c.put_text.new.out c.put_text-2.ensures (text-stored z [] (at 2) c.put_text-2.new.out c.put_text-3.ensures refl))
+    text_stored x (y ∷ (z ∷ [])) (at 0) a.out.now c.put_text.ensures
+    (text_stored y (z ∷ []) (at 1) c.put_text.new.out c.put_text-2.ensures (text_stored z [] (at 2) c.put_text-2.new.out c.put_text-3.ensures refl))

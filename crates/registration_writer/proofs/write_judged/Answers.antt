@@ -8,7 +8,7 @@ use Rattle.protocol.proofs.Verdicts.{wrote, refused}
 use native.Mathlib.Nat.{zero-add}
 use Rattle.texts.specs.Texts.{texts_bytes}
 use Rattle.registration.specs.Registration.{fixed_part, version_of, three, written_verdict, laid_for, fixed_with, bytes_of, write_of}
-use Rattle.registration.proofs.Laws.{small, length-fixed, length-bytes}
+use Rattle.registration.proofs.Laws.{small, length_fixed, length_bytes}
 use Rattle.registration_writer.proofs.write_judged.Goals as goal
 
 pub overflow_cast-id : goal.overflow_cast-id
@@ -26,7 +26,7 @@ returns-then-out-n c =
     let a = c.args in
     let n = rw (c.fixed_part-fixed.ensures, c.version_of.ensures) at c.start_of-n.ensures in
     refused (written_verdict a.info _ _ _) (bytes_of a.info a.provider_id.now a.provider_name.now a.roaming_text.now) a.out.now _ _
-    (length-bytes a.info a.provider_id.now a.provider_name.now a.roaming_text.now ∙ sym n)
+    (length_bytes a.info a.provider_id.now a.provider_name.now a.roaming_text.now ∙ sym n)
     (rw (c.requires, lt-ltb _ _ c.if-out-n.true))
 
 pub put_texts-requires : goal.put_texts-requires
@@ -44,6 +44,6 @@ returns c =
     let t = laid_for a.info x y z in
     let n = rw (c.fixed_part-fixed.ensures, c.version_of.ensures) at c.start_of-n.ensures in
     wrote (written_verdict a.info _ _ _) (bytes_of a.info a.provider_id.now a.provider_name.now a.roaming_text.now) a.out.now _
-    (length-bytes a.info a.provider_id.now a.provider_name.now a.roaming_text.now ∙ sym n)
+    (length_bytes a.info a.provider_id.now a.provider_name.now a.roaming_text.now ∙ sym n)
     (rw (c.requires, le-ltb _ _ c.if-out-n.false))
-    (sets_then (fixed_with a.info t) (texts_bytes (three x y z)) 0 _ a.out.now (length-fixed a.info t) c.put_fixed.ensures (rw (c.fixed_part-fixed.ensures, c.version_of.ensures, ← zero-add (fixed_part (version_of a.info))) at c.put_texts.ensures))
+    (sets_then (fixed_with a.info t) (texts_bytes (three x y z)) 0 _ a.out.now (length_fixed a.info t) c.put_fixed.ensures (rw (c.fixed_part-fixed.ensures, c.version_of.ensures, ← zero-add (fixed_part (version_of a.info))) at c.put_texts.ensures))

@@ -1,6 +1,6 @@
 use lib.ListN.{length}
 use Rattle.sample_lines.specs.Lines.{filled_with}
-use Rattle.sample_lines.proofs.Laws.{stray, none_before, one-stray, no_stray, none_apart}
+use Rattle.sample_lines.proofs.Laws.{stray, none_before, one_stray, no_stray, none_apart}
 use Rattle.std.proofs.Common.{rules}
 use Rattle.sample_lines.proofs.is_filled.Goals as goal
 
@@ -9,7 +9,7 @@ loop-i-init c = (search rules, none_before c.args.s.now c.args.from c.args.b)
 
 pub returns-then-s-i : goal.returns-then-s-i
 unfolding filled_with
-returns-then-s-i c = one-stray c.args.s.now c.args.from c.args.b c.loop-i.i c.loop-i-test.true c.loop-i.invariant.0 c.if-s-i.true
+returns-then-s-i c = one_stray c.args.s.now c.args.from c.args.b c.loop-i.i c.loop-i-test.true c.loop-i.invariant.0 c.if-s-i.true
 
 pub loop-i-preserved : goal.loop-i-preserved
 loop-i-preserved c = (search rules, no_stray c.args.s.now c.args.from c.args.b c.loop-i.i c.loop-i.invariant.0 c.loop-i.invariant.1 c.if-s-i.false)

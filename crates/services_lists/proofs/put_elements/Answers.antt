@@ -5,12 +5,12 @@ use native.Mathlib.Omega.{arith}
 use lib.ListN.{length}
 use lib.Seq.{sets, length-sets}
 use Rattle.folds.specs.Folds.{joined, sum_of}
-use Rattle.folds.proofs.Laws.{sum-next}
+use Rattle.folds.proofs.Laws.{sum_next}
 use Rattle.device_services.specs.DeviceServices.{fixed_part}
 use Rattle.services_writer.specs.ServicesWriter.{start_of, piece}
-use Rattle.services_writer.proofs.Laws.{piece-next}
+use Rattle.services_writer.proofs.Laws.{piece_next}
 use Rattle.services_lists.specs.ServicesLists.{count_of, cids_counted, record_of}
-use Rattle.services_lists.proofs.Laws.{start-more, element-inside, cids-inside, element-put, part_length}
+use Rattle.services_lists.proofs.Laws.{start_more, element_inside, cids_inside, element_put, part_length}
 use Rattle.services_lists.proofs.put_elements.Goals as goal
 
 pub loop-i-init : goal.loop-i-init
@@ -27,35 +27,35 @@ pub put_words-requires : goal.put_words-requires
 put_words-requires c =
     let v = c.loop-i in
     let f = c.args.fields.now in
-    omega (arith, element-inside c.args.fields.now c.args.cids.now c.loop-i.i (omega (arith, c.loop-i-test.true, c.requires.0)) c.loop-i.invariant.1.1.0 c.cid_count-n.ensures c.requires.1.1, simp length-sets at (ap length v.invariant.1.1.1), part_length f (7 * v.i) 7 (omega (arith, c.loop-i-test.true, c.requires.0)))
+    omega (arith, element_inside c.args.fields.now c.args.cids.now c.loop-i.i (omega (arith, c.loop-i-test.true, c.requires.0)) c.loop-i.invariant.1.1.0 c.cid_count-n.ensures c.requires.1.1, simp length-sets at (ap length v.invariant.1.1.1), part_length f (7 * v.i) 7 (omega (arith, c.loop-i-test.true, c.requires.0)))
 
 pub overflow_add-start : goal.overflow_add-start
-overflow_add-start c = let h = element-inside c.args.fields.now c.args.cids.now c.loop-i.i (omega (arith, c.loop-i-test.true, c.requires.0)) c.loop-i.invariant.1.1.0 c.cid_count-n.ensures c.requires.1.1 in omega (arith, h)
+overflow_add-start c = let h = element_inside c.args.fields.now c.args.cids.now c.loop-i.i (omega (arith, c.loop-i-test.true, c.requires.0)) c.loop-i.invariant.1.1.0 c.cid_count-n.ensures c.requires.1.1 in omega (arith, h)
 
 pub overflow_add-from : goal.overflow_add-from
-overflow_add-from c = let h = cids-inside c.args.fields.now c.args.count c.loop-i.i c.loop-i-test.true c.loop-i.invariant.1.0 c.cid_count-n.ensures c.requires.1.0 in omega (arith, h)
+overflow_add-from c = let h = cids_inside c.args.fields.now c.args.count c.loop-i.i c.loop-i-test.true c.loop-i.invariant.1.0 c.cid_count-n.ensures c.requires.1.0 in omega (arith, h)
 
 pub offset_bounds-cids-from : goal.offset_bounds-cids-from
-offset_bounds-cids-from c = let h = cids-inside c.args.fields.now c.args.count c.loop-i.i c.loop-i-test.true c.loop-i.invariant.1.0 c.cid_count-n.ensures c.requires.1.0 in omega (arith, h)
+offset_bounds-cids-from c = let h = cids_inside c.args.fields.now c.args.count c.loop-i.i c.loop-i-test.true c.loop-i.invariant.1.0 c.cid_count-n.ensures c.requires.1.0 in omega (arith, h)
 
 pub slice_bounds-put_words-end-in-loop-i : goal.slice_bounds-put_words-end-in-loop-i
-slice_bounds-put_words-end-in-loop-i c = cids-inside c.args.fields.now c.args.count c.loop-i.i c.loop-i-test.true c.loop-i.invariant.1.0 c.cid_count-n.ensures c.requires.1.0
+slice_bounds-put_words-end-in-loop-i c = cids_inside c.args.fields.now c.args.count c.loop-i.i c.loop-i-test.true c.loop-i.invariant.1.0 c.cid_count-n.ensures c.requires.1.0
 
 pub put_words-requires-in-loop-i : goal.put_words-requires-in-loop-i
 put_words-requires-in-loop-i c =
     let v = c.loop-i in
     let n = c.cid_count-n.result in
-    let inside = part_length c.args.cids.now v.from n (cids-inside c.args.fields.now c.args.count c.loop-i.i c.loop-i-test.true c.loop-i.invariant.1.0 c.cid_count-n.ensures c.requires.1.0) in
-    omega (arith, element-inside c.args.fields.now c.args.cids.now c.loop-i.i (omega (arith, c.loop-i-test.true, c.requires.0)) c.loop-i.invariant.1.1.0 c.cid_count-n.ensures c.requires.1.1, inside, simp length-sets at (ap length v.invariant.1.1.1), simp length-sets at (ap length c.put_words.ensures))
+    let inside = part_length c.args.cids.now v.from n (cids_inside c.args.fields.now c.args.count c.loop-i.i c.loop-i-test.true c.loop-i.invariant.1.0 c.cid_count-n.ensures c.requires.1.0) in
+    omega (arith, element_inside c.args.fields.now c.args.cids.now c.loop-i.i (omega (arith, c.loop-i-test.true, c.requires.0)) c.loop-i.invariant.1.1.0 c.cid_count-n.ensures c.requires.1.1, inside, simp length-sets at (ap length v.invariant.1.1.1), simp length-sets at (ap length c.put_words.ensures))
 
 pub overflow_mul-start : goal.overflow_mul-start
-overflow_mul-start c = let h = element-inside c.args.fields.now c.args.cids.now c.loop-i.i (omega (arith, c.loop-i-test.true, c.requires.0)) c.loop-i.invariant.1.1.0 c.cid_count-n.ensures c.requires.1.1 in omega (arith, h)
+overflow_mul-start c = let h = element_inside c.args.fields.now c.args.cids.now c.loop-i.i (omega (arith, c.loop-i-test.true, c.requires.0)) c.loop-i.invariant.1.1.0 c.cid_count-n.ensures c.requires.1.1 in omega (arith, h)
 
 pub overflow_add-start-in-loop-i : goal.overflow_add-start-in-loop-i
-overflow_add-start-in-loop-i c = let h = element-inside c.args.fields.now c.args.cids.now c.loop-i.i (omega (arith, c.loop-i-test.true, c.requires.0)) c.loop-i.invariant.1.1.0 c.cid_count-n.ensures c.requires.1.1 in omega (arith, h)
+overflow_add-start-in-loop-i c = let h = element_inside c.args.fields.now c.args.cids.now c.loop-i.i (omega (arith, c.loop-i-test.true, c.requires.0)) c.loop-i.invariant.1.1.0 c.cid_count-n.ensures c.requires.1.1 in omega (arith, h)
 
 pub overflow_add-from-in-loop-i : goal.overflow_add-from-in-loop-i
-overflow_add-from-in-loop-i c = let h = cids-inside c.args.fields.now c.args.count c.loop-i.i c.loop-i-test.true c.loop-i.invariant.1.0 c.cid_count-n.ensures c.requires.1.0 in omega (arith, h)
+overflow_add-from-in-loop-i c = let h = cids_inside c.args.fields.now c.args.count c.loop-i.i c.loop-i-test.true c.loop-i.invariant.1.0 c.cid_count-n.ensures c.requires.1.0 in omega (arith, h)
 
 pub loop-i-preserved : goal.loop-i-preserved
 loop-i-preserved c =
@@ -67,10 +67,10 @@ loop-i-preserved c =
     let is = c.cid_count-n.ensures in
     let l = c.loop-i-test.true in
     let below : v.i < count_of f = omega (arith, l, c.requires.0) in
-    let inside : v.from + n ≤ length cids = cids-inside f a.count v.i l v.invariant.1.0 is c.requires.1.0 in
-    let stored = element-put 0 f cids v.out v.i v.start v.from n below v.invariant.1.0 is inside c.put_words.ensures c.put_words-in-loop-i.ensures in
-    let next = start-more 0 f cids v.i below v.invariant.1.1.0 in
-    (omega (arith, l), (omega (arith, v.invariant.1.0, is, sum-next (cids_counted f) v.i), (omega (arith, is, next), piece-next (record_of 0 f cids) v.i a.out.now v.invariant.1.1.1 v.invariant.1.1.0 stored)))
+    let inside : v.from + n ≤ length cids = cids_inside f a.count v.i l v.invariant.1.0 is c.requires.1.0 in
+    let stored = element_put 0 f cids v.out v.i v.start v.from n below v.invariant.1.0 is inside c.put_words.ensures c.put_words-in-loop-i.ensures in
+    let next = start_more 0 f cids v.i below v.invariant.1.1.0 in
+    (omega (arith, l), (omega (arith, v.invariant.1.0, is, sum_next (cids_counted f) v.i), (omega (arith, is, next), piece_next (record_of 0 f cids) v.i a.out.now v.invariant.1.1.1 v.invariant.1.1.0 stored)))
 
 pub shape_of-out : goal.shape_of-out
 shape_of-out c = ap length c.loop-i.invariant.1.1.1 ∙ simp length-sets

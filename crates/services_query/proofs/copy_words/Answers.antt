@@ -6,7 +6,7 @@ use lib.ListN.{length}
 use lib.Seq.{sets, length-sets}
 use Rattle.wire.specs.Numbers.{u32_at}
 use Rattle.folds.specs.Folds.{list_of}
-use Rattle.folds.proofs.Laws.{list-next}
+use Rattle.folds.proofs.Laws.{list_next}
 use Rattle.services_query.specs.ServicesQuery.{words_at}
 use Rattle.std.proofs.Common.{rules}
 use Rattle.services_query.proofs.copy_words.Goals as goal
@@ -20,7 +20,7 @@ bounds-list-at c = omega (arith, ap length c.loop-i.invariant.1 ∙ length-sets 
 
 pub loop-i-preserved : goal.loop-i-preserved
 unfolding words_at
-loop-i-preserved c = (search rules, list-next (λ k. u32_at c.args.payload.now (c.args.from + 4 * k)) c.loop-i.i c.args.at c.args.list.now c.loop-i.invariant.1 c.u32_at.ensures refl)
+loop-i-preserved c = (search rules, list_next (λ k. u32_at c.args.payload.now (c.args.from + 4 * k)) c.loop-i.i c.args.at c.args.list.now c.loop-i.invariant.1 c.u32_at.ensures refl)
 
 pub shape_of-list : goal.shape_of-list
 shape_of-list c = ap length c.loop-i.invariant.1 ∙ simp length-sets

@@ -2,7 +2,7 @@ use mathlib.Core.Path.{refl, sym, ◌∙◌}
 use mathlib.Core.Logic.{inl}
 use native.Mathlib.Omega.{arith}
 use Rattle.folds.specs.Folds.{any_of}
-use Rattle.folds.proofs.Laws.{sought-hit, sought-miss, sought-end}
+use Rattle.folds.proofs.Laws.{sought_hit, sought_miss, sought_end}
 use Rattle.services_query.specs.ServicesQuery.{is_of}
 use Rattle.std.proofs.Common.{rules}
 use Rattle.services_query.proofs.index_of.Goals as goal
@@ -18,12 +18,12 @@ loop-i-preserved c =
     let t = is_of a.payload.now a.service in
     let v = c.loop-i in
     elim c.if-is_of.branch [
-      | then-is_of w ↦ (omega arith, (omega arith, rw w.found-is (sought-hit t a.count v.i v.found v.invariant.0 v.invariant.1.1 c.loop-i-test.true (sym c.is_of.ensures ∙ w.if-is_of.true))))
-      | else-is_of w ↦ (omega arith, (omega arith, rw w.found-is (sought-miss t a.count v.i v.found v.invariant.1.1 c.loop-i-test.true (sym c.is_of.ensures ∙ w.if-is_of.false))))
+      | then-is_of w ↦ (omega arith, (omega arith, rw w.found-is (sought_hit t a.count v.i v.found v.invariant.0 v.invariant.1.1 c.loop-i-test.true (sym c.is_of.ensures ∙ w.if-is_of.true))))
+      | else-is_of w ↦ (omega arith, (omega arith, rw w.found-is (sought_miss t a.count v.i v.found v.invariant.1.1 c.loop-i-test.true (sym c.is_of.ensures ∙ w.if-is_of.false))))
     ]
 
 pub returns : goal.returns
 returns c =
     let a = c.args in
     let v = c.loop-i in
-    sought-end (is_of a.payload.now a.service) a.count v.i v.found v.invariant.0 v.invariant.1.1 c.loop-i-test.false
+    sought_end (is_of a.payload.now a.service) a.count v.i v.found v.invariant.0 v.invariant.1.1 c.loop-i-test.false

@@ -2,7 +2,7 @@ use mathlib.Core.Path.{refl, sym, ap, ◌∙◌}
 use native.Mathlib.Nat.{le_antisymm}
 use borrow.Author.Tests.{eq-eqb, ne_eqb}
 use Rattle.folds.specs.Folds.{any_of}
-use Rattle.folds.proofs.Laws.{none-next, any_at}
+use Rattle.folds.proofs.Laws.{none_next, any_at}
 use Rattle.services_query.specs.ServicesQuery.{is_cid}
 use Rattle.std.proofs.Common.{rules}
 use Rattle.services_query.proofs.is_among.Goals as goal
@@ -19,7 +19,7 @@ returns-then-judged_cid-cid c =
 pub loop-i-preserved : goal.loop-i-preserved
 loop-i-preserved c =
     let a = c.args in
-    (search rules, none-next (is_cid a.payload.now a.offset a.cid) _ c.loop-i.invariant.1 (rw (← c.judged_cid.ensures) (ne_eqb _ _ c.if-judged_cid-cid.false)))
+    (search rules, none_next (is_cid a.payload.now a.offset a.cid) _ c.loop-i.invariant.1 (rw (← c.judged_cid.ensures) (ne_eqb _ _ c.if-judged_cid-cid.false)))
 
 pub returns : goal.returns
 returns c =

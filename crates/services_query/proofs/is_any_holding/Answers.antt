@@ -1,7 +1,7 @@
 use mathlib.Core.Path.{◌≡◌, refl, sym, ap, ◌∙◌}
 use native.Mathlib.Nat.{le_antisymm}
 use Rattle.folds.specs.Folds.{any_of}
-use Rattle.folds.proofs.Laws.{none-next, any_at}
+use Rattle.folds.proofs.Laws.{none_next, any_at}
 use Rattle.services_query.specs.ServicesQuery.{holds}
 use Rattle.std.proofs.Common.{rules}
 use Rattle.services_query.proofs.is_any_holding.Goals as goal
@@ -22,7 +22,7 @@ unfolding holds
 loop-i-preserved c =
     let a = c.args in
     let here : holds a.payload.now a.service a.cid c.loop-i.i ≡ c.is_held-held.result = rw (← c.is_of-serves.ensures) (sym c.is_held-held.ensures) in
-    (search rules, none-next (holds a.payload.now a.service a.cid) _ c.loop-i.invariant.1 (here ∙ c.if-held.false))
+    (search rules, none_next (holds a.payload.now a.service a.cid) _ c.loop-i.invariant.1 (here ∙ c.if-held.false))
 
 pub returns : goal.returns
 returns c =

@@ -4,7 +4,7 @@ use native.Mathlib.Omega.{arith}
 use borrow.Author.Tests.{lt-ltb, le-ltb}
 use Rattle.wire.proofs.Laws.{sets_over}
 use Rattle.folds.specs.Folds.{list_of}
-use Rattle.folds.proofs.Laws.{length-list}
+use Rattle.folds.proofs.Laws.{length_list}
 use Rattle.device_services.specs.DeviceServices.{cid_at, cids_at}
 use Rattle.services_query.specs.ServicesQuery.{words_at, element_shown}
 use Rattle.services_query.proofs.show_element.Goals as goal
@@ -21,4 +21,4 @@ returns c =
     let f = cid_at a.payload.now c.judged_offset-offset.result in
     let n = c.judged_cid_count-count.result in
     rw (← c.judged_offset-offset.ensures, ← c.judged_element.ensures, ← c.judged_cid_count-count.ensures, le-ltb _ _ c.if-cids-count.false)
-    (record { value = refl; cids_after = c.copy_words.ensures ∙ sets_over (list_of f n) a.cids.now (omega (arith, length-list f n, c.if-cids-count.false)) })
+    (record { value = refl; cids_after = c.copy_words.ensures ∙ sets_over (list_of f n) a.cids.now (omega (arith, length_list f n, c.if-cids-count.false)) })

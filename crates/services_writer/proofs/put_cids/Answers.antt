@@ -5,7 +5,7 @@ use lib.ListN.{length}
 use lib.Seq.{sets, length-sets}
 use Rattle.folds.specs.Folds.{joined}
 use Rattle.services_writer.specs.ServicesWriter.{cid_bytes}
-use Rattle.services_writer.proofs.Laws.{cid-next}
+use Rattle.services_writer.proofs.Laws.{cid_next}
 use Rattle.std.proofs.Common.{rules}
 use Rattle.services_writer.proofs.put_cids.Goals as goal
 
@@ -16,7 +16,7 @@ loop-i-init c = (search rules, refl)
 pub loop-i-preserved : goal.loop-i-preserved
 loop-i-preserved c =
     let a = c.args in
-    (search rules, cid-next a.cids.now a.out.now a.at c.loop-i.i c.loop-i.invariant.1 c.word_of.ensures c.put_u32.ensures)
+    (search rules, cid_next a.cids.now a.out.now a.at c.loop-i.i c.loop-i.invariant.1 c.word_of.ensures c.put_u32.ensures)
 
 pub shape_of-out : goal.shape_of-out
 shape_of-out c = ap length c.loop-i.invariant.1 ∙ simp length-sets

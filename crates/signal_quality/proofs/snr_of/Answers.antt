@@ -4,12 +4,12 @@ use Prim.Native.Nat.{◌%◌}
 use native.Mathlib.Omega.{arith}
 use lib.Ieee.{odd, neg, of_bits}
 use Rattle.signal_quality.specs.Decibels.{exactly}
-use Rattle.signal_quality.proofs.Decibels.{db-fits, db-read}
+use Rattle.signal_quality.proofs.Decibels.{db_fits, db_read}
 use Rattle.signal_quality.proofs.snr_of.Goals as goal
 
 pub overflow_sub-twice : goal.overflow_sub-twice
-overflow_sub-twice c = db-fits (c.args.code % 128) (omega arith)
+overflow_sub-twice c = db_fits (c.args.code % 128) (omega arith)
 
 pub returns : goal.returns
 unfolding exactly odd neg of_bits
-returns c = c.by_table.ensures ∙ db-read c.args.code
+returns c = c.by_table.ensures ∙ db_read c.args.code

@@ -2,7 +2,7 @@ use mathlib.Core.Path.{refl, sym, ap, ◌∙◌}
 use native.Mathlib.Nat.{le_antisymm}
 use native.Mathlib.Omega.{arith}
 use Rattle.folds.specs.Folds.{any_of}
-use Rattle.folds.proofs.Laws.{any_at, none-next}
+use Rattle.folds.proofs.Laws.{any_at, none_next}
 use Rattle.signal_state.specs.SignalState.{is_known, entry_in, any_known}
 use Rattle.signal_writer.proofs.any_known.Goals as goal
 
@@ -19,7 +19,7 @@ returns-then-is_known c = let a = c.args in sym (any_at (λ j. is_known (entry_i
 
 pub loop-i-preserved : goal.loop-i-preserved
 unfolding any_known
-loop-i-preserved c = let a = c.args in (omega arith, none-next (λ j. is_known (entry_in a.entries j)) c.loop-i.i c.loop-i.invariant.1 (sym c.is_known.ensures ∙ c.if-is_known.false))
+loop-i-preserved c = let a = c.args in (omega arith, none_next (λ j. is_known (entry_in a.entries j)) c.loop-i.i c.loop-i.invariant.1 (sym c.is_known.ensures ∙ c.if-is_known.false))
 
 pub returns : goal.returns
 returns c = let a = c.args in sym c.loop-i.invariant.1 ∙ ap (any_known (entry_in a.entries)) (le_antisymm c.loop-i.invariant.0 c.loop-i-test.false)

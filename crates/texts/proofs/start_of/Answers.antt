@@ -3,7 +3,7 @@ use native.Mathlib.Nat.{le_antisymm}
 use native.Mathlib.Numerals.{add-one}
 use native.Mathlib.Omega.{arith}
 use Rattle.texts.specs.Texts.{start_of}
-use Rattle.texts.proofs.Rows.{start-next}
+use Rattle.texts.proofs.Rows.{start_next}
 use Rattle.std.proofs.Common.{rules}
 use Rattle.texts.proofs.start_of.Goals as goal
 
@@ -20,7 +20,7 @@ pub loop-i-preserved : goal.loop-i-preserved
 loop-i-preserved c =
     let a = c.args in
     let v = c.loop-i in
-    let n = start-next a.fixed a.sizes.now v.i in
+    let n = start_next a.fixed a.sizes.now v.i in
     (search rules, rw (v.invariant.1, c.padded_size.ensures, c.size_at.ensures.0, add-one v.i) (sym n), omega (arith, c.padded_size.ensures, c.size_at.ensures.1))
 
 pub returns : goal.returns

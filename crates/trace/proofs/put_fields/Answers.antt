@@ -1,5 +1,5 @@
 -- A bad line has no fields.
-use Rattle.rows.proofs.Laws.{put-start}
+use Rattle.rows.proofs.Laws.{put_start}
 use Rattle.trace.specs.Replay.{fields_of}
 use Rattle.trace.proofs.put_fields.Goals as goal
 
@@ -8,7 +8,7 @@ put_received-requires c = rw c.in-Piece.is at c.requires
 
 pub returns-in-BadLine : goal.returns-in-BadLine
 unfolding fields_of
-returns-in-BadLine c = rw c.in-BadLine.is (put-start c.args.out.now c.args.at)
+returns-in-BadLine c = rw c.in-BadLine.is (put_start c.args.out.now c.args.at)
 
 pub returns-in-Piece : goal.returns-in-Piece
 unfolding fields_of

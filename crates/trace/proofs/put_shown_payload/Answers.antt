@@ -1,5 +1,5 @@
 -- By what is shown.
-use Rattle.rows.proofs.Laws.{put-start}
+use Rattle.rows.proofs.Laws.{put_start}
 use Rattle.trace.specs.Replay.{fields_by}
 use Rattle.trace.proofs.put_shown_payload.Goals as goal
 
@@ -9,8 +9,8 @@ returns-in-Payload c = rw (← c.payload_of.ensures, c.in-Payload.is, ← c.list
 
 pub returns-in-NoPayload : goal.returns-in-NoPayload
 unfolding fields_by
-returns-in-NoPayload c = rw (← c.payload_of.ensures, c.in-NoPayload.is) (put-start c.args.out.now c.args.at)
+returns-in-NoPayload c = rw (← c.payload_of.ensures, c.in-NoPayload.is) (put_start c.args.out.now c.args.at)
 
 pub returns-in-Refused : goal.returns-in-Refused
 unfolding fields_by
-returns-in-Refused c = rw (← c.payload_of.ensures, c.in-Refused.is) (put-start c.args.out.now c.args.at)
+returns-in-Refused c = rw (← c.payload_of.ensures, c.in-Refused.is) (put_start c.args.out.now c.args.at)

@@ -4,7 +4,7 @@ use native.Mathlib.Omega.{arith}
 use Rattle.text_parts.specs.declared.Number.{Number}
 use borrow.Author.Tests.{eq-eqb, ne_eqb, lt-ltb, le-ltb}
 use Rattle.trace_line.specs.TraceLine.{line_of}
-use Rattle.text_parts.proofs.Decimals.{number-few}
+use Rattle.text_parts.proofs.Decimals.{number_few}
 use Rattle.std.proofs.Common.{rules}
 use Rattle.trace_line.proofs.read_line.Goals as goal
 
@@ -17,10 +17,10 @@ unfolding line_of
 returns-then-byte_at-ne-TAB c = rw (← c.number_of-counter.ensures, lt-ltb 0 c.number_of-counter.result.digits (search rules), ← c.byte_at.ensures, ne_eqb _ _ c.if-byte_at-ne-TAB.true)
 
 pub overflow_add-digits : goal.overflow_add-digits
-overflow_add-digits c = omega (arith, number-few 10 4294967295 c.args.line.now, ap (λ (x : Number). x.digits) c.number_of-counter.ensures)
+overflow_add-digits c = omega (arith, number_few 10 4294967295 c.args.line.now, ap (λ (x : Number). x.digits) c.number_of-counter.ensures)
 
 pub sender_from-requires : goal.sender_from-requires
-sender_from-requires c = omega (arith, number-few 10 4294967295 c.args.line.now, ap (λ (x : Number). x.digits) c.number_of-counter.ensures)
+sender_from-requires c = omega (arith, number_few 10 4294967295 c.args.line.now, ap (λ (x : Number). x.digits) c.number_of-counter.ensures)
 
 pub returns : goal.returns
 unfolding line_of

@@ -9,7 +9,7 @@ use Rattle.protocol.specs.declared.Version.{Version}
 use Rattle.trace_step.specs.declared.Previous.TheVariants.{Counter}
 use Rattle.trace_step.specs.declared.Replayed.TheVariants.{Piece}
 use Rattle.trace_step.specs.Step.{own_of, by_sender, state_of, version_after, front_for, Fronted, piece_step}
-use Rattle.trace_step.proofs.Laws.{fronted, held, same_version, chosen-progress}
+use Rattle.trace_step.proofs.Laws.{fronted, held, same_version, chosen_progress}
 use Rattle.trace_step.proofs.step_piece.Goals as goal
 
 pub version_after-requires : goal.version_after-requires
@@ -29,8 +29,8 @@ returns c =
     let x : Receiving = receive_of (own_of a.sender s) a.piece.now 4096 in
     let p : c.receive_from-receipt.result.progress ≡ x.assembly.progress = ap (λ (z : ReceiptInPlace). z.progress) f.value in
     let r : c.receive_from-receipt.result.received ≡ x.received = ap (λ (z : ReceiptInPlace). z.received) f.value in
-    let hosts = c.by_sender.ensures ∙ ap (λ (z : Progress). by_sender a.sender z a.replay.host) p ∙ chosen-progress a.sender x.assembly s.host in
-    let devices = c.by_sender-2.ensures ∙ ap (λ (z : Progress). by_sender a.sender a.replay.device z) p ∙ chosen-progress a.sender s.device x.assembly in
+    let hosts = c.by_sender.ensures ∙ ap (λ (z : Progress). by_sender a.sender z a.replay.host) p ∙ chosen_progress a.sender x.assembly s.host in
+    let devices = c.by_sender-2.ensures ∙ ap (λ (z : Progress). by_sender a.sender a.replay.device z) p ∙ chosen_progress a.sender s.device x.assembly in
     let v = c.version_after.ensures in
     let after : Received → List ℕ → Version = λ z o. version_after a.sender a.replay.version z (front_for z o) in
     let next : c.version_after.result ≡ version_after a.sender a.replay.version x.received x.information =

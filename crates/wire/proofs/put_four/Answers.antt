@@ -2,7 +2,7 @@
 use mathlib.Core.Path.{refl}
 use native.Mathlib.Omega.{arith}
 use lib.ListN.{length-set}
-use Rattle.wire.proofs.Laws.{four-to}
+use Rattle.wire.proofs.Laws.{four_to}
 use Rattle.wire.proofs.put_four.Goals as goal
 
 pub bounds-out-at-2 : goal.bounds-out-at-2
@@ -15,4 +15,4 @@ pub bounds-out-at-4 : goal.bounds-out-at-4
 bounds-out-at-4 c = simp length-set (omega arith)
 
 pub returns : goal.returns
-returns c = four-to c.args.out.now c.args.at _ _ _ _ refl refl refl refl
+returns c = four_to c.args.out.now c.args.at _ _ _ _ refl refl refl refl

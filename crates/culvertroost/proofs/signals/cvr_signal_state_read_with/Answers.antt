@@ -1,20 +1,20 @@
 -- The numbers and the payload judged by the choice, then the plain answer.
 use mathlib.Core.Path.{sym, ap, ◌∙◌}
 use Rattle.signal_state.specs.SignalState.{refused as refused_by, choice_verdict, read_with}
-use Rattle.signal_state.proofs.Choices.{read-judged, read-faulted}
+use Rattle.signal_state.proofs.Choices.{read_judged, read_faulted}
 use Rattle.c_structs.specs.Signals.{answer_by, answer_of}
-use Rattle.culvertroost.proofs.Chosen.{chosen-fits, chosen-fault}
+use Rattle.culvertroost.proofs.Chosen.{chosen_fits, chosen_fault}
 use Rattle.culvertroost.proofs.signals.cvr_signal_state_read_with.Goals as goal
 
 pub returns-in-Fits : goal.returns-in-Fits
 returns-in-Fits c =
     let a = c.args in
     let s = a.payload.now in
-    c.cvr_signal_state_read.ensures ∙ ap answer_of (chosen-fits (refused_by) (λ v z. choice_verdict v z s) (λ v z. read_with v z s) (λ v z e. read-judged v z s e) (λ v z r e. read-faulted v z s r e) a.version a.zero_size (sym c.judge_chosen.ensures ∙ c.in-Fits.is))
+    c.cvr_signal_state_read.ensures ∙ ap answer_of (chosen_fits (refused_by) (λ v z. choice_verdict v z s) (λ v z. read_with v z s) (λ v z e. read_judged v z s e) (λ v z r e. read_faulted v z s r e) a.version a.zero_size (sym c.judge_chosen.ensures ∙ c.in-Fits.is))
 
 pub returns-in-Fault : goal.returns-in-Fault
 unfolding answer_by
 returns-in-Fault c =
     let a = c.args in
     let s = a.payload.now in
-    c.refused.ensures ∙ ap answer_of (chosen-fault (refused_by) (λ v z. choice_verdict v z s) (λ v z. read_with v z s) (λ v z e. read-judged v z s e) (λ v z r e. read-faulted v z s r e) a.version a.zero_size _ (sym c.judge_chosen.ensures ∙ c.in-Fault.is))
+    c.refused.ensures ∙ ap answer_of (chosen_fault (refused_by) (λ v z. choice_verdict v z s) (λ v z. read_with v z s) (λ v z e. read_judged v z s e) (λ v z r e. read_faulted v z s r e) a.version a.zero_size _ (sym c.judge_chosen.ensures ∙ c.in-Fault.is))

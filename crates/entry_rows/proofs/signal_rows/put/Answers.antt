@@ -4,11 +4,11 @@ use Rattle.signal_state.specs.declared.SignalStateShown.{SignalStateShown}
 use Rattle.rows.specs.Rows.{header}
 use Rattle.entry_rows.specs.Signals.{answer_text}
 use Rattle.rows.proofs.Laws.{put_then}
-use Rattle.entry_rows.proofs.Signals.{few-entries}
+use Rattle.entry_rows.proofs.Signals.{few_entries}
 use Rattle.entry_rows.proofs.signal_rows.put.Goals as goal
 
 pub put_entries-requires : goal.put_entries-requires
-put_entries-requires c = rw c.count_of.ensures (few-entries c.args.version _ c.args.payload.now (ap (λ (x : SignalStateShown). x.answer) (sym c.read_with-shown.ensures) ∙ c.in-Info.is))
+put_entries-requires c = rw c.count_of.ensures (few_entries c.args.version _ c.args.payload.now (ap (λ (x : SignalStateShown). x.answer) (sym c.read_with-shown.ensures) ∙ c.in-Info.is))
 
 pub returns-in-Refused : goal.returns-in-Refused
 unfolding answer_text

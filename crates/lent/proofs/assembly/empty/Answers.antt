@@ -4,7 +4,7 @@ use mathlib.Core.Path.{refl}
 use borrow.Author.Tests.{lt-ltb, le-ltb}
 use lib.ListN.{length-take}
 use Rattle.lent.specs.LentAssembly.{emptied}
-use Rattle.lent.proofs.Memory.{front-cleared}
+use Rattle.lent.proofs.Memory.{front_cleared}
 use Rattle.lent.proofs.assembly.empty.Goals as goal
 
 pub returns-then-memory-lt-ASSEMBLY_SIZE : goal.returns-then-memory-lt-ASSEMBLY_SIZE
@@ -18,4 +18,4 @@ slice_bounds-clear-end-2 c = simp length-take (omega arith)
 pub returns : goal.returns
 unfolding emptied
 returns c =
-    rw (le-ltb _ _ c.if-memory-lt-ASSEMBLY_SIZE.false) (record { value = refl; memory_after = rw c.clear.ensures (front-cleared c.args.memory.now c.if-memory-lt-ASSEMBLY_SIZE.false) })
+    rw (le-ltb _ _ c.if-memory-lt-ASSEMBLY_SIZE.false) (record { value = refl; memory_after = rw c.clear.ensures (front_cleared c.args.memory.now c.if-memory-lt-ASSEMBLY_SIZE.false) })

@@ -4,7 +4,7 @@ use native.Mathlib.Omega.{arith}
 use lib.ListN.{length-take}
 use Rattle.wire.specs.Output.{over}
 use Rattle.lent.specs.LentAssembly.{feed_in}
-use Rattle.lent.proofs.Memory.{front-cleared}
+use Rattle.lent.proofs.Memory.{front_cleared}
 use Rattle.lent.proofs.assembly.feed.Goals as goal
 
 pub feed_whole-requires : goal.feed_whole-requires
@@ -21,4 +21,4 @@ returns-in-Fits c =
 pub returns-in-Fault : goal.returns-in-Fault
 unfolding feed_in over
 returns-in-Fault c =
-    rw (← c.progress_at-progress.ensures.value, ← c.judge_progress.ensures, c.in-Fault.is) (record { value = refl; memory_after = rw c.clear.ensures (front-cleared c.args.memory.now c.requires); out_after = refl })
+    rw (← c.progress_at-progress.ensures.value, ← c.judge_progress.ensures, c.in-Fault.is) (record { value = refl; memory_after = rw c.clear.ensures (front_cleared c.args.memory.now c.requires); out_after = refl })

@@ -6,7 +6,7 @@ use Rattle.wire.specs.Output.{over}
 use Rattle.assembler.specs.Assembly.{waiting}
 use Rattle.assembler.specs.Door.{fed_shown}
 use Rattle.lent.specs.LentAssembly.{GoesOn, buffer_in, kept_of, feed_in, receive_in}
-use Rattle.lent.proofs.GoingOn.{not-whole, amid-fits, goes_on}
+use Rattle.lent.proofs.GoingOn.{not_whole, amid_fits, goes_on}
 use Rattle.lent.proofs.assembly.receive.Goals as goal
 
 pub returns-then-memory-lt-ASSEMBLY_SIZE : goal.returns-then-memory-lt-ASSEMBLY_SIZE
@@ -30,7 +30,7 @@ returns-then-goes_on_in c =
     let m = c.args.memory.now in
     let s = c.args.piece.now in
     let G : GoesOn p s = rw c.progress_at-progress.ensures.value (c.goes_on_in.ensures c.if-goes_on_in.true) in
-    rw (le-ltb _ _ c.if-memory-lt-ASSEMBLY_SIZE.false, not-whole p s G, ← c.progress_at-progress.ensures.value, amid-fits p s G, goes_on p (buffer_in m) s (length c.args.out.now) G, c.u32_at.ensures, c.u32_at-then-goes_on_in.ensures) (record { value = refl; memory_after = c.go_on.ensures; out_after = refl })
+    rw (le-ltb _ _ c.if-memory-lt-ASSEMBLY_SIZE.false, not_whole p s G, ← c.progress_at-progress.ensures.value, amid_fits p s G, goes_on p (buffer_in m) s (length c.args.out.now) G, c.u32_at.ensures, c.u32_at-then-goes_on_in.ensures) (record { value = refl; memory_after = c.go_on.ensures; out_after = refl })
 
 pub returns : goal.returns
 returns c =

@@ -3,11 +3,11 @@ use mathlib.Core.Path.{sym, ◌∙◌}
 use Rattle.rows.specs.Rows.{header}
 use Rattle.payload_rows.specs.Registrations.{registration_text}
 use Rattle.rows.proofs.Laws.{put_then}
-use Rattle.payload_rows.proofs.Registrations.{listable-texts}
+use Rattle.payload_rows.proofs.Registrations.{listable_texts}
 use Rattle.payload_rows.proofs.registration_rows.put.Goals as goal
 
 pub put_texts-flag-requires : goal.put_texts-flag-requires
-put_texts-flag-requires c = listable-texts c.args.version _ c.args.payload.now _ _ (sym c.read_with.ensures ∙ c.in-Info.is)
+put_texts-flag-requires c = listable_texts c.args.version _ c.args.payload.now _ _ (sym c.read_with.ensures ∙ c.in-Info.is)
 
 pub returns-in-Refused : goal.returns-in-Refused
 unfolding registration_text

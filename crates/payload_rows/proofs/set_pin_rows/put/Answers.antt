@@ -3,11 +3,11 @@ use mathlib.Core.Path.{sym, ◌∙◌}
 use Rattle.rows.specs.Rows.{header}
 use Rattle.payload_rows.specs.SetPins.{set_pin_text}
 use Rattle.rows.proofs.Laws.{put_then}
-use Rattle.payload_rows.proofs.SetPins.{listable-texts}
+use Rattle.payload_rows.proofs.SetPins.{listable_texts}
 use Rattle.payload_rows.proofs.set_pin_rows.put.Goals as goal
 
 pub put_texts-requires : goal.put_texts-requires
-put_texts-requires c = listable-texts _ c.args.payload.now _ _ (sym c.read_with.ensures ∙ c.in-Info.is)
+put_texts-requires c = listable_texts _ c.args.payload.now _ _ (sym c.read_with.ensures ∙ c.in-Info.is)
 
 pub returns-in-Refused : goal.returns-in-Refused
 unfolding set_pin_text

@@ -6,7 +6,7 @@ use lib.ListN.{length}
 use lib.Seq.{sets, length-sets}
 use Rattle.folds.specs.Folds.{joined}
 use Rattle.services_query.specs.ServicesQuery.{all_fields}
-use Rattle.services_query.proofs.OnePass.{fields-next}
+use Rattle.services_query.proofs.OnePass.{fields_next}
 use Rattle.std.proofs.Common.{rules}
 use Rattle.services_query.proofs.all.copy_fields.Goals as goal
 
@@ -18,7 +18,7 @@ pub copy_words-requires : goal.copy_words-requires
 copy_words-requires c = (omega arith, omega (arith, ap length c.loop-i.invariant.1 ∙ length-sets c.args.fields.now 0 (all_fields c.args.payload.now c.loop-i.i), c.loop-i-test.true, c.requires))
 
 pub loop-i-preserved : goal.loop-i-preserved
-loop-i-preserved c = (search rules, fields-next c.args.payload.now c.args.fields.now c.loop-i.i c.judged_offset-offset.ensures c.loop-i.invariant.1 c.copy_words.ensures)
+loop-i-preserved c = (search rules, fields_next c.args.payload.now c.args.fields.now c.loop-i.i c.judged_offset-offset.ensures c.loop-i.invariant.1 c.copy_words.ensures)
 
 pub shape_of-fields : goal.shape_of-fields
 shape_of-fields c = ap length c.loop-i.invariant.1 ∙ simp length-sets

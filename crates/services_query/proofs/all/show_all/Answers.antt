@@ -4,7 +4,7 @@ use native.Mathlib.Omega.{arith}
 use borrow.Author.Tests.{lt-ltb, le-ltb}
 use Rattle.wire.proofs.Laws.{sets_over}
 use Rattle.services_query.specs.ServicesQuery.{all_fields, all_cids, all_shown}
-use Rattle.services_query.proofs.OnePass.{length_fields, length-cids}
+use Rattle.services_query.proofs.OnePass.{length_fields, length_cids}
 use Rattle.services_query.proofs.all.show_all.Goals as goal
 
 pub total_cids-total-requires : goal.total_cids-total-requires
@@ -27,4 +27,4 @@ returns c =
     let s = a.payload.now in
     let n = c.judged_count-count.result in
     rw (← c.judged_count-count.ensures, le-ltb _ _ c.if-fields-count.false, ← c.total_cids-total.ensures.0, le-ltb _ _ c.if-cids-total.false)
-    (record { value = refl; fields_after = c.copy_fields.ensures ∙ sets_over (all_fields s n) a.fields.now (omega (arith, length_fields s n, c.if-fields-count.false)); cids_after = c.copy_all_cids.ensures ∙ sets_over (all_cids s n) a.cids.now (omega (arith, length-cids s n, c.total_cids-total.ensures.0, c.if-cids-total.false)) })
+    (record { value = refl; fields_after = c.copy_fields.ensures ∙ sets_over (all_fields s n) a.fields.now (omega (arith, length_fields s n, c.if-fields-count.false)); cids_after = c.copy_all_cids.ensures ∙ sets_over (all_cids s n) a.cids.now (omega (arith, length_cids s n, c.total_cids-total.ensures.0, c.if-cids-total.false)) })

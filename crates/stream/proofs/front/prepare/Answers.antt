@@ -3,8 +3,8 @@ use mathlib.Core.Path.{refl}
 use native.Mathlib.Omega.{arith}
 use borrow.Author.Tests.{lt-ltb, le-ltb}
 use Rattle.stream.specs.Ready.{prepared_of}
-use Rattle.stream.proofs.Laws.{take-least}
-use Rattle.stream.proofs.Giving.{ended-prepared}
+use Rattle.stream.proofs.Laws.{take_least}
+use Rattle.stream.proofs.Giving.{ended_prepared}
 use Rattle.stream.proofs.front.prepare.Goals as goal
 
 pub returns-then-room-lt-MOST_INFORMATION : goal.returns-then-room-lt-MOST_INFORMATION
@@ -20,7 +20,7 @@ returns-then-piece-lt-MOST_TRANSFER c =
 pub returns-then-ended : goal.returns-then-ended
 returns-then-ended c =
     let a = c.args in
-    rw (ended-prepared a.state a.piece.now a.chunk.now a.room c.if-room-lt-MOST_INFORMATION.false c.if-piece-lt-MOST_TRANSFER.false c.if-ended.true) (record { value = c.done-then-ended.ensures; piece_after = refl })
+    rw (ended_prepared a.state a.piece.now a.chunk.now a.room c.if-room-lt-MOST_INFORMATION.false c.if-piece-lt-MOST_TRANSFER.false c.if-ended.true) (record { value = c.done-then-ended.ensures; piece_after = refl })
 
 pub prepare_open-requires : goal.prepare_open-requires
 prepare_open-requires c = (c.if-piece-lt-MOST_TRANSFER.false, omega (arith, c.least-held.ensures))
@@ -29,4 +29,4 @@ pub returns : goal.returns
 unfolding prepared_of
 returns c =
     let a = c.args in
-    rw (le-ltb _ _ c.if-room-lt-MOST_INFORMATION.false, le-ltb _ _ c.if-piece-lt-MOST_TRANSFER.false, c.if-ended.false, ← take-least a.state.held c.least-held.result a.piece.now c.least-held.ensures) c.prepare_open.ensures
+    rw (le-ltb _ _ c.if-room-lt-MOST_INFORMATION.false, le-ltb _ _ c.if-piece-lt-MOST_TRANSFER.false, c.if-ended.false, ← take_least a.state.held c.least-held.result a.piece.now c.least-held.ensures) c.prepare_open.ensures

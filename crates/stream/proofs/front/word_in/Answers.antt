@@ -4,11 +4,11 @@ use mathlib.Core.List.{◌++◌}
 use lib.ListN.{take}
 use Rattle.wire.specs.Numbers.{u32_at}
 use Rattle.wire.proofs.Laws.{four}
-use Rattle.stream.proofs.Laws.{word_held, word-fed}
+use Rattle.stream.proofs.Laws.{word_held, word_fed}
 use Rattle.stream.proofs.front.word_in.Goals as goal
 
 pub returns-then-held-at : goal.returns-then-held-at
-returns-then-held-at c = let a = c.args in c.u32_at.ensures ∙ word-fed a.held a.piece.now a.chunk.now c.requires.0 a.at c.if-held-at.true
+returns-then-held-at c = let a = c.args in c.u32_at.ensures ∙ word_fed a.held a.piece.now a.chunk.now c.requires.0 a.at c.if-held-at.true
 
 pub returns-then-at-held : goal.returns-then-at-held
 returns-then-at-held c = let a = c.args in c.u32_at-then-at-held.ensures ∙ word_held a.held a.piece.now a.chunk.now c.requires.0 a.at c.if-at-held.true

@@ -1,6 +1,6 @@
 -- By the type.
 use borrow.Author.Tests.{eq-eqb, ne_eqb}
-use Rattle.rows.proofs.Laws.{put-start}
+use Rattle.rows.proofs.Laws.{put_start}
 use Rattle.trace.specs.Heads.{whole_word_row}
 use Rattle.trace.proofs.heads.put_whole_word.Goals as goal
 
@@ -10,7 +10,7 @@ returns-then-message_type-eq-OPEN c = rw (eq-eqb _ _ c.if-message_type-eq-OPEN.t
 
 pub returns-then-message_type-eq-CLOSE : goal.returns-then-message_type-eq-CLOSE
 unfolding whole_word_row
-returns-then-message_type-eq-CLOSE c = rw (ne_eqb _ _ c.if-message_type-eq-OPEN.false, eq-eqb _ _ c.if-message_type-eq-CLOSE.true) (put-start c.args.out.now c.args.at)
+returns-then-message_type-eq-CLOSE c = rw (ne_eqb _ _ c.if-message_type-eq-OPEN.false, eq-eqb _ _ c.if-message_type-eq-CLOSE.true) (put_start c.args.out.now c.args.at)
 
 pub returns-then-message_type-eq-OPEN_DONE : goal.returns-then-message_type-eq-OPEN_DONE
 unfolding whole_word_row

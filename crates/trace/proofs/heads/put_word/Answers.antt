@@ -1,6 +1,6 @@
 -- By the type.
 use borrow.Author.Tests.{eq-eqb, ne_eqb}
-use Rattle.rows.proofs.Laws.{put-start}
+use Rattle.rows.proofs.Laws.{put_start}
 use Rattle.trace.specs.Heads.{word_row}
 use Rattle.trace.proofs.heads.put_word.Goals as goal
 
@@ -14,4 +14,4 @@ returns-then-message_type-eq-COMMAND_DONE c = rw (ne_eqb _ _ c.if-message_type-e
 
 pub returns : goal.returns
 unfolding word_row
-returns c = rw (ne_eqb _ _ c.if-message_type-eq-COMMAND.false, ne_eqb _ _ c.if-message_type-eq-COMMAND_DONE.false) (put-start c.args.out.now c.args.at)
+returns c = rw (ne_eqb _ _ c.if-message_type-eq-COMMAND.false, ne_eqb _ _ c.if-message_type-eq-COMMAND_DONE.false) (put_start c.args.out.now c.args.at)

@@ -6,9 +6,9 @@ use lib.ListN.{length, take, drop, length-drop}
 use lib.Seq.{length-take-le}
 use Rattle.wire.proofs.Laws.{take_rest}
 use Rattle.ascii.specs.Ascii.{through}
-use Rattle.ascii.proofs.Laws.{through-le, through-some}
-use Rattle.rows.proofs.Laws.{put-start, put_then, put-kept}
-use Rattle.trace.proofs.Laws.{marked_next, marked-end}
+use Rattle.ascii.proofs.Laws.{through_le, through_some}
+use Rattle.rows.proofs.Laws.{put_start, put_then, put_kept}
+use Rattle.trace.proofs.Laws.{marked_next, marked_end}
 use Rattle.std.proofs.Common.{rules}
 use Rattle.trace.proofs.marks.put_marked.Goals as goal
 
@@ -16,16 +16,16 @@ seen : (t : List ℕ) (i : ℕ) {n : ℕ} → n ≡ through (take (length t - i)
 seen t i e = e ∙ ap (λ (x : List ℕ). through x 10) (take_rest i t)
 
 bounds : (t : List ℕ) (i : ℕ) → i < length t → (i + through (drop i t) 10 ≤ length t) × (0 < through (drop i t) 10)
-bounds t i l = (omega (arith, through-le (drop i t) 10, length-drop i t), through-some (drop i t) 10 (rw (length-drop i t) (omega arith)))
+bounds t i l = (omega (arith, through_le (drop i t) 10, length-drop i t), through_some (drop i t) 10 (rw (length-drop i t) (omega arith)))
 
 pub loop-i-init : goal.loop-i-init
-loop-i-init c = (search rules, ([], put-start c.args.out.now c.args.at, refl))
+loop-i-init c = (search rules, ([], put_start c.args.out.now c.args.at, refl))
 
 pub slice_bounds-put_text-end : goal.slice_bounds-put_text-end
 slice_bounds-put_text-end c =
     let t = c.args.text.now in
     let i = c.loop-i.i in
-    sym (length-take-le c.length_through-n.result _ (omega (arith, c.length_through-n.ensures, through-le (take (length t - i) (drop i t)) 10)))
+    sym (length-take-le c.length_through-n.result _ (omega (arith, c.length_through-n.ensures, through_le (take (length t - i) (drop i t)) 10)))
 
 pub overflow_add-i : goal.overflow_add-i
 overflow_add-i c =
@@ -55,7 +55,7 @@ loop-i-preserved c =
     (omega (arith, n, b.0), (done ++ (m ++ take k (drop i t)), rw (take_rest i t) at p, marked_next m t done i k c.loop-i-test.true n c.loop-i.invariant.1.2))
 
 pub shape_of-out : goal.shape_of-out
-shape_of-out c = put-kept c.loop-i.invariant.1.1
+shape_of-out c = put_kept c.loop-i.invariant.1.1
 
 pub returns : goal.returns
-returns c = rw (← marked-end c.args.mark.now c.args.text.now c.loop-i.invariant.1.0 c.loop-i.i c.loop-i-test.false c.loop-i.invariant.1.2) c.loop-i.invariant.1.1
+returns c = rw (← marked_end c.args.mark.now c.args.text.now c.loop-i.invariant.1.0 c.loop-i.i c.loop-i-test.false c.loop-i.invariant.1.2) c.loop-i.invariant.1.1
