@@ -66,8 +66,10 @@ answers=$(grep -c '^bad line	[0-9][0-9]*$' "$work/out")
 [ "$lines" -eq "$answers" ] || { echo "hostile: random bytes: $lines lines, $answers answers"; failed=1; }
 
 # An output that takes no more, and an input that cannot be read.
-"$list" <crates/list/stdin >/dev/full 2>"$work/said" && { echo 'hostile: a full output: the status is 0'; failed=1; }
-"$list" <"$work" >"$work/out" 2>"$work/said" && { echo 'hostile: an input that is a folder: the status is 0'; failed=1; }
+"$list" <crates/list/stdin >/dev/full 2>"$work/said"
+[ $? -eq 1 ] && [ -s "$work/said" ] || { echo 'hostile: a full output: not status 1 with a word'; failed=1; }
+"$list" <"$work" >"$work/out" 2>"$work/said"
+[ $? -eq 1 ] && [ -s "$work/said" ] || { echo 'hostile: an input that is a folder: not status 1 with a word'; failed=1; }
 
 [ "$failed" -eq 0 ] && echo 'hostile: ok'
 exit "$failed"

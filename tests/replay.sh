@@ -95,4 +95,16 @@ printf '7\tH\t020000000c00000001000000\r\n9\tH\t020000000c00000001000000\n' >"$w
 rows '1\t\t\tbad line\t19\t28' '2\t0\tH\twhole\tCLOSE' '2\t0\tH\tTransactionId\t1' >"$work/rows"
 answered 'CR LF'
 
+# ends NAME STATUS: the program ended with 1 and said why
+ends() {
+    [ "$2" -eq 1 ] && [ -s "$work/said" ] || { echo "$name: $1: status $2"; exit 1; }
+}
+
+status=0
+"$replay" <examples/station_day.trace >/dev/full 2>"$work/said" || status=$?
+ends 'an output that takes no more' "$status"
+status=0
+"$replay" <"$work" >"$work/out" 2>"$work/said" || status=$?
+ends 'an input that is a folder' "$status"
+
 echo "$name: ok, $lines lines"
