@@ -177,7 +177,7 @@ DEFINED = re.compile(
     r"^define (internal )?(?:noundef )?(?:zeroext )?([^@\n]*?) @(\"[^\"\n]+\"|\w+)\((.*)\) #0 \{$"
 )
 OTHER = (
-    r"(; .*|source_filename = .*|@static\.\d+ = private unnamed_addr constant \[\d+ x i8\] c\"[^\"]*\", align \d+|declare .* @llvm\.(memmove|memcpy|memset|ctpop|trap|arithmetic\.fence)\b.*"
+    r"(; .*|source_filename = .*|@static\.\d+ = private unnamed_addr constant (?:\[\d+ x i8\] c\"[^\"]*\"|\[0 x i8\] zeroinitializer), align \d+|declare .* @llvm\.(memmove|memcpy|memset|ctpop|trap|arithmetic\.fence)\b.*"
     r"|![\w.]+ = .*)?"
 )
 # What would depend on the processor below the entry points, but for names and for two values together. In

@@ -38,7 +38,7 @@
  * between calls lies in memory that you lend: bytes of any alignment, without pointers inside, that
  * may be copied. Several assemblies, streams, hosts, modems and tables of PINs don't disturb each other;
  * calls on different memory may run in parallel. Of other libraries it wants memcpy, memmove and memset.
- * A call takes less than 5 KB of stack, but a PIN entry (cvr_pin_enter, cvr_pin_receive) some 13 KB, and
+ * A call takes less than 5 KB of stack, but a PIN entry (cvr_pin_enter, cvr_pin_receive) some 7 KB, and
  * cvr_device_services_write some 36 KB, half of it the list that is passed;
  * cvr_device_services_write_all writes the same from two lists.
  *

@@ -19,7 +19,9 @@ rows() {
 }
 
 rows "$page" 's/^## \([0-9]*\) \([A-Z_]*\)$/\1 \2/p' >"$work/page"
-rows crates/protocol/src/lib.rt 's/^pub const \([A-Z_]*\): u32 = \([0-9]*\);$/\2 \1/p' >"$work/protocol"
+# the enum Reason, whose names are those of the page in camel case
+rows crates/protocol/src/lib.rt '/^pub enum Reason/,/^}/ s/^    \([A-Za-z]*\) = \([0-9]*\),$/\2 \1/p' |
+    sed 's/\([a-z]\)\([A-Z]\)/\1_\2/g' | tr '[:lower:]' '[:upper:]' >"$work/protocol"
 rows include/culvertroost.h '/^enum cvr_refusal_number/,/^}/ s/^    CVR_\([A-Z_]*\) = \([0-9]*\),*$/\2 \1/p' >"$work/header"
 rows bindings/src/refusals.rs 's/^    \([A-Z_]*\) = \([0-9]*\),$/\2 \1/p' >"$work/bindings"
 "$work/refusals" names >"$work/names"

@@ -1,18 +1,21 @@
 -- Laws of ASCII text, each in the form that a loop asks for.
 -- Assumes nothing.
 use mathlib.Core.Path.{◌≡◌, refl, sym, ap, ◌∙◌}
-use mathlib.Core.Bool.{Bool, true, false, cond}
+use mathlib.Core.Bool.{Bool, true, false, cond, not}
 use mathlib.Core.List.{List, [], ◌∷◌, ◌++◌, append_assoc}
-use Prim.Native.Nat.{ℕ, zero, suc, ◌+◌, ◌*◌, ◌-◌, ◌/◌, ◌%◌, ◌^◌, ◌≤◌, ◌<◌}
+use Prim.Native.Nat.{ℕ, zero, suc, ◌+◌, ◌*◌, ◌-◌, ◌/◌, ◌%◌, ◌^◌, ◌≤◌, ◌<◌, min}
 use native.Mathlib.Nat.{pow-suc}
 use native.Mathlib.Numerals.{add-one}
 use native.Mathlib.Omega.{arith}
-use borrow.Author.Tests.{lt-ltb, le-ltb, eq-eqb, ne_eqb}
+use borrow.Author.Tests.{ltb-true, ltb-false, lt-ltb, le-ltb}
 use lib.Dec.{ltb, eqb}
 use lib.ListN.{length, length-append, length-set, length-drop, get_or, set, take, drop, drop_of_length-le}
-use lib.Seq.{sets, set_split, drop_at, drop-cons, length-take-le}
-use Rattle.wire.proofs.Laws.{sets_append, sets_then, sets_over, take_over}
-use Rattle.ascii.specs.Ascii.{decimal_in, value_from, hex_digit, is_hex, hex_value, hex_run, unhexed, hex_pair, hexed_in, agreement, through}
+use lib.Seq.{sets, set_split, drop_at, length-take-le}
+use Rattle.std.specs.Prelude.{Option, Some, None}
+use Rattle.std.specs.List.{prefix_len, position, position_or_len, zip}
+use Rattle.std.proofs.lemmas.List.Sums.{prefix_len-le-length}
+use Rattle.wire.proofs.Laws.{sets_append, sets_over, take_over}
+use Rattle.ascii.specs.Ascii.{decimal_in, value_from, is_hex, hex_value, hex_run, unhexed, hex_pair, hexed_in, agreement, through}
 
 -- what holds of both sides of a test holds of what it picks
 pub by_test : {A : Type 0} (P : A → Type 0) (t : Bool) {a b : A} → P a → P b → P (cond t a b)
@@ -80,24 +83,6 @@ decimal_spells (suc k) n h =
 
 -- ---- hexadecimal
 
--- the digits that s begins with, counted one by one
-pub run_more : (s : List ℕ) (i : ℕ) → i < length s → (hex_digit (get_or s i 0) ≡ 16 → ⊥) → i + hex_run (drop i s) ≡ hex_run s
-    → i + 1 + hex_run (drop (i + 1) s) ≡ hex_run s
-unfolding hex_run
-run_more s i h n e =
-    let more : hex_run (drop i s) ≡ suc (hex_run (drop (suc i) s)) = rw (drop-cons s i 0 h, ne_eqb (hex_digit (get_or s i 0)) 16 n) in
-    rw (add-one i) (omega (arith, more))
-
-pub run_stop : (s : List ℕ) (i : ℕ) → i < length s → hex_digit (get_or s i 0) ≡ 16 → i + hex_run (drop i s) ≡ hex_run s → i ≡ hex_run s
-unfolding hex_run
-run_stop s i h n e =
-    let none : hex_run (drop i s) ≡ 0 = rw (drop-cons s i 0 h, eq-eqb (hex_digit (get_or s i 0)) 16 n) in
-    omega arith
-
-pub run_end : (s : List ℕ) (i : ℕ) → length s ≤ i → i + hex_run (drop i s) ≡ hex_run s → i ≡ hex_run s
-unfolding hex_run
-run_end s i h e = let none : hex_run (drop i s) ≡ 0 = rw (drop_of_length-le s h) in omega arith
-
 pub length_unhexed : (n : ℕ) (s : List ℕ) → length (unhexed n s) ≡ n
 unfolding unhexed
 length_unhexed zero s = refl
@@ -120,15 +105,6 @@ unfolding hexed_in hex_pair
 length_hexed zero s = refl
 length_hexed (suc n) s = length-append (hexed_in n s) (hex_pair (get_or s n 0)) ∙ omega (arith, length_hexed n s)
 
--- the digits of one byte more
-pub hex_more : (n at : ℕ) (s o : List ℕ) {o₁ o₂ : List ℕ} {b : ℕ} → o₁ ≡ sets o at (hexed_in n s) → b ≡ get_or s n 0
-    → o₂ ≡ sets o₁ (at + 2 * n) (hex_pair b) → o₂ ≡ sets o at (hexed_in (n + 1) s)
-unfolding hexed_in
-hex_more n at s o {o₁} {o₂} {b} p e q =
-    let a : o₂ ≡ sets o at (hexed_in n s ++ hex_pair (get_or s n 0)) =
-    sets_then (hexed_in n s) (hex_pair (get_or s n 0)) at (2 * n) o (length_hexed n s) p (q ∙ ap (λ (k : ℕ). sets o₁ (at + 2 * n) (hex_pair k)) e) in
-    rw (add-one n) a
-
 -- ---- how far a text goes
 
 pub none_left : (w : List ℕ) → agreement [] w ≡ 0
@@ -136,29 +112,16 @@ unfolding agreement
 none_left [] = refl
 none_left (x ∷ w) = refl
 
-pub agree_more : (s w : List ℕ) (i : ℕ) → i < length s → i < length w → get_or s i 0 ≡ get_or w i 0
-    → i + agreement (drop i s) (drop i w) ≡ agreement s w → i + 1 + agreement (drop (i + 1) s) (drop (i + 1) w) ≡ agreement s w
-unfolding agreement
-agree_more s w i h k n e =
-    let more : agreement (drop i s) (drop i w) ≡ suc (agreement (drop (suc i) s) (drop (suc i) w)) =
-    rw (drop-cons s i 0 h, drop-cons w i 0 k, eq-eqb (get_or s i 0) (get_or w i 0) n) in
-    rw (add-one i) (omega (arith, more))
+-- nothing agrees from the end on
+pub none_past : (s w : List ℕ) (at : ℕ) → length s ≤ at → agreement (drop at s) w ≡ 0
+none_past s w at h = rw (drop_of_length-le s h) (none_left w)
 
-pub agree_stop : (s w : List ℕ) (i : ℕ) → i < length s → i < length w → (get_or s i 0 ≡ get_or w i 0 → ⊥)
-    → i + agreement (drop i s) (drop i w) ≡ agreement s w → i ≡ agreement s w
+-- by the pairs of bytes that stand at one place
+pub agreement_is : (s w : List ℕ) → agreement s w ≡ prefix_len (λ p. eqb p.0 p.1) (zip s w)
 unfolding agreement
-agree_stop s w i h k n e =
-    let none : agreement (drop i s) (drop i w) ≡ 0 = rw (drop-cons s i 0 h, drop-cons w i 0 k, ne_eqb (get_or s i 0) (get_or w i 0) n) in
-    omega arith
-
-pub agree_short : (s w : List ℕ) (i : ℕ) → length s ≤ i → i + agreement (drop i s) (drop i w) ≡ agreement s w → i ≡ agreement s w
-agree_short s w i h e =
-    let none : agreement (drop i s) (drop i w) ≡ 0 = rw (drop_of_length-le s h) (none_left (drop i w)) in
-    omega arith
-
-pub agree_end : (s w : List ℕ) (i : ℕ) → length w ≤ i → i + agreement (drop i s) (drop i w) ≡ agreement s w → i ≡ agreement s w
-unfolding agreement
-agree_end s w i h e = let none : agreement (drop i s) (drop i w) ≡ 0 = rw (drop_of_length-le w h) in omega arith
+agreement_is [] w = none_left w
+agreement_is (b ∷ s) [] = refl
+agreement_is (b ∷ s) (x ∷ w) = ap (λ (k : ℕ). cond (eqb b x) k 0) (omega (arith, agreement_is s w))
 
 -- an agreement is no longer than the word
 pub agreement_le : (s w : List ℕ) → agreement s w ≤ length w
@@ -167,22 +130,29 @@ agreement_le s [] = omega arith
 agreement_le [] (x ∷ w) = omega arith
 agreement_le (b ∷ s) (x ∷ w) = by_test (λ (k : ℕ). k ≤ suc (length w)) (eqb b x) (omega (arith, agreement_le s w)) (omega arith)
 
-pub through_more : (s : List ℕ) (x i : ℕ) → i < length s → (get_or s i 0 ≡ x → ⊥) → i + through (drop i s) x ≡ through s x
-    → i + 1 + through (drop (i + 1) s) x ≡ through s x
-unfolding through
-through_more s x i h n e =
-    let more : through (drop i s) x ≡ suc (through (drop (suc i) s) x) = rw (drop-cons s i 0 h, ne_eqb (get_or s i 0) x n) in
-    rw (add-one i) (omega (arith, more))
+-- by the first place where x stands
+through_next : (found : Bool) (r l p : ℕ) → r ≡ min l (p + 1) → cond found 1 (suc r) ≡ min (suc l) (cond (not found) (1 + p) 0 + 1)
+through_next true r l p e = omega arith
+through_next false r l p e = omega arith
 
-pub through_stop : (s : List ℕ) (x i : ℕ) → i < length s → get_or s i 0 ≡ x → i + through (drop i s) x ≡ through s x → i + 1 ≡ through s x
+through_is : (s : List ℕ) (x : ℕ) → through s x ≡ min (length s) (position_or_len (λ b. eqb b x) s + 1)
 unfolding through
-through_stop s x i h n e =
-    let one : through (drop i s) x ≡ 1 = rw (drop-cons s i 0 h, eq-eqb (get_or s i 0) x n) in
-    omega arith
+through_is [] x = refl
+through_is (b ∷ s) x = through_next (eqb b x) _ _ _ (through_is s x)
 
-pub through_end : (s : List ℕ) (x i : ℕ) → length s ≤ i → i + through (drop i s) x ≡ through s x → i ≡ through s x
-unfolding through
-through_end s x i h e = let none : through (drop i s) x ≡ 0 = rw (drop_of_length-le s h) in omega arith
+abbrev pub through_by : Option ℕ → ℕ → ℕ
+through_by (Some i) n = i + 1
+through_by None n = n
+
+pub through_found : (s : List ℕ) (x : ℕ) → through_by (position (λ b. eqb b x) s) (length s) ≡ through s x
+through_found s x = go (ltb p (length s)) refl
+  where
+    p : ℕ
+    p = position_or_len (λ b. eqb b x) s
+
+    go : (t : Bool) → ltb p (length s) ≡ t → through_by (cond t (Some p) None) (length s) ≡ through s x
+    go true h = omega (arith, through_is s x, ltb-true p (length s) h)
+    go false h = omega (arith, through_is s x, ltb-false p (length s) h)
 
 -- a text that is not empty goes on
 pub through_some : (s : List ℕ) (x : ℕ) → 0 < length s → 0 < through s x
@@ -198,8 +168,7 @@ through_le (b ∷ s) x = by_test (λ (k : ℕ). k ≤ suc (length s)) (eqb b x) 
 -- a run of digits is no longer than the text
 pub run_le : (s : List ℕ) → hex_run s ≤ length s
 unfolding hex_run
-run_le [] = omega arith
-run_le (b ∷ s) = by_test (λ (k : ℕ). k ≤ suc (length s)) (is_hex b) (omega (arith, run_le s)) (omega arith)
+run_le s = prefix_len-le-length is_hex s
 
 -- ---- the bytes that n digits of a text spell, from a place of it on, put at the front of a buffer
 

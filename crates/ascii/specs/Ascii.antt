@@ -1,5 +1,6 @@
 -- Numbers and lines in ASCII text. In this order: a text's bytes; decimal; hexadecimal; how far a text goes.
 use Rattle.std.specs.Prelude.{ℕ, zero, suc, ◌+◌, ◌*◌, ◌/◌, ◌%◌, ◌-◌, Bool, cond, not, ◌||◌, List, [], ◌∷◌, ◌++◌, ltb, eqb, length, get_or}
+use Rattle.std.specs.List.{prefix_len}
 use Prim.Native.Char.{code}
 use Prim.Native.String.{String, [] as empty, ◌∷◌ as ◌then◌}
 
@@ -47,8 +48,7 @@ hex_value b = hex_digit b % 16
 
 -- how many digits s begins with
 unfoldable pub hex_run : List ℕ → ℕ
-hex_run [] = 0
-hex_run (b ∷ s) = cond (is_hex b) (suc (hex_run s)) 0
+hex_run s = prefix_len is_hex s
 
 -- the bytes that the first n pairs of digits spell
 unfoldable pub unhexed : ℕ → List ℕ → List ℕ

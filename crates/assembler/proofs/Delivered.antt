@@ -12,14 +12,15 @@ use lib.Seq.{length-take-le}
 use Rattle.protocol.specs.Refusal.{refusal, output_too_small}
 use Rattle.message.specs.Message.{whole_of}
 use Rattle.message.specs.declared.Whole.{Whole}
-use Rattle.message.specs.declared.Whole.TheVariants as whole
 use Rattle.assembler.specs.Assembly.{Step, assembly_of, is_pending, refused, waiting, completed, grown, gather_of, begun_bytes, step_by, step_of, Delivers}
 use Rattle.assembler.specs.Door.{shown_by, whole_shown, fed_shown, Delivered}
 use Rattle.assembler.specs.declared.Assembly.{Assembly}
 use Rattle.assembler.specs.declared.Answer.{Answer}
 use Rattle.assembler.specs.declared.Answer.TheVariants as answer
-use Rattle.assembler.specs.declared.Judged.{Judged}
+use Rattle.assembler.specs.declared.Gathering.{Gathering}
 use Rattle.assembler.proofs.Laws.{Gathers, JudgedView, refuses, starts, joins, judged_view}
+use Rattle.std.specs.Prelude.{Ok, Err, Result}
+use Rattle.protocol.specs.declared.Refusal.{Refusal}
 
 gather_delivers : (a : Assembly) (xs : List ℕ) (d : Bool) (room : ℕ) → length a.bytes ≡ 4096 → Gathers a.progress xs
     → Delivers (gather_of a xs d room).answer (gather_of a xs d room).information room
@@ -47,20 +48,20 @@ pub step_delivers : (a : Assembly) (s : List ℕ) (room : ℕ) → length a.byte
 unfolding step_of step_by refused
 step_delivers a s room w = go (judged_view a.progress s)
   where
-    go : {j : Judged} → JudgedView a.progress s j → Delivers (step_by a.bytes s room j).answer (step_by a.bytes s room j).information room
+    go : {j : (Result Gathering Refusal)} → JudgedView a.progress s j → Delivers (step_by a.bytes s room j).answer (step_by a.bytes s room j).information room
     go (refuses r e) = rw e tt
     go (starts h f n e l G) = rw e (gather_delivers (assembly_of _ (begun_bytes (is_pending a.progress) a.bytes)) (drop n s) (is_pending a.progress) room (begun_whole (is_pending a.progress) a.bytes w) G)
     go (joins n e l G) = rw e (gather_delivers (assembly_of a.progress (begun_bytes false a.bytes)) (drop n s) false room (begun_whole false a.bytes w) G)
 
-pub shown_delivers : (s : List ℕ) (x : Answer) (information : List ℕ) (room : ℕ) → Delivers x information room → Delivered (fed_shown s x) information room
+pub shown_delivers : (s : List ℕ) (x : (Result Answer Refusal)) (information : List ℕ) (room : ℕ) → Delivers x information room → Delivered (fed_shown s x) information room
 unfolding fed_shown
-shown_delivers s (answer.Complete m n d) information room f = f
-shown_delivers s (answer.Pending d) information room f = tt
-shown_delivers s (answer.Refused r) information room f = tt
+shown_delivers s (Ok (answer.Complete m n d)) information room f = f
+shown_delivers s (Ok (answer.Pending d)) information room f = tt
+shown_delivers s (Err r) information room f = tt
 
-whole_delivers : (x : Whole) (information : List ℕ) (room : ℕ) → Delivered (shown_by x) information room
-whole_delivers (whole.Message t n w) information room = tt
-whole_delivers (whole.Refused r) information room = tt
+whole_delivers : (x : (Result Whole Refusal)) (information : List ℕ) (room : ℕ) → Delivered (shown_by x) information room
+whole_delivers (Ok message) information room = tt
+whole_delivers (Err r) information room = tt
 
 pub whole_delivered : (s information : List ℕ) (room : ℕ) → Delivered (whole_shown s) information room
 unfolding whole_shown

@@ -1,7 +1,7 @@
 -- What the judges of a piece tell of the bytes that it brings, and the stores of a delivery.
 -- Assumes nothing.
 use mathlib.Core.Path.{◌≡◌, refl, ap, ◌∙◌}
-use mathlib.Core.Bool.{Bool, true, false, ◌&&◌}
+use mathlib.Core.Bool.{true, false}
 use mathlib.Core.List.{List, ◌++◌, append-nil}
 use Prim.Native.Nat.{ℕ, ◌+◌, ◌-◌, ◌≤◌, ◌<◌}
 use native.Mathlib.Omega.{arith}
@@ -14,18 +14,20 @@ use Rattle.wire.specs.Output.{over}
 use Rattle.wire.proofs.Laws.{sets_then, sets_over}
 use Rattle.protocol.specs.Verdict.{judge}
 use Rattle.protocol.specs.declared.Refusal.{Refusal}
-use Rattle.protocol.specs.declared.Verdict.{Verdict}
-use Rattle.protocol.specs.declared.Verdict.TheVariants.{Fits, Fault}
+use Rattle.protocol.proofs.Tests.{and_both}
 use Rattle.protocol.proofs.Verdicts.{fits_kept}
 use Rattle.message.specs.Message.{most_information, header_at, first_length}
 use Rattle.message.specs.declared.FragmentHeader.{FragmentHeader}
 use Rattle.message.specs.declared.FirstHeader.{FirstHeader}
 use Rattle.message.specs.declared.Fragment.{Fragment}
 use Rattle.message.proofs.Headers.{amount_right, Opened, FragmentView, refuses as no_fragment, opens, follows, fragment_view}
-use Rattle.assembler.specs.Assembly.{is_pending, begun_progress, continues, join_rules, join_of, judged_by, judged_of}
-use Rattle.assembler.specs.declared.Judged.{Judged}
-use Rattle.assembler.specs.declared.Judged.TheVariants as judged
+use Rattle.assembler.specs.Assembly.{empty, is_pending, begun_progress, continues, join_rules, join_of, judged_by, judged_of}
+use Rattle.assembler.specs.declared.Gathering.{Gathering}
 use Rattle.assembler.specs.declared.Progress.{Progress}
+use Rattle.std.specs.Prelude.{Ok, Err}
+use Rattle.protocol.specs.Verdict.{no_fault}
+use Rattle.protocol.specs.Verdict.{Verdict}
+use Rattle.std.specs.Prelude.{Result}
 
 -- the rest of a slice from n on
 pub rest : (n : ℕ) (s : List ℕ) → take (length s - n) (drop n s) ≡ drop n s
@@ -45,15 +47,16 @@ front_over x s e l = rw (e, l)
 pub filled : (i : ℕ) (s : List ℕ) → i ≡ length s → replicate i 0 ++ drop i s ≡ replicate (length s) 0
 filled i s e = rw (e, drop-length s) (append-nil (replicate (length s) 0))
 
+-- a buffer of 4,096 bytes that is cleared is the empty assembly's
+pub cleared : (s : List ℕ) {b : List ℕ} → length s ≡ 4096 → b ≡ replicate (length s) 0 → b ≡ empty.bytes
+unfolding empty
+cleared s l e = rw l at e
+
 -- the bytes xs are such that a message with the progress p may gather them
 abbrev pub Gathers : Progress → List ℕ → Type 0
 Gathers p xs =
     ((p.gathered + length xs ≤ p.information_length) × (p.information_length ≤ most_information) × (p.next < p.total))
     × (p.next + 1 ≡ p.total → p.gathered + length xs ≡ p.information_length)
-
-both : (a b : Bool) → (a && b) ≡ true → (a ≡ true) × (b ≡ true)
-both true b e = (refl, e)
-both false b e = let z : ◌≡◌ {A = ℕ} 0 1 = cc in absurd (omega arith)
 
 -- a header that continues a message has its numbers
 pub record Continues (p : Progress) (h : FragmentHeader) : Type 0 where
@@ -66,10 +69,10 @@ pub record Continues (p : Progress) (h : FragmentHeader) : Type 0 where
 pub continues_says : (p : Progress) (h : FragmentHeader) → continues p h ≡ true → Continues p h
 unfolding continues
 continues_says p h e =
-    let a = both _ _ e in
-    let b = both _ _ a.1 in
-    let c = both _ _ b.1 in
-    let d = both _ _ c.1 in
+    let a = and_both _ _ e in
+    let b = and_both _ _ a.1 in
+    let c = and_both _ _ b.1 in
+    let d = and_both _ _ c.1 in
     record {
       type = eqb-true _ _ a.0;
       transaction = eqb-true _ _ b.0;
@@ -78,7 +81,7 @@ continues_says p h e =
       small = leb-true _ _ d.1;
     }
 
-join_fits : (p : Progress) (h : FragmentHeader) (s : List ℕ) → h.number < h.total → judge (join_rules p h (length s)) ≡ Fits → Gathers p (drop 20 s)
+join_fits : (p : Progress) (h : FragmentHeader) (s : List ℕ) → h.number < h.total → judge (join_rules p h (length s)) ≡ no_fault → Gathers p (drop 20 s)
 join_fits p h s less e =
     let k = fits_kept (join_rules p h (length s)) e in
     let c = continues_says p h (not-false (continues p h) k.0) in
@@ -101,36 +104,30 @@ start_fits h f s is some o =
 -- ---- by the judgement of a piece s: what it says where it refuses nothing
 
 -- a first piece begins a message; a later one joins p
-pub data JudgedView (p : Progress) (s : List ℕ) (j : Judged) : Type 0 where
-  refuses : (r : Refusal) → j ≡ judged.Refused r → JudgedView p s j
-  starts : (h : FragmentHeader) (f : FirstHeader) (n : ℕ) → j ≡ judged.Gathers (begun_progress h f) n (is_pending p) → n ≤ length s
+pub data JudgedView (p : Progress) (s : List ℕ) (j : (Result Gathering Refusal)) : Type 0 where
+  refuses : (r : Refusal) → j ≡ Err r → JudgedView p s j
+  starts : (h : FragmentHeader) (f : FirstHeader) (n : ℕ) → j ≡ Ok (record { progress = (begun_progress h f); from = n; dropped = (is_pending p) }) → n ≤ length s
       → Gathers (begun_progress h f) (drop n s) → JudgedView p s j
-  joins : (n : ℕ) → j ≡ judged.Gathers p n false → n ≤ length s → Gathers p (drop n s) → JudgedView p s j
+  joins : (n : ℕ) → j ≡ Ok (record { progress = p; from = n; dropped = false }) → n ≤ length s → Gathers p (drop n s) → JudgedView p s j
 
 pub judged_view : (p : Progress) (s : List ℕ) → JudgedView p s (judged_of p s)
 unfolding judged_of judged_by join_of
 judged_view p s = go (fragment_view s)
   where
     joined : (h : FragmentHeader) → 20 ≤ length s → h.number < h.total → (v : Verdict) → judge (join_rules p h (length s)) ≡ v → JudgedView p s (join_of v p)
-    joined h long within Fits ev = joins 20 refl long (join_fits p h s within ev)
-    joined h long within (Fault r) ev = refuses r refl
+    joined h long within (Ok _) ev = joins 20 refl long (join_fits p h s within ev)
+    joined h long within (Err r) ev = refuses r refl
 
-    go : {f : Fragment} → FragmentView s f → JudgedView p s (judged_by p (length s) f)
+    go : {f : (Result Fragment Refusal)} → FragmentView s f → JudgedView p s (judged_by p (length s) f)
     go (no_fragment r) = refuses r refl
     go (opens h f a z o) = let g = start_fits h f s a.is a.some o in starts h f _ refl g.0 g.1
     go (follows h a z) = joined h a.long a.within (judge (join_rules p h (length s))) refl
 
 -- what a piece brings that is not refused
-pub brings : (p q : Progress) (s : List ℕ) (n : ℕ) (d : Bool) → judged_of p s ≡ judged.Gathers q n d → (n ≤ length s) × Gathers q (drop n s)
-brings p q s n d e = go (judged_view p s) e
+pub brings : (p : Progress) (s : List ℕ) (g : Gathering) → judged_of p s ≡ Ok g → (g.from ≤ length s) × Gathers g.progress (drop g.from s)
+brings p s g e = go (judged_view p s) e
   where
-    go : {j : Judged} → JudgedView p s j → j ≡ judged.Gathers q n d → (n ≤ length s) × Gathers q (drop n s)
+    go : {j : Result Gathering Refusal} → JudgedView p s j → j ≡ Ok g → (g.from ≤ length s) × Gathers g.progress (drop g.from s)
     go (refuses r ej) k = let z : ◌≡◌ {A = ℕ} 0 1 = cc in absurd (omega arith)
-    go (starts h f m ej l g) k =
-        let a : begun_progress h f ≡ q = cc in
-        let b : m ≡ n = cc in
-        rw (← a, ← b) (l, g)
-    go (joins m ej l g) k =
-        let a : p ≡ q = cc in
-        let b : m ≡ n = cc in
-        rw (← a, ← b) (l, g)
+    go (starts h f m ej l x) k = let same : record { progress = begun_progress h f; from = m; dropped = is_pending p } ≡ g = cc in rw (← same) (l, x)
+    go (joins m ej l x) k = let same : record { progress = p; from = m; dropped = false } ≡ g = cc in rw (← same) (l, x)

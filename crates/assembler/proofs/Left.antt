@@ -2,19 +2,18 @@
 -- Assumes nothing.
 use mathlib.Core.Path.{◌≡◌, refl, ap, ◌∙◌}
 use mathlib.Core.Bool.{Bool, true, false, cond}
-use mathlib.Core.List.{List}
+use mathlib.Core.List.{List, ◌++◌}
 use Prim.Native.Nat.{ℕ, ◌+◌, ◌≤◌, ◌<◌}
 use native.Mathlib.Omega.{arith}
 use borrow.Author.Tests.{eqb-false, not-false}
 use lib.Dec.{eqb, ltb}
-use lib.ListN.{length, drop, length-drop, length-replicate}
-use lib.Seq.{length-sets}
+use lib.ListN.{length, take, drop, length-drop, length-replicate}
+use lib.Seq.{length-sets, length-take-le}
 use Rattle.wire.specs.Numbers.{u32_at}
+use Rattle.wire.specs.Output.{over}
 use Rattle.protocol.specs.Refusal.{refusal, output_too_small}
 use Rattle.protocol.specs.MessageType.{is_fragmented}
 use Rattle.protocol.specs.Verdict.{judge}
-use Rattle.protocol.specs.declared.Verdict.{Verdict}
-use Rattle.protocol.specs.declared.Verdict.TheVariants.{Fits, Fault}
 use Rattle.protocol.proofs.Verdicts.{fits_kept}
 use Rattle.message.specs.Message.{most_information, most_transfer, first_length, message_at, wrong_word}
 use Rattle.message.specs.declared.MessageHeader.{MessageHeader}
@@ -22,12 +21,15 @@ use Rattle.message.specs.declared.FragmentHeader.{FragmentHeader}
 use Rattle.message.specs.declared.FirstHeader.{FirstHeader}
 use Rattle.message.specs.declared.Fragment.{Fragment}
 use Rattle.message.proofs.Headers.{Accepted, Opened, FragmentView, refuses as no_fragment, opens, follows, fragment_view}
-use Rattle.assembler.specs.Assembly.{assembly_of, empty, refused, waiting, completed, grown, gather_of, begun_progress, begun_bytes, continues, join_rules, join_of, judged_by, judged_of, step_by, step_of}
+use Rattle.assembler.specs.Assembly.{assembly_of, empty, is_pending, refused, waiting, completed, grown, gather_of, begun_progress, begun_bytes, continues, join_rules, join_of, judged_by, judged_of, step_by, step_of}
 use Rattle.assembler.specs.declared.Progress.{Progress}
 use Rattle.assembler.specs.declared.Assembly.{Assembly}
-use Rattle.assembler.specs.declared.Judged.{Judged}
-use Rattle.assembler.specs.declared.Judged.TheVariants as judged
-use Rattle.assembler.proofs.Laws.{Gathers, brings, Continues, continues_says}
+use Rattle.assembler.specs.declared.Gathering.{Gathering}
+use Rattle.assembler.proofs.Laws.{front_over, Gathers, brings, Continues, continues_says}
+use Rattle.std.specs.Prelude.{Ok, Err}
+use Rattle.protocol.specs.Verdict.{Verdict}
+use Rattle.std.specs.Prelude.{Result}
+use Rattle.protocol.specs.declared.Refusal.{Refusal}
 
 -- a message that waits for its next fragment
 pub record Waits (p : Progress) : Type 0 where
@@ -90,34 +92,33 @@ joined_ready a s xs h A later C = record {
   from = joined refl (omega (arith, later, C.number));
 }
 
-ready : (a : Assembly) (s : List ℕ) (q : Progress) (n : ℕ) (d : Bool) → judged_of a.progress s ≡ judged.Gathers q n d → Ready a s (drop n s) q
+ready : (a : Assembly) (s : List ℕ) (g : Gathering) → judged_of a.progress s ≡ Ok g → Ready a s (drop g.from s) g.progress
 unfolding judged_of judged_by join_of
-ready a s q n d = go (fragment_view s)
+ready a s g = go (fragment_view s)
   where
     p : Progress
     p = a.progress
 
-    joins : (h : FragmentHeader) → Accepted s h → (h.number ≡ 0 → ⊥) → (v : Verdict) → judge (join_rules p h (length s)) ≡ v → join_of v p ≡ judged.Gathers q n d → Ready a s (drop n s) q
-    joins h A later Fits ev k =
-        let e : a.progress ≡ q = cc in
-        rw (← e) (joined_ready a s (drop n s) h A later (continues_says p h (not-false (continues p h) (fits_kept (join_rules p h (length s)) ev).0)))
-    joins h A later (Fault r) ev k = let z : ◌≡◌ {A = ℕ} 0 1 = cc in absurd (omega arith)
+    joins : (h : FragmentHeader) → Accepted s h → (h.number ≡ 0 → ⊥) → (v : Verdict) → judge (join_rules p h (length s)) ≡ v → join_of v p ≡ Ok g → Ready a s (drop g.from s) g.progress
+    joins h A later (Ok _) ev k =
+        let same : record { progress = p; from = 20; dropped = false } ≡ g = cc in
+        rw (← same) (joined_ready a s (drop 20 s) h A later (continues_says p h (not-false (continues p h) (fits_kept (join_rules p h (length s)) ev).0)))
+    joins h A later (Err r) ev k = let z : ◌≡◌ {A = ℕ} 0 1 = cc in absurd (omega arith)
 
-    go : {f : Fragment} → FragmentView s f → judged_by p (length s) f ≡ judged.Gathers q n d → Ready a s (drop n s) q
+    go : {f : Result Fragment Refusal} → FragmentView s f → judged_by p (length s) f ≡ Ok g → Ready a s (drop g.from s) g.progress
     go (no_fragment r) k = let z : ◌≡◌ {A = ℕ} 0 1 = cc in absurd (omega arith)
     go (opens h f A z o) k =
-        let e : begun_progress h f ≡ q = cc in
-        let l : first_length h.message_type ≡ n = cc in
-        rw (← e, ← l) (begun_ready a s h f A o)
+        let same : record { progress = begun_progress h f; from = first_length h.message_type; dropped = is_pending p } ≡ g = cc in
+        rw (← same) (begun_ready a s h f A o)
     go (follows h A z) k = joins h A z (judge (join_rules p h (length s))) refl k
 
 pub left : (a : Assembly) (s : List ℕ) (room : ℕ) → Left a s (step_of a s room).assembly.progress
 unfolding step_of step_by refused
 left a s room = go (judged_of a.progress s) refl
   where
-    go : (j : Judged) → judged_of a.progress s ≡ j → Left a s (step_by a.bytes s room j).assembly.progress
-    go (judged.Refused r) e = nothing refl
-    go (judged.Gathers q n d) e = gathers_left a s (begun_bytes d a.bytes) (drop n s) d room q (ready a s q n d e) (brings a.progress q s n d e).1
+    go : (j : (Result Gathering Refusal)) → judged_of a.progress s ≡ j → Left a s (step_by a.bytes s room j).assembly.progress
+    go (Err r) e = nothing refl
+    go (Ok gathering) e = gathers_left a s (begun_bytes gathering.dropped a.bytes) (drop gathering.from s) gathering.dropped room gathering.progress (ready a s gathering e) (brings a.progress s gathering e).1
 
 -- the buffer stays as long as it is
 pub left_whole : (a : Assembly) (s : List ℕ) (room : ℕ) → length a.bytes ≡ 4096 → length (step_of a s room).assembly.bytes ≡ 4096
@@ -134,6 +135,11 @@ left_whole a s room whole = go (judged_of a.progress s)
     gathered q xs d true false = length-replicate {A = ℕ} 4096 0
     gathered q xs d false small = length-sets (begun_bytes d a.bytes) q.gathered xs ∙ begun d
 
-    go : (j : Judged) → length (step_by a.bytes s room j).assembly.bytes ≡ 4096
-    go (judged.Refused r) = length-replicate {A = ℕ} 4096 0
-    go (judged.Gathers q n d) = gathered q (drop n s) d (eqb (q.next + 1) q.total) (ltb room q.information_length)
+    go : (j : (Result Gathering Refusal)) → length (step_by a.bytes s room j).assembly.bytes ≡ 4096
+    go (Err r) = length-replicate {A = ℕ} 4096 0
+    go (Ok gathering) = gathered gathering.progress (drop gathering.from s) gathering.dropped (eqb (gathering.progress.next + 1) gathering.progress.total) (ltb room gathering.progress.information_length)
+
+-- and what is left of it stands before the rest of a longer one
+pub lent_front : (p : Progress) (bytes s : List ℕ) (room : ℕ) {b : List ℕ} → 4096 ≤ length bytes → b ≡ (step_of (assembly_of p (take 4096 bytes)) s room).assembly.bytes
+    → b ++ drop 4096 bytes ≡ over (step_of (assembly_of p (take 4096 bytes)) s room).assembly.bytes bytes
+lent_front p bytes s room h e = front_over _ bytes e (left_whole (assembly_of p (take 4096 bytes)) s room (length-take-le 4096 bytes h))

@@ -13,9 +13,10 @@ use Rattle.message.specs.declared.FragmentHeader.{FragmentHeader}
 use Rattle.message.specs.declared.FirstHeader.{FirstHeader}
 use Rattle.assembler.specs.Assembly.{Step, assembly_of, is_pending, refused, waiting, completed, grown, gather_of, begun_progress, begun_bytes, step_by, step_of}
 use Rattle.assembler.specs.declared.Assembly.{Assembly}
-use Rattle.assembler.specs.declared.Judged.{Judged}
+use Rattle.assembler.specs.declared.Gathering.{Gathering}
 use Rattle.assembler.proofs.Laws as judge
 use Rattle.assembler.proofs.Laws.{Gathers, JudgedView, judged_view}
+use Rattle.std.specs.Prelude.{Result}
 
 -- the bytes xs joined a: the step is refused, waits, or completes
 pub data GatherView (a : Assembly) (xs : List ℕ) (dropped : Bool) (s : Step) : Type 0 where
@@ -43,7 +44,7 @@ pub step_view : (a : Assembly) (p : List ℕ) (room : ℕ) → StepView a (step_
 unfolding step_of step_by begun_bytes
 step_view a p room = go (judged_view a.progress p)
   where
-    go : {j : Judged} → JudgedView a.progress p j → StepView a (step_by a.bytes p room j)
+    go : {j : (Result Gathering Refusal)} → JudgedView a.progress p j → StepView a (step_by a.bytes p room j)
     go (judge.refuses r e) = rw e (bad r refl)
     go (judge.starts h f n e l g) = rw e (starts h f (drop n p) g (gather_view _ (drop n p) _ room))
     go (judge.joins n e l g) = rw e (joins (drop n p) g (gather_view a (drop n p) false room))

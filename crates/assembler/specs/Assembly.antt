@@ -6,8 +6,6 @@ use Rattle.std.proofs.lemmas.List.Edits.{sets}
 use Rattle.protocol.specs.Refusal.{refusal, wrong_length, wrong_fragment, output_too_small}
 use Rattle.protocol.specs.Verdict.{Rule, rule, judge}
 use Rattle.protocol.specs.declared.Refusal.{Refusal}
-use Rattle.protocol.specs.declared.Verdict.{Verdict}
-use Rattle.protocol.specs.declared.Verdict.TheVariants.{Fits, Fault}
 use Rattle.message.specs.Message.{most_information, first_length, wrong_amount, fragment_of}
 use Rattle.message.specs.declared.FragmentHeader.{FragmentHeader}
 use Rattle.message.specs.declared.FirstHeader.{FirstHeader}
@@ -17,10 +15,12 @@ use Rattle.assembler.specs.declared.Progress.{Progress}
 use Rattle.assembler.specs.declared.Assembly.{Assembly}
 use Rattle.assembler.specs.declared.Fed.{Fed}
 use Rattle.assembler.specs.declared.FedInPlace.{FedInPlace}
-use Rattle.assembler.specs.declared.Judged.{Judged}
-use Rattle.assembler.specs.declared.Judged.TheVariants as judged
+use Rattle.assembler.specs.declared.Gathering.{Gathering}
 use Rattle.assembler.specs.declared.Answer.{Answer}
-use Rattle.assembler.specs.declared.Answer.TheVariants.{Pending, Complete, Refused}
+use Rattle.assembler.specs.declared.Answer.TheVariants.{Pending, Complete}
+use Rattle.std.specs.Prelude.{Ok, Err}
+use Rattle.protocol.specs.Verdict.{Verdict}
+use Rattle.std.specs.Prelude.{Result}
 
 -- ---- assemblies
 
@@ -50,7 +50,7 @@ is_pending p = ltb 0 p.total
 
 pub record Step : Type 0 where
   pub assembly : Assembly
-  pub answer : Answer
+  pub answer : Result Answer Refusal
   pub information : List ℕ
 
 -- what the two forms of a feed return of it
@@ -62,16 +62,16 @@ in_place s = record { progress = s.assembly.progress; answer = s.answer }
 
 -- "a refused fragment leaves an empty assembly"
 unfoldable pub refused : Refusal → Step
-refused r = record { assembly = empty; answer = Refused r; information = [] }
+refused r = record { assembly = empty; answer = Err r; information = [] }
 
 unfoldable pub waiting : Assembly → Bool → Step
-waiting a dropped = record { assembly = a; answer = Pending dropped; information = [] }
+waiting a dropped = record { assembly = a; answer = Ok (Pending dropped); information = [] }
 
 -- "a complete message empties the assembly": the bytes gathered and then xs are the information
 unfoldable pub completed : Assembly → List ℕ → Bool → Step
 completed a xs dropped = record {
   assembly = empty;
-  answer = Complete a.progress.message a.progress.information_length dropped;
+  answer = Ok (Complete a.progress.message a.progress.information_length dropped);
   information = take a.progress.gathered a.bytes ++ xs;
 }
 
@@ -122,18 +122,18 @@ join_rules p h n =
     ∷ rule (wrong_amount (eqb (h.number + 1) h.total) (p.gathered + (n - 20)) p.information_length) wrong_length 4
     ∷ []
 
-unfoldable pub join_of : Verdict → Progress → Judged
-join_of Fits p = judged.Gathers p 20 false
-join_of (Fault r) p = judged.Refused r
+unfoldable pub join_of : Verdict → Progress → Result Gathering Refusal
+join_of (Ok _) p = Ok (record { progress = p; from = 20; dropped = false })
+join_of (Err r) p = Err r
 
 -- ---- any piece s: refused, or its information from a place on joins a message
 
-unfoldable pub judged_by : Progress → ℕ → Fragment → Judged
-judged_by p n (fragment.Refused r) = judged.Refused r
-judged_by p n (fragment.First h f) = judged.Gathers (begun_progress h f) (first_length h.message_type) (is_pending p)
-judged_by p n (fragment.Later h) = join_of (judge (join_rules p h n)) p
+unfoldable pub judged_by : Progress → ℕ → (Result Fragment Refusal) → Result Gathering Refusal
+judged_by p n (Err r) = Err r
+judged_by p n (Ok (fragment.First h f)) = Ok (record { progress = (begun_progress h f); from = (first_length h.message_type); dropped = (is_pending p) })
+judged_by p n (Ok (fragment.Later h)) = join_of (judge (join_rules p h n)) p
 
-unfoldable pub judged_of : Progress → List ℕ → Judged
+unfoldable pub judged_of : Progress → List ℕ → Result Gathering Refusal
 judged_of p s = judged_by p (length s) (fragment_of s)
 
 -- ---- what feeding the piece s does, with room for so many bytes in the output
@@ -142,9 +142,9 @@ judged_of p s = judged_by p (length s) (fragment_of s)
 unfoldable pub begun_bytes : Bool → List ℕ → List ℕ
 begun_bytes dropped bytes = cond dropped zeros bytes
 
-unfoldable pub step_by : List ℕ → List ℕ → ℕ → Judged → Step
-step_by bytes s room (judged.Refused r) = refused r
-step_by bytes s room (judged.Gathers p from dropped) = gather_of (assembly_of p (begun_bytes dropped bytes)) (drop from s) dropped room
+unfoldable pub step_by : List ℕ → List ℕ → ℕ → (Result Gathering Refusal) → Step
+step_by bytes s room (Err r) = refused r
+step_by bytes s room (Ok gathering) = gather_of (assembly_of gathering.progress (begun_bytes gathering.dropped bytes)) (drop gathering.from s) gathering.dropped room
 
 unfoldable pub step_of : Assembly → List ℕ → ℕ → Step
 step_of a s room = step_by a.bytes s room (judged_of a.progress s)
@@ -154,12 +154,12 @@ unfoldable pub lent_step_of : Progress → List ℕ → List ℕ → ℕ → Ste
 lent_step_of p bytes s room =
     cond (ltb (length bytes) most_information) record {
       assembly = assembly_of empty.progress [];
-      answer = Refused (refusal output_too_small most_information);
+      answer = Err (refusal output_too_small most_information);
       information = [];
     } (step_of (assembly_of p (take most_information bytes)) s room)
 
 -- the information of a complete message is as long as its answer says, and has room (proofs/Delivered)
-abbrev pub Delivers : Answer → List ℕ → ℕ → Type 0
-Delivers (Complete m n dropped) information room = (length information ≡ n) × (n ≤ room)
-Delivers (Pending dropped) information room = Unit
-Delivers (Refused r) information room = Unit
+abbrev pub Delivers : (Result Answer Refusal) → List ℕ → ℕ → Type 0
+Delivers (Ok (Complete m n dropped)) information room = (length information ≡ n) × (n ≤ room)
+Delivers (Ok (Pending dropped)) information room = Unit
+Delivers (Err r) information room = Unit

@@ -4,7 +4,6 @@ use Rattle.std.specs.Prelude.{ℕ, ◌≤◌, ◌≡◌, cond, List, [], ◌∷�
 use Rattle.wire.specs.Numbers.{u32_at}
 use Rattle.message.specs.Message.{whole_of, is_whole_piece}
 use Rattle.message.specs.declared.Whole.{Whole}
-use Rattle.message.specs.declared.Whole.TheVariants as whole
 use Rattle.assembler.specs.Assembly.{Step, step_of}
 use Rattle.assembler.specs.Run.{Piece}
 use Rattle.assembler.specs.declared.Assembly.{Assembly}
@@ -14,28 +13,30 @@ use Rattle.assembler.specs.declared.door.Received.{Received}
 use Rattle.assembler.specs.declared.door.Received.TheVariants as received
 use Rattle.assembler.specs.declared.door.Receipt.{Receipt}
 use Rattle.assembler.specs.declared.door.ReceiptInPlace.{ReceiptInPlace}
+use Rattle.std.specs.Prelude.{Ok, Err, Result}
+use Rattle.protocol.specs.declared.Refusal.{Refusal}
 
 -- ---- a whole message: its type, its transaction and its one number
 
-abbrev pub shown_by : Whole → Received
-shown_by (whole.Message type transaction word) = received.Whole type transaction word
-shown_by (whole.Refused r) = received.Refused r
+abbrev pub shown_by : (Result Whole Refusal) → Result Received Refusal
+shown_by (Ok message) = Ok (received.Whole message.message_type message.transaction message.word)
+shown_by (Err r) = Err r
 
-unfoldable pub whole_shown : List ℕ → Received
+unfoldable pub whole_shown : List ℕ → Result Received Refusal
 whole_shown s = shown_by (whole_of s)
 
 -- ---- a piece that was fed: where more is to come, its own type and transaction
 
-unfoldable pub fed_shown : List ℕ → Answer → Received
-fed_shown s (answer.Pending dropped) = received.Pending (u32_at s 0) (u32_at s 8) dropped
-fed_shown s (answer.Complete m n dropped) = received.Complete m n dropped
-fed_shown s (answer.Refused r) = received.Refused r
+unfoldable pub fed_shown : List ℕ → (Result Answer Refusal) → Result Received Refusal
+fed_shown s (Ok (answer.Pending dropped)) = Ok (received.Pending (u32_at s 0) (u32_at s 8) dropped)
+fed_shown s (Ok (answer.Complete m n dropped)) = Ok (received.Complete m n dropped)
+fed_shown s (Err r) = Err r
 
 -- ---- any piece s, with room for so many bytes in the output
 
 pub record Receiving : Type 0 where
   pub assembly : Assembly
-  pub received : Received
+  pub received : Result Received Refusal
   pub information : List ℕ
 
 -- what the two forms of receiving return of it
@@ -56,16 +57,16 @@ unfoldable pub receive_of : Assembly → List ℕ → ℕ → Receiving
 receive_of a s room = cond (is_whole_piece s) (whole_received a s) (fed_received s (step_of a s room))
 
 -- the information of a complete message is as long as its answer says, and has room (proofs/Delivered)
-abbrev pub Delivered : Received → List ℕ → ℕ → Type 0
-Delivered (received.Complete m n dropped) information room = (length information ≡ n) × (n ≤ room)
-Delivered (received.Whole type transaction word) information room = Unit
-Delivered (received.Pending type transaction dropped) information room = Unit
-Delivered (received.Refused r) information room = Unit
+abbrev pub Delivered : (Result Received Refusal) → List ℕ → ℕ → Type 0
+Delivered (Ok (received.Complete m n dropped)) information room = (length information ≡ n) × (n ≤ room)
+Delivered (Ok (received.Whole type transaction word)) information room = Unit
+Delivered (Ok (received.Pending type transaction dropped)) information room = Unit
+Delivered (Err r) information room = Unit
 
 -- ---- a run of pieces: what a caller sees of each, and the assembly at the end
 
 pub record Seen : Type 0 where
-  pub received : Received
+  pub received : Result Received Refusal
   pub information : List ℕ
 
 abbrev pub seen_of : Receiving → Seen

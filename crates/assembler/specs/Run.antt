@@ -4,13 +4,15 @@ use Rattle.std.specs.Prelude.{ℕ, ◌-◌, ◌≡◌, List, [], ◌∷◌, leng
 use Rattle.assembler.specs.Assembly.{Step, empty, step_of}
 use Rattle.assembler.specs.declared.Assembly.{Assembly}
 use Rattle.assembler.specs.declared.Answer.{Answer}
+use Rattle.std.specs.Prelude.{Result}
+use Rattle.protocol.specs.declared.Refusal.{Refusal}
 
 pub record Piece : Type 0 where
   pub bytes : List ℕ
   pub room : ℕ
 
 pub record Seen : Type 0 where
-  pub answer : Answer
+  pub answer : Result Answer Refusal
   pub information : List ℕ
 
 abbrev pub seen_of : Step → Seen

@@ -28,20 +28,19 @@ pub enum Received {
         length: usize,
         dropped: bool,
     },
-    Refused(Refusal),
 }
 
 // The assembly after a piece, and what the piece is.
 #[derive(Clone, Copy)]
 pub struct Receipt {
     pub assembly: Assembly,
-    pub received: Received,
+    pub received: Result<Received, Refusal>,
 }
 
 #[derive(Clone, Copy)]
 pub struct ReceiptInPlace {
     pub progress: Progress,
-    pub received: Received,
+    pub received: Result<Received, Refusal>,
 }
 
 // Takes any piece. A complete message's information goes to the front of `out`.
@@ -50,15 +49,19 @@ pub fn receive(assembly: Assembly, piece: &[u8], out: &mut [u8]) -> Receipt
     ensures out_after { out.new ≡ over (receive_of assembly piece.now (length out.old)).information out.old }
 {
     let mut bytes = assembly.bytes;
-    let progress = assembly.progress;
-    let receipt = receive_in_place(progress, &mut bytes, piece, out);
-    let progress = receipt.progress;
-    let received = receipt.received;
-    let assembly = Assembly { progress, bytes };
-    Receipt { assembly, received }
+    let receipt = receive_in_place(assembly.progress, &mut bytes, piece, out);
+    let assembly = Assembly {
+        progress: receipt.progress,
+        bytes,
+    };
+    Receipt {
+        assembly,
+        received: receipt.received,
+    }
 }
 
 // The same with the buffer in place.
+#[tactic(auto, using(crate::proofs::Delivered::whole_delivered, crate::proofs::Delivered::shown_delivers), unfolding(crate::specs::Door::receive_of, wire::specs::Output::over))]
 pub fn receive_in_place(
     progress: Progress,
     bytes: &mut [u8; 4096],
@@ -71,39 +74,41 @@ pub fn receive_in_place(
     ensures delivered { Delivered result.received (receive_of (assembly_of progress bytes.old) piece.now (length out.old)).information (length out.old) }
 {
     if is_whole_piece(piece) {
-        let received = show_whole(piece);
-        return ReceiptInPlace { progress, received };
+        return ReceiptInPlace {
+            progress,
+            received: show_whole(piece),
+        };
     }
     let fed = feed_in_place(progress, bytes, piece, out);
-    let progress = fed.progress;
-    let answer = fed.answer;
-    let received = show_fed(piece, answer);
-    ReceiptInPlace { progress, received }
+    ReceiptInPlace {
+        progress: fed.progress,
+        received: show_fed(piece, fed.answer),
+    }
 }
 
 // A piece judged as a whole message.
-pub fn show_whole(piece: &[u8]) -> Received
+#[tactic(auto, unfolding(crate::specs::Door::whole_shown))]
+pub fn show_whole(piece: &[u8]) -> Result<Received, Refusal>
     ensures { result ≡ whole_shown piece.now }
 {
-    match judge_whole(piece) {
-        Whole::Message {
-            message_type,
-            transaction,
-            word,
-        } => Received::Whole {
-            message_type,
-            transaction,
-            word,
-        },
-        Whole::Refused(refusal) => Received::Refused(refusal),
-    }
+    let Whole {
+        message_type,
+        transaction,
+        word,
+    } = judge_whole(piece)?;
+    Ok(Received::Whole {
+        message_type,
+        transaction,
+        word,
+    })
 }
 
 // What feeding a piece was answered, with the piece's own type and transaction.
-pub fn show_fed(piece: &[u8], answer: Answer) -> Received
+#[tactic(auto, unfolding(crate::specs::Door::fed_shown))]
+pub fn show_fed(piece: &[u8], answer: Result<Answer, Refusal>) -> Result<Received, Refusal>
     ensures { result ≡ fed_shown piece.now answer }
 {
-    match answer {
+    let received = match answer? {
         Answer::Pending { dropped } => Received::Pending {
             message_type: u32_at(piece, 0),
             transaction: u32_at(piece, 8),
@@ -118,6 +123,6 @@ pub fn show_fed(piece: &[u8], answer: Answer) -> Received
             length,
             dropped,
         },
-        Answer::Refused(refusal) => Received::Refused(refusal),
-    }
+    };
+    Ok(received)
 }

@@ -8,17 +8,14 @@ pub mod door;
 ghost use Rattle.std.specs.Prelude.{◌≡◌, ◌++◌, ◌+◌, ◌≤◌, ◌<◌, length, take, replicate};
 ghost use Rattle.wire.specs.Output.{over};
 ghost use Rattle.protocol.specs.Verdict.{judge};
-ghost use Rattle.message.specs.Message.{first_length};
 ghost use Rattle.assembler.specs.Assembly.{assembly_of, empty, by_value, in_place, refused, grown_progress, gather_of, begun_progress, begun_bytes, continues, join_rules, join_of, judged_of, step_of, lent_step_of, Delivers};
 
 use message::{
-    FirstHeader, Fragment, FragmentHeader, MessageHeader, is_wrong_amount, judge_fragment,
-    length_place,
+    FirstHeader, Fragment, FragmentHeader, MessageHeader, first_length, is_wrong_amount,
+    judge_fragment,
 };
 use protocol::service::ServiceId;
-use protocol::{
-    MOST_INFORMATION, OUTPUT_TOO_SMALL, Refusal, Verdict, WRONG_FRAGMENT, WRONG_LENGTH, also,
-};
+use protocol::{MOST_INFORMATION, Reason, Refusal, Verdict, refuse_if};
 use wire::put_bytes;
 
 // How far the pending message has come: 01's assembly without its buffer. Total 0 is no message.
@@ -49,46 +46,43 @@ pub enum Answer {
         length: usize,
         dropped: bool,
     },
-    Refused(Refusal),
 }
 
 #[derive(Clone, Copy)]
 pub struct Fed {
     pub assembly: Assembly,
-    pub answer: Answer,
+    pub answer: Result<Answer, Refusal>,
 }
 
+// The same where the buffer is lent, as it is to the C interface: only the progress goes back.
 #[derive(Clone, Copy)]
 pub struct FedInPlace {
     pub progress: Progress,
-    pub answer: Answer,
+    pub answer: Result<Answer, Refusal>,
 }
 
-// A piece that is refused, or whose information from `from` on joins the message that has come as
-// far as `progress` says.
+// What a piece brings: its information from `from` on joins the message that has come as far as
+// `progress` says.
 #[derive(Clone, Copy)]
-enum Judged {
-    Refused(Refusal),
-    Gathers {
-        progress: Progress,
-        from: usize,
-        dropped: bool,
-    },
+struct Gathering {
+    progress: Progress,
+    from: usize,
+    dropped: bool,
 }
 
 impl Assembly {
     pub fn empty() -> Assembly
         ensures { result ≡ empty }
     {
-        let progress = Progress::none();
         Assembly {
-            progress,
+            progress: Progress::none(),
             bytes: [0; 4096],
         }
     }
 }
 
 impl Progress {
+    #[tactic(auto, unfolding(crate::specs::Assembly::empty))]
     pub fn none() -> Progress
         ensures { result ≡ empty.progress }
     {
@@ -121,12 +115,15 @@ pub fn feed(assembly: Assembly, piece: &[u8], out: &mut [u8]) -> Fed
     ensures out_after { out.new ≡ over (step_of assembly piece.now (length out.old)).information out.old }
 {
     let mut bytes = assembly.bytes;
-    let progress = assembly.progress;
-    let fed = feed_in_place(progress, &mut bytes, piece, out);
-    let progress = fed.progress;
-    let answer = fed.answer;
-    let assembly = Assembly { progress, bytes };
-    Fed { assembly, answer }
+    let fed = feed_in_place(assembly.progress, &mut bytes, piece, out);
+    let assembly = Assembly {
+        progress: fed.progress,
+        bytes,
+    };
+    Fed {
+        assembly,
+        answer: fed.answer,
+    }
 }
 
 // The same with the buffer in place. A later piece that leaves its message pending touches no byte
@@ -147,23 +144,26 @@ pub fn feed_in_place(
 
 // The same with a buffer whose length only its caller knows: a smaller one than 4,096 is refused, of a
 // larger one the first 4,096 bytes are used.
+#[tactic(auto, unfolding(crate::specs::Assembly::lent_step_of, wire::specs::Output::over))]
 pub fn feed_lent(progress: Progress, bytes: &mut [u8], piece: &[u8], out: &mut [u8]) -> FedInPlace
     ensures value { result ≡ in_place (lent_step_of progress bytes.old piece.now (length out.old)) }
     ensures bytes_after { bytes.new ≡ over (lent_step_of progress bytes.old piece.now (length out.old)).assembly.bytes bytes.old }
     ensures out_after { out.new ≡ over (lent_step_of progress bytes.old piece.now (length out.old)).information out.old }
 {
     if bytes.len() < MOST_INFORMATION {
-        let progress = Progress::none();
-        let answer = Answer::Refused(Refusal {
-            number: OUTPUT_TOO_SMALL,
-            place: MOST_INFORMATION,
-        });
-        return FedInPlace { progress, answer };
+        return FedInPlace {
+            progress: Progress::none(),
+            answer: Err(Refusal {
+                reason: Reason::OutputTooSmall,
+                place: MOST_INFORMATION,
+            }),
+        };
     }
     feed_whole(progress, &mut bytes[..MOST_INFORMATION], piece, out)
 }
 
 // The core, on a buffer of 4,096 bytes.
+#[tactic(auto, using(crate::proofs::Laws::brings, crate::proofs::Laws::rest), unfolding(crate::specs::Assembly::step_of, crate::specs::Assembly::step_by, crate::specs::Assembly::refused, wire::specs::Output::over))]
 fn feed_whole(progress: Progress, bytes: &mut [u8], piece: &[u8], out: &mut [u8]) -> FedInPlace
     requires { length bytes.old ≡ 4096 }
     ensures value { result ≡ in_place (step_of (assembly_of progress bytes.old) piece.now (length out.old)) }
@@ -171,55 +171,50 @@ fn feed_whole(progress: Progress, bytes: &mut [u8], piece: &[u8], out: &mut [u8]
     ensures out_after { out.new ≡ over (step_of (assembly_of progress bytes.old) piece.now (length out.old)).information out.old }
 {
     match judge_piece(progress, piece) {
-        Judged::Refused(refusal) => refuse(refusal, bytes),
-        Judged::Gathers {
-            progress: gathering,
-            from,
-            dropped,
-        } => {
-            clear_if(dropped, bytes);
-            gather(gathering, bytes, &piece[from..], dropped, out)
+        Err(refusal) => refuse(refusal, bytes),
+        Ok(gathering) => {
+            clear_if(gathering.dropped, bytes);
+            gather(
+                gathering.progress,
+                bytes,
+                &piece[gathering.from..],
+                gathering.dropped,
+                out,
+            )
         }
     }
 }
 
 // A piece is judged before anything is written.
-fn judge_piece(progress: Progress, piece: &[u8]) -> Judged
+#[tactic(auto, using(message::proofs::Headers::later_accepted), unfolding(crate::specs::Assembly::judged_of, crate::specs::Assembly::judged_by))]
+fn judge_piece(progress: Progress, piece: &[u8]) -> Result<Gathering, Refusal>
     ensures { result ≡ judged_of progress piece.now }
 {
-    match judge_fragment(piece) {
-        Fragment::Refused(refusal) => Judged::Refused(refusal),
-        Fragment::First { header, first } => Judged::Gathers {
+    match judge_fragment(piece)? {
+        Fragment::First { header, first } => Ok(Gathering {
             progress: begin(header, first),
             from: first_length(header.message_type),
             dropped: 0 < progress.total,
-        },
+        }),
         Fragment::Later(header) => join(progress, header, piece.len()),
     }
 }
 
-// The bytes before a first fragment's information.
-pub fn first_length(message_type: u32) -> usize
-    ensures { result ≡ first_length message_type }
-{
-    length_place(message_type) + 4
-}
-
 // A later piece of n bytes, with the header that every fragment has.
-fn join(progress: Progress, header: FragmentHeader, n: usize) -> Judged
+#[tactic(auto, unfolding(crate::specs::Assembly::join_of))]
+fn join(progress: Progress, header: FragmentHeader, n: usize) -> Result<Gathering, Refusal>
     requires { (20 ≤ n) × (n ≤ 4096) × (header.number < header.total) }
     ensures { result ≡ join_of (judge (join_rules progress header n)) progress }
 {
-    match judge_join(progress, header, n) {
-        Verdict::Fits => Judged::Gathers {
-            progress,
-            from: 20,
-            dropped: false,
-        },
-        Verdict::Fault(refusal) => Judged::Refused(refusal),
-    }
+    judge_join(progress, header, n)?;
+    Ok(Gathering {
+        progress,
+        from: 20,
+        dropped: false,
+    })
 }
 
+#[tactic(auto, unfolding(protocol::specs::Verdict::judge_from, protocol::specs::Verdict::first_of, protocol::specs::Verdict::fault_if))]
 fn judge_join(progress: Progress, header: FragmentHeader, n: usize) -> Verdict
     requires { (20 ≤ n) × (n ≤ 4096) × (header.number < header.total) }
     ensures { result ≡ judge (join_rules progress header n) }
@@ -227,45 +222,31 @@ fn judge_join(progress: Progress, header: FragmentHeader, n: usize) -> Verdict
     let last = header.number + 1 == header.total;
     let gathered = progress.gathered as usize + (n - 20);
     let declared = progress.information_length as usize;
-    let joins = also(
-        Verdict::Fits,
-        !is_next(progress, header),
-        WRONG_FRAGMENT,
-        16,
-    );
-    also(
-        joins,
+    refuse_if(!is_next(progress, header), Reason::WrongFragment, 16)?;
+    refuse_if(
         is_wrong_amount(last, gathered, declared),
-        WRONG_LENGTH,
+        Reason::WrongLength,
         4,
     )
 }
 
 // Whether a later fragment is the one that the pending message waits for.
+#[tactic(auto, unfolding(crate::specs::Assembly::continues))]
 fn is_next(progress: Progress, header: FragmentHeader) -> bool
     ensures { result ≡ continues progress header }
 {
-    if progress.message.message_type != header.message_type {
-        return false;
-    }
-    if progress.message.transaction != header.transaction {
-        return false;
-    }
-    if progress.total != header.total {
-        return false;
-    }
-    if progress.next != header.number {
-        return false;
-    }
-    progress.information_length as usize <= MOST_INFORMATION
+    progress.message.message_type == header.message_type
+        && progress.message.transaction == header.transaction
+        && progress.total == header.total
+        && progress.next == header.number
+        && progress.information_length as usize <= MOST_INFORMATION
 }
 
 fn begin(header: FragmentHeader, first: FirstHeader) -> Progress
     ensures { result ≡ begun_progress header first }
 {
-    let message = first.message;
     Progress {
-        message,
+        message: first.message,
         total: header.total,
         next: 0,
         information_length: first.information_length,
@@ -274,6 +255,7 @@ fn begin(header: FragmentHeader, first: FirstHeader) -> Progress
 }
 
 // The information in `source` joins the message, which then waits or is complete.
+#[tactic(auto, using(crate::proofs::Laws::cleared), unfolding(crate::specs::Assembly::gather_of, crate::specs::Assembly::refused, crate::specs::Assembly::completed, crate::specs::Assembly::waiting, crate::specs::Assembly::grown, wire::specs::Output::over))]
 fn gather(
     progress: Progress,
     bytes: &mut [u8],
@@ -293,26 +275,27 @@ fn gather(
     if progress.next + 1 == progress.total {
         if out.len() < length {
             let small = Refusal {
-                number: OUTPUT_TOO_SMALL,
+                reason: Reason::OutputTooSmall,
                 place: length,
             };
             return refuse(small, bytes);
         }
         deliver(bytes, gathered, source, out);
         clear(bytes);
-        let message = progress.message;
-        let progress = Progress::none();
-        let answer = Answer::Complete {
-            message,
-            length,
-            dropped,
+        return FedInPlace {
+            progress: Progress::none(),
+            answer: Ok(Answer::Complete {
+                message: progress.message,
+                length,
+                dropped,
+            }),
         };
-        return FedInPlace { progress, answer };
     }
     put_bytes(bytes, gathered, source);
-    let progress = grow(progress, source.len());
-    let answer = Answer::Pending { dropped };
-    FedInPlace { progress, answer }
+    FedInPlace {
+        progress: grow(progress, source.len()),
+        answer: Ok(Answer::Pending { dropped }),
+    }
 }
 
 // The first `gathered` bytes of the buffer and then `source`, to the front of `out`.
@@ -329,9 +312,8 @@ fn grow(progress: Progress, n: usize) -> Progress
     requires { (progress.gathered + n ≤ 4096) × (progress.next < progress.total) }
     ensures { result ≡ grown_progress progress n }
 {
-    let message = progress.message;
     Progress {
-        message,
+        message: progress.message,
         total: progress.total,
         next: progress.next + 1,
         information_length: progress.information_length,
@@ -339,17 +321,20 @@ fn grow(progress: Progress, n: usize) -> Progress
     }
 }
 
+#[tactic(auto, using(crate::proofs::Laws::cleared), unfolding(crate::specs::Assembly::refused))]
 fn refuse(refusal: Refusal, bytes: &mut [u8]) -> FedInPlace
     requires { length bytes.old ≡ 4096 }
     ensures value { result ≡ in_place (refused refusal) }
     ensures bytes_after { bytes.new ≡ (refused refusal).assembly.bytes }
 {
     clear(bytes);
-    let progress = Progress::none();
-    let answer = Answer::Refused(refusal);
-    FedInPlace { progress, answer }
+    FedInPlace {
+        progress: Progress::none(),
+        answer: Err(refusal),
+    }
 }
 
+#[tactic(auto, unfolding(crate::specs::Assembly::begun_bytes))]
 fn clear_if(dropped: bool, bytes: &mut [u8])
     requires { length bytes.old ≡ 4096 }
     ensures { bytes.new ≡ begun_bytes dropped bytes.old }
@@ -359,13 +344,12 @@ fn clear_if(dropped: bool, bytes: &mut [u8])
     }
 }
 
-// Fills the bytes with zeros.
+// Fills the bytes with zeros. std's `fill` would test for none and store the last one apart.
+#[tactic(auto, using(crate::proofs::Laws::filled, std::proofs::lemmas::List::Edits::fill_more))]
 pub fn clear(bytes: &mut [u8])
     ensures { bytes.new ≡ replicate (length bytes.old) 0 }
 {
-    let mut i: usize = 0;
-    while i < bytes.len() {
+    for i in 0..bytes.len() {
         bytes[i] = 0;
-        i += 1;
     }
 }

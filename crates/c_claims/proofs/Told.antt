@@ -1,63 +1,59 @@
--- Every function's number is 0 exactly where nothing was refused.
+-- Every function's number is 0 exactly where nothing was refused: what holds of every answer of a type holds of the function's.
 -- Assumes nothing.
 use Rattle.c_claims.specs.NumberZero.{EveryNumberTells}
-use Rattle.c_claims.proofs.Payloads as payloads
-use Rattle.c_claims.proofs.Messages as messages
-use Rattle.c_claims.proofs.Streams as streams
-use Rattle.c_claims.proofs.Ends as ends
-use Rattle.c_claims.proofs.Pins as pins
+use Rattle.c_claims.proofs.Answers.{verdict_told, written_told, version_told, packet_told, registration_told, signal_told, services_told, element_told, listed_told, position_told, all_told, set_pin_told, pin_info_told, reading_told, bars_told, whole_told, cut_told, kind_told, received_told, said_told, host_told, ask_told, modem_told, entry_told, pin_modem_told}
 
 pub every_number_tells : EveryNumberTells
 every_number_tells = record {
-  version_info_read = payloads.version_read_told;
-  version_info_write = payloads.version_write_told;
-  packet_service_read = payloads.packet_read_told;
-  packet_service_write = payloads.packet_write_told;
-  registration_read = payloads.registration_read_told;
-  registration_read_with = payloads.registration_chosen_told;
-  registration_write = payloads.registration_write_told;
-  signal_state_read = payloads.signal_read_told;
-  signal_state_read_with = payloads.signal_chosen_told;
-  signal_state_write = payloads.signal_write_told;
-  device_services_read = payloads.services_read_told;
-  device_services_read_with = payloads.services_chosen_told;
-  device_services_element = payloads.element_told;
-  device_services_element_with = payloads.element_chosen_told;
-  device_services_cids = payloads.cids_told;
-  device_services_cids_with = payloads.cids_chosen_told;
-  device_services_listed = payloads.listed_told;
-  device_services_listed_with = payloads.listed_chosen_told;
-  device_services_ask = payloads.position_told;
-  device_services_ask_with = payloads.position_chosen_told;
-  device_services_all = payloads.all_told;
-  device_services_all_with = payloads.all_chosen_told;
-  device_services_write = payloads.services_write_told;
-  device_services_write_all = payloads.lists_write_told;
-  set_pin_read = pins.set_pin_read_told;
-  set_pin_read_with = pins.set_pin_chosen_told;
-  set_pin_write = pins.set_pin_write_told;
-  pin_info_read = pins.pin_info_read_told;
-  pin_info_write = pins.pin_info_write_told;
-  rsrp = payloads.rsrp_told;
-  snr = payloads.snr_told;
-  bars = payloads.bars_told;
-  message_judge = messages.whole_told;
-  message_write = messages.write_told;
-  message_cut = messages.cut_told;
-  payload_kind = messages.kind_told;
-  assembly_empty = messages.empty_told;
-  receive = messages.receive_told;
-  stream_reset = streams.reset_told;
-  stream_feed = streams.feed_told;
-  host_make = ends.host_make_told;
-  host_open = ends.host_open_told;
-  host_close = ends.host_close_told;
-  host_next_command = ends.host_ask_told;
-  host_receive = ends.host_receive_told;
-  modem_make = ends.modem_make_told;
-  modem_restart = ends.modem_restart_told;
-  modem_receive = ends.modem_receive_told;
-  pin_make = pins.pin_make_told;
-  pin_enter = pins.pin_enter_told;
-  pin_receive = pins.pin_receive_told;
+  version_info_read = λ s. version_told _;
+  version_info_write = λ i out. written_told _;
+  packet_service_read = λ n s. packet_told _;
+  packet_service_write = λ i out. written_told _;
+  registration_read = λ n s. registration_told _;
+  registration_read_with = λ n k s. registration_told _;
+  registration_write = λ i x y z out. written_told _;
+  signal_state_read = λ n s. signal_told _;
+  signal_state_read_with = λ n k s. signal_told _;
+  signal_state_write = λ i out. written_told _;
+  device_services_read = λ s. services_told _;
+  device_services_read_with = λ k s. services_told _;
+  device_services_element = λ s number cids. element_told _;
+  device_services_element_with = λ k s number cids. element_told _;
+  device_services_cids = λ s service cids. element_told _;
+  device_services_cids_with = λ k s service cids. element_told _;
+  device_services_listed = λ s service cid. listed_told _;
+  device_services_listed_with = λ k s service cid. listed_told _;
+  device_services_ask = λ s service cid. position_told _;
+  device_services_ask_with = λ k s service cid. position_told _;
+  device_services_all = λ s fields cids. all_told _;
+  device_services_all_with = λ k s fields cids. all_told _;
+  device_services_write = λ p out. written_told _;
+  device_services_write_all = λ max fields cids out. written_told _;
+  set_pin_read = λ s. set_pin_told _;
+  set_pin_read_with = λ k s. set_pin_told _;
+  set_pin_write = λ i pin new out. written_told _;
+  pin_info_read = λ s. pin_info_told _;
+  pin_info_write = λ i out. written_told _;
+  rsrp = λ code. reading_told _;
+  snr = λ code. reading_told _;
+  bars = λ rssi. bars_told _;
+  message_judge = λ s. whole_told _;
+  message_write = λ type transaction word out. written_told _;
+  message_cut = λ m size information out. cut_told _;
+  payload_kind = λ m. kind_told _;
+  assembly_empty = λ memory. verdict_told _;
+  receive = λ memory piece room. received_told _;
+  stream_reset = λ memory assembly. verdict_told _;
+  stream_feed = λ memory assembly chunk room. said_told _ _;
+  host_make = λ memory native. verdict_told _;
+  host_open = λ memory advertised. host_told _;
+  host_close = λ memory. host_told _;
+  host_next_command = λ memory out. ask_told _;
+  host_receive = λ memory m information. host_told _;
+  modem_make = λ memory native advertised services. verdict_told _;
+  modem_restart = λ memory. verdict_told _;
+  modem_receive = λ memory m information out. modem_told _;
+  pin_make = λ memory rows. verdict_told _;
+  pin_enter = λ memory s. entry_told _;
+  pin_receive = λ memory table m information out. pin_modem_told _;
 }

@@ -1,43 +1,30 @@
 -- Of every exported function whose answer can be a refusal: the number of its answer's refusal is 0 exactly where nothing was refused.
 -- `cvr_service_id` and `cvr_transaction_next` refuse nothing. Proved in proofs/Told.
 use Rattle.std.specs.Prelude.{ℕ, ◌≡◌, Bool, not, List, eqb}
-use Rattle.protocol.specs.declared.Verdict.{Verdict}
-use Rattle.protocol.specs.declared.Written.{Written}
 use Rattle.protocol.specs.declared.service.ServiceId.{ServiceId}
 use Rattle.version_info.specs.VersionInfo as version
 use Rattle.version_info.specs.declared.VersionInfo.{VersionInfo}
-use Rattle.version_info.specs.declared.VersionInfoRead.{VersionInfoRead}
-use Rattle.packet_service.specs.declared.PacketServiceRead.{PacketServiceRead}
-use Rattle.registration.specs.declared.RegistrationRead.{RegistrationRead}
 use Rattle.signal_state.specs.declared.SignalStateShown.{SignalStateShown}
 use Rattle.device_services.specs.DeviceServices as services
-use Rattle.device_services.specs.declared.DeviceServicesRead.{DeviceServicesRead}
 use Rattle.services_query.specs.ServicesQuery as query
-use Rattle.services_query.specs.declared.ElementAnswer.{ElementAnswer}
 use Rattle.services_ask.specs.ServicesAsk as ask
-use Rattle.services_ask.specs.declared.PositionAnswer.{PositionAnswer}
-use Rattle.services_query.specs.declared.ListedAnswer.{ListedAnswer}
-use Rattle.services_query.specs.declared.all.AllAnswer.{AllAnswer}
+use Rattle.services_ask.specs.ServicesAsk.{PositionAnswer}
+use Rattle.services_query.specs.declared.all.AllListed.{AllListed}
 use Rattle.services_lists.specs.ServicesLists as lists
 use Rattle.services_writer.specs.ServicesWriter as writer
 use Rattle.services_writer.specs.declared.ServiceList.{ServiceList}
 use Rattle.pin.specs.SetPin as set_pin
 use Rattle.pin.specs.declared.set_pin.SetPin.{SetPin}
-use Rattle.pin.specs.declared.set_pin.SetPinRead.{SetPinRead}
 use Rattle.pin.specs.PinInfo as pin_info
 use Rattle.pin.specs.declared.pin_info.PinInfo.{PinInfo}
-use Rattle.pin.specs.declared.pin_info.PinInfoRead.{PinInfoRead}
 use Rattle.signal_quality.specs.Decibels.{rsrp_of, snr_of}
 use Rattle.signal_quality.specs.Bars.{bars_of}
-use Rattle.signal_quality.specs.declared.ReadingRead.{ReadingRead}
-use Rattle.signal_quality.specs.declared.Bars.{Bars}
 use Rattle.message.specs.Message.{whole_of, write_whole_of}
 use Rattle.message.specs.declared.MessageHeader.{MessageHeader}
 use Rattle.message.specs.declared.Whole.{Whole}
 use Rattle.cutter.specs.Cut.{cut_of}
-use Rattle.cutter.specs.declared.Cutting.{Cutting}
+use Rattle.cutter.specs.declared.Fragments.{Fragments}
 use Rattle.payload.specs.Payload.{shown_of}
-use Rattle.payload.specs.declared.Shown.{Shown}
 use Rattle.assembler.specs.declared.door.Received.{Received}
 use Rattle.host.specs.declared.HostAnswer.{HostAnswer}
 use Rattle.host.specs.declared.Ask.{Ask}
@@ -73,7 +60,22 @@ use Rattle.culvertroost.specs.Services as services_by
 use Rattle.culvertroost.specs.Modems.{reply_info}
 use Rattle.culvertroost.specs.Pins as set_pin_by
 use Rattle.culvertroost.specs.Pins.{pin_reply_info}
-use Rattle.c_claims.specs.Refused.{faulty, written_refused, version_refused, packet_refused, registration_refused, signal_refused, services_refused, element_refused, listed_refused, position_refused, all_refused, set_pin_refused, pin_info_refused, reading_refused, bars_refused, whole_refused, cut_refused, shown_refused, received_refused, said_refused, host_refused, ask_refused, modem_refused, entry_refused, pin_modem_refused}
+use Rattle.c_claims.specs.Refused.{is_refused, said_refused}
+use Rattle.signal_quality.specs.Bars.{Bars}
+use Rattle.device_services.specs.DeviceServices.{DeviceServicesRead}
+use Rattle.services_query.specs.ServicesQuery.{ElementAnswer}
+use Rattle.services_query.specs.ServicesQuery.{ListedAnswer}
+use Rattle.packet_service.specs.PacketService.{PacketServiceRead}
+use Rattle.pin.specs.PinInfo.{PinInfoRead}
+use Rattle.signal_quality.specs.Decibels.{ReadingRead}
+use Rattle.registration.specs.Registration.{RegistrationRead}
+use Rattle.pin.specs.SetPin.{SetPinRead}
+use Rattle.payload.specs.Payload.{Shown}
+use Rattle.protocol.specs.Verdict.{Verdict}
+use Rattle.version_info.specs.VersionInfo.{VersionInfoRead}
+use Rattle.protocol.specs.Verdict.{Written}
+use Rattle.std.specs.Prelude.{Result}
+use Rattle.protocol.specs.declared.Refusal.{Refusal}
 
 -- the number is 0 exactly where nothing was refused
 abbrev pub Tells : ℕ → Bool → Type 0
@@ -82,79 +84,79 @@ Tells number refused = eqb number 0 ≡ not refused
 -- ---- what that says of each kind of answer
 
 abbrev pub VerdictTells : Verdict → Type 0
-VerdictTells v = Tells (refusal_of v).number (faulty v)
+VerdictTells v = Tells (refusal_of v).number (is_refused v)
 
 abbrev pub WrittenTells : Written → Type 0
-WrittenTells w = Tells (written_answer w).refusal.number (written_refused w)
+WrittenTells w = Tells (written_answer w).refusal.number (is_refused w)
 
 abbrev pub VersionTells : VersionInfoRead → Type 0
-VersionTells a = Tells (version_answer.answer_of a).refusal.number (version_refused a)
+VersionTells a = Tells (version_answer.answer_of a).refusal.number (is_refused a)
 
 abbrev pub PacketTells : PacketServiceRead → Type 0
-PacketTells a = Tells (packet_answer.answer_of a).refusal.number (packet_refused a)
+PacketTells a = Tells (packet_answer.answer_of a).refusal.number (is_refused a)
 
 abbrev pub RegistrationTells : RegistrationRead → Type 0
-RegistrationTells a = Tells (registration_answer.answer_of a).refusal.number (registration_refused a)
+RegistrationTells a = Tells (registration_answer.answer_of a).refusal.number (is_refused a)
 
 abbrev pub SignalTells : SignalStateShown → Type 0
-SignalTells a = Tells (signal_answer.answer_of a).refusal.number (signal_refused a.answer)
+SignalTells a = Tells (signal_answer.answer_of a).refusal.number (is_refused a.answer)
 
 abbrev pub ServicesTells : DeviceServicesRead → Type 0
-ServicesTells a = Tells (services_answer.answer_of a).refusal.number (services_refused a)
+ServicesTells a = Tells (services_answer.answer_of a).refusal.number (is_refused a)
 
 abbrev pub ElementTells : ElementAnswer → Type 0
-ElementTells a = Tells (services_answer.element_info a).refusal.number (element_refused a)
+ElementTells a = Tells (services_answer.element_info a).refusal.number (is_refused a)
 
 abbrev pub ListedTells : ListedAnswer → Type 0
-ListedTells a = Tells (services_answer.listed_info a).refusal.number (listed_refused a)
+ListedTells a = Tells (services_answer.listed_info a).refusal.number (is_refused a)
 
 abbrev pub PositionTells : PositionAnswer → Type 0
-PositionTells a = Tells (services_answer.position_info a).refusal.number (position_refused a)
+PositionTells a = Tells (services_answer.position_info a).refusal.number (is_refused a)
 
-abbrev pub AllTells : AllAnswer → Type 0
-AllTells a = Tells (services_answer.all_info a).refusal.number (all_refused a)
+abbrev pub AllTells : (Result AllListed Refusal) → Type 0
+AllTells a = Tells (services_answer.all_info a).refusal.number (is_refused a)
 
 abbrev pub SetPinTells : SetPinRead → Type 0
-SetPinTells a = Tells (set_pin_answer a).refusal.number (set_pin_refused a)
+SetPinTells a = Tells (set_pin_answer a).refusal.number (is_refused a)
 
 abbrev pub PinInfoTells : PinInfoRead → Type 0
-PinInfoTells a = Tells (pin_info_answer a).refusal.number (pin_info_refused a)
+PinInfoTells a = Tells (pin_info_answer a).refusal.number (is_refused a)
 
 abbrev pub ReadingTells : ReadingRead → Type 0
-ReadingTells a = Tells (reading_info a).refusal.number (reading_refused a)
+ReadingTells a = Tells (reading_info a).refusal.number (is_refused a)
 
 abbrev pub BarsTells : Bars → Type 0
-BarsTells a = Tells (bars_info a).refusal.number (bars_refused a)
+BarsTells a = Tells (bars_info a).refusal.number (is_refused a)
 
-abbrev pub WholeTells : Whole → Type 0
-WholeTells a = Tells (whole_info a).refusal.number (whole_refused a)
+abbrev pub WholeTells : (Result Whole Refusal) → Type 0
+WholeTells a = Tells (whole_info a).refusal.number (is_refused a)
 
-abbrev pub CutTells : Cutting → Type 0
-CutTells a = Tells (cut_info a).refusal.number (cut_refused a)
+abbrev pub CutTells : (Result Fragments Refusal) → Type 0
+CutTells a = Tells (cut_info a).refusal.number (is_refused a)
 
 abbrev pub KindTells : Shown → Type 0
-KindTells a = Tells (kind_info a).refusal.number (shown_refused a)
+KindTells a = Tells (kind_info a).refusal.number (is_refused a)
 
-abbrev pub ReceivedTells : Received → Type 0
-ReceivedTells a = Tells (receive_info a).refusal.number (received_refused a)
+abbrev pub ReceivedTells : (Result Received Refusal) → Type 0
+ReceivedTells a = Tells (receive_info a).refusal.number (is_refused a)
 
 abbrev pub SaidTells : Said → ℕ → Type 0
 SaidTells a n = Tells (stream_info a n).piece.refusal.number (said_refused a)
 
-abbrev pub HostTells : HostAnswer → Type 0
-HostTells a = Tells (host_info a).refusal.number (host_refused a)
+abbrev pub HostTells : (Result HostAnswer Refusal) → Type 0
+HostTells a = Tells (host_info a).refusal.number (is_refused a)
 
-abbrev pub AskTells : Ask → Type 0
-AskTells a = Tells (ask_info a).refusal.number (ask_refused a)
+abbrev pub AskTells : (Result Ask Refusal) → Type 0
+AskTells a = Tells (ask_info a).refusal.number (is_refused a)
 
 abbrev pub ModemTells : ModemReply → Type 0
-ModemTells a = Tells (reply_info a).refusal.number (modem_refused a.answer)
+ModemTells a = Tells (reply_info a).refusal.number (is_refused a.answer)
 
-abbrev pub EntryTells : PinAnswer → Type 0
-EntryTells a = Tells (entry_answer a).refusal.number (entry_refused a)
+abbrev pub EntryTells : (Result PinAnswer Refusal) → Type 0
+EntryTells a = Tells (entry_answer a).refusal.number (is_refused a)
 
 abbrev pub PinModemTells : PinReply → Type 0
-PinModemTells a = Tells (pin_reply_info a).refusal.number (pin_modem_refused a.answer)
+PinModemTells a = Tells (pin_reply_info a).refusal.number (is_refused a.answer)
 
 -- ---- every function, by its C name
 

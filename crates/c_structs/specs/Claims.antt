@@ -10,9 +10,9 @@ use Rattle.signal_state.specs.declared.RsrpSnr.{RsrpSnr}
 use Rattle.signal_state.specs.declared.SignalState.{SignalState}
 use Rattle.c_structs.specs.Signals.{info_of as signal_info, record_of as signal_of}
 use Rattle.signal_state.specs.SignalState.{version_of as signal_version}
-use Rattle.handshake.specs.declared.Numbered.TheVariants.{At}
 use Rattle.protocol.specs.declared.Version.{Version}
 use Rattle.handshake.specs.Versions.{number_of, numbered}
+use Rattle.std.specs.Prelude.{Ok}
 
 abbrev pub PacketBack : Type 0
 PacketBack = (p : PacketService) → packet_of (packet_version p) (packet_info p) ≡ p
@@ -25,4 +25,4 @@ SignalBack = (p : SignalState) (es : List RsrpSnr) → signal_of (signal_version
 
 -- a version's number is judged to be that version
 abbrev pub NumberBack : Type 0
-NumberBack = (v : Version) → numbered (number_of v) ≡ At v
+NumberBack = (v : Version) → numbered (number_of v) ≡ Ok v

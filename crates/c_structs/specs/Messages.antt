@@ -5,33 +5,33 @@ use Rattle.protocol.specs.declared.service.Kind.{Kind}
 use Rattle.protocol.specs.declared.service.Kind.TheVariants.{RegisterState, PacketService, SignalState, DeviceServices, VersionInfo, SetPin, PinInfo}
 use Rattle.message.specs.declared.MessageHeader.{MessageHeader}
 use Rattle.message.specs.declared.Whole.{Whole}
-use Rattle.message.specs.declared.Whole.TheVariants as whole
-use Rattle.cutter.specs.declared.Cutting.{Cutting}
-use Rattle.cutter.specs.declared.Cutting.TheVariants as cutting
-use Rattle.payload.specs.declared.Shown.{Shown}
-use Rattle.payload.specs.declared.Shown.TheVariants as shown
+use Rattle.cutter.specs.declared.Fragments.{Fragments}
 use Rattle.assembler.specs.declared.door.Received.{Received}
-use Rattle.assembler.specs.declared.door.Received.TheVariants.{Whole as WholeMessage, Pending, Complete, Refused}
+use Rattle.assembler.specs.declared.door.Received.TheVariants.{Whole as WholeMessage, Pending, Complete}
 use Rattle.c_structs.specs.declared.messages.WholeInfo.{WholeInfo}
 use Rattle.c_structs.specs.declared.messages.CutInfo.{CutInfo}
 use Rattle.c_structs.specs.declared.messages.KindInfo.{KindInfo}
 use Rattle.c_structs.specs.declared.messages.ReceiveInfo.{ReceiveInfo}
-use Rattle.c_structs.specs.Answers.{no_refusal}
+use Rattle.c_structs.specs.Answers.{no_refusal, refusal_info}
+use Rattle.c_structs.specs.declared.RefusalInfo.{RefusalInfo}
+use Rattle.std.specs.Prelude.{Ok, Err, Some, None}
+use Rattle.payload.specs.Payload.{Shown}
+use Rattle.std.specs.Prelude.{Result}
 
 abbrev pub flag_of : Bool → ℕ
 flag_of b = cond b 1 0
 
 -- ---- a whole message
 
-unfoldable pub whole_info : Whole → WholeInfo
-whole_info (whole.Message type transaction word) = record { refusal = no_refusal; message_type = type; transaction = transaction; word = word }
-whole_info (whole.Refused r) = record { refusal = r; message_type = 0; transaction = 0; word = 0 }
+unfoldable pub whole_info : (Result Whole Refusal) → WholeInfo
+whole_info (Ok message) = record { refusal = no_refusal; message_type = message.message_type; transaction = message.transaction; word = message.word }
+whole_info (Err r) = record { refusal = refusal_info r; message_type = 0; transaction = 0; word = 0 }
 
 -- ---- a message cut
 
-unfoldable pub cut_info : Cutting → CutInfo
-cut_info (cutting.Fragments count n) = record { refusal = no_refusal; count = count; length = n }
-cut_info (cutting.Refused r) = record { refusal = r; count = 0; length = 0 }
+unfoldable pub cut_info : (Result Fragments Refusal) → CutInfo
+cut_info (Ok cut) = record { refusal = no_refusal; count = cut.count; length = cut.length }
+cut_info (Err r) = record { refusal = refusal_info r; count = 0; length = 0 }
 
 -- ---- the payload that a message shows: 0 none, 1 registration, 2 packet service, 3 signal state, 4 device services, 5 VERSION, 6 SET_PIN, 7 PIN_INFO
 
@@ -45,9 +45,9 @@ kind_number SetPin = 6
 kind_number PinInfo = 7
 
 unfoldable pub kind_info : Shown → KindInfo
-kind_info (shown.Payload k) = record { refusal = no_refusal; kind = kind_number k }
-kind_info shown.NoPayload = record { refusal = no_refusal; kind = 0 }
-kind_info (shown.Refused r) = record { refusal = r; kind = 0 }
+kind_info (Ok (Some k)) = record { refusal = no_refusal; kind = kind_number k }
+kind_info (Ok None) = record { refusal = no_refusal; kind = 0 }
+kind_info (Err r) = record { refusal = refusal_info r; kind = 0 }
 
 -- ---- a piece received: 1 a whole message, 2 a fragment before others, 3 the last fragment of its message
 
@@ -61,15 +61,15 @@ head_of type transaction word = record {
   word = word;
 }
 
-abbrev pub received_info : Refusal → ℕ → ℕ → MessageHeader → ℕ → ReceiveInfo
+abbrev pub received_info : RefusalInfo → ℕ → ℕ → MessageHeader → ℕ → ReceiveInfo
 received_info r received dropped m n = record { refusal = r; received = received; dropped = dropped; message = m; length = n }
 
 -- no piece was taken
 abbrev pub nothing_received : ReceiveInfo
 nothing_received = received_info no_refusal 0 0 (head_of 0 0 0) 0
 
-unfoldable pub receive_info : Received → ReceiveInfo
-receive_info (WholeMessage type transaction word) = received_info no_refusal 1 0 (head_of type transaction word) 0
-receive_info (Pending type transaction d) = received_info no_refusal 2 (flag_of d) (head_of type transaction 0) 0
-receive_info (Complete m n d) = received_info no_refusal 3 (flag_of d) m n
-receive_info (Refused r) = received_info r 0 0 (head_of 0 0 0) 0
+unfoldable pub receive_info : (Result Received Refusal) → ReceiveInfo
+receive_info (Ok (WholeMessage type transaction word)) = received_info no_refusal 1 0 (head_of type transaction word) 0
+receive_info (Ok (Pending type transaction d)) = received_info no_refusal 2 (flag_of d) (head_of type transaction 0) 0
+receive_info (Ok (Complete m n d)) = received_info no_refusal 3 (flag_of d) m n
+receive_info (Err r) = received_info (refusal_info r) 0 0 (head_of 0 0 0) 0

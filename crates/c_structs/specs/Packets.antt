@@ -8,11 +8,11 @@ use Rattle.packet_service.specs.PacketService.{version_of}
 use Rattle.packet_service.specs.declared.PacketForm.{PacketForm}
 use Rattle.packet_service.specs.declared.PacketForm.TheVariants.{V1 as Form1, V2 as Form2}
 use Rattle.packet_service.specs.declared.PacketService.{PacketService}
-use Rattle.packet_service.specs.declared.PacketServiceRead.{PacketServiceRead}
-use Rattle.packet_service.specs.declared.PacketServiceRead.TheVariants.{Info, Refused}
 use Rattle.c_structs.specs.declared.packets.PacketServiceInfo.{PacketServiceInfo}
 use Rattle.c_structs.specs.declared.packets.PacketServiceAnswer.{PacketServiceAnswer}
-use Rattle.c_structs.specs.Answers.{no_refusal}
+use Rattle.c_structs.specs.Answers.{no_refusal, refusal_info}
+use Rattle.std.specs.Prelude.{Ok, Err}
+use Rattle.packet_service.specs.PacketService.{PacketServiceRead}
 
 -- ---- what each form has: 0 where it is the other form's
 
@@ -57,8 +57,8 @@ no_info = record {
 -- ---- an answer: a refused one has all other members 0
 
 unfoldable pub answer_of : PacketServiceRead → PacketServiceAnswer
-answer_of (Info p) = record { refusal = no_refusal; info = info_of p }
-answer_of (Refused r) = record { refusal = r; info = no_info }
+answer_of (Ok p) = record { refusal = no_refusal; info = info_of p }
+answer_of (Err r) = record { refusal = refusal_info r; info = no_info }
 
 -- ---- the record that a writer is given, at a version
 

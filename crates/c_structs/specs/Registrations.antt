@@ -10,11 +10,11 @@ use Rattle.registration.specs.declared.RegistrationForm.{RegistrationForm}
 use Rattle.registration.specs.declared.RegistrationForm.TheVariants.{V1 as Form1, V2 as Form2}
 use Rattle.registration.specs.declared.Registration.{Registration}
 use Rattle.registration.specs.declared.RegistrationTexts.{RegistrationTexts}
-use Rattle.registration.specs.declared.RegistrationRead.{RegistrationRead}
-use Rattle.registration.specs.declared.RegistrationRead.TheVariants.{Info, Refused}
 use Rattle.c_structs.specs.declared.registrations.RegistrationInfo.{RegistrationInfo}
 use Rattle.c_structs.specs.declared.registrations.RegistrationAnswer.{RegistrationAnswer}
-use Rattle.c_structs.specs.Answers.{no_refusal}
+use Rattle.c_structs.specs.Answers.{no_refusal, refusal_info}
+use Rattle.std.specs.Prelude.{Ok, Err}
+use Rattle.registration.specs.Registration.{RegistrationRead}
 
 -- ---- what the form has: 0 at 1.00
 
@@ -54,8 +54,8 @@ no_texts = texts (range 0 0) (range 0 0) (range 0 0)
 -- ---- an answer: a refused one has all other members 0
 
 unfoldable pub answer_of : RegistrationRead → RegistrationAnswer
-answer_of (Info p t) = record { refusal = no_refusal; info = info_of p; texts = t }
-answer_of (Refused r) = record { refusal = r; info = no_info; texts = no_texts }
+answer_of (Ok (p, t)) = record { refusal = no_refusal; info = info_of p; texts = t }
+answer_of (Err r) = record { refusal = refusal_info r; info = no_info; texts = no_texts }
 
 -- ---- the record that a writer is given, at a version
 

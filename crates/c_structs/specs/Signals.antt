@@ -10,12 +10,12 @@ use Rattle.signal_state.specs.declared.RsrpSnr.{RsrpSnr}
 use Rattle.signal_state.specs.declared.SignalForm.{SignalForm}
 use Rattle.signal_state.specs.declared.SignalForm.TheVariants.{V1 as Form1, V2 as Form2}
 use Rattle.signal_state.specs.declared.SignalState.{SignalState}
-use Rattle.signal_state.specs.declared.SignalStateRead.{SignalStateRead}
-use Rattle.signal_state.specs.declared.SignalStateRead.TheVariants.{Info, Refused}
 use Rattle.signal_state.specs.declared.SignalStateShown.{SignalStateShown}
 use Rattle.c_structs.specs.declared.signals.SignalStateInfo.{SignalStateInfo}
 use Rattle.c_structs.specs.declared.signals.SignalStateAnswer.{SignalStateAnswer}
-use Rattle.c_structs.specs.Answers.{no_refusal}
+use Rattle.c_structs.specs.Answers.{no_refusal, refusal_info}
+use Rattle.std.specs.Prelude.{Ok, Err}
+use Rattle.signal_state.specs.SignalState.{SignalStateRead}
 
 -- ---- what the form has: 0 at 1.00
 
@@ -52,11 +52,11 @@ no_info = record {
 -- ---- an answer: a refused one has all other members 0
 
 abbrev pub refused_by : Refusal → SignalStateAnswer
-refused_by r = record { refusal = r; info = no_info }
+refused_by r = record { refusal = refusal_info r; info = no_info }
 
 unfoldable pub answer_by : SignalStateRead → List RsrpSnr → SignalStateAnswer
-answer_by (Info p) es = record { refusal = no_refusal; info = info_of p es }
-answer_by (Refused r) es = refused_by r
+answer_by (Ok p) es = record { refusal = no_refusal; info = info_of p es }
+answer_by (Err r) es = refused_by r
 
 abbrev pub answer_of : SignalStateShown → SignalStateAnswer
 answer_of x = answer_by x.answer x.entries

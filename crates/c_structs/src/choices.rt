@@ -1,59 +1,37 @@
 // A reader's choices by the numbers that C gives for them.
 ghost use Rattle.std.specs.Prelude.{◌≡◌};
-ghost use Rattle.c_structs.specs.Choices.{zero_size_of, chosen_at, reading_of};
+ghost use Rattle.c_structs.specs.Choices.{zero_size_of, reading_of};
 
-use handshake::{Numbered, version_at};
+use handshake::version_at;
 use pairs::ZeroSize;
-use protocol::{OUTSIDE_TABLE, Refusal, Version};
+use protocol::{Reason, Refusal, Version};
 
-#[derive(Clone, Copy)]
-pub enum Chosen {
-    By(ZeroSize),
-    Refused(Refusal),
-}
-
-// What a reader with two forms is asked for.
-#[derive(Clone, Copy)]
-pub enum Reading {
-    At(Version, ZeroSize),
-    Refused(Refusal),
-}
-
+// Numbers, as the C interface gives them.
 const ABSENT: u32 = 0;
 
 const STRICT: u32 = 1;
 
-// What a number chooses; any other is refused.
-pub fn zero_size_at(number: u32) -> Chosen
+// What a number chooses; any other is refused. ZeroSize and u32 are of other crates: no TryFrom.
+#[tactic(auto, unfolding(crate::specs::Choices::zero_size_of))]
+pub fn zero_size_at(number: u32) -> Result<ZeroSize, Refusal>
     ensures { result ≡ zero_size_of number }
 {
-    if number == ABSENT {
-        return Chosen::By(ZeroSize::Absent);
+    match number {
+        ABSENT => Ok(ZeroSize::Absent),
+        STRICT => Ok(ZeroSize::Strict),
+        _ => Err(Refusal {
+            reason: Reason::OutsideTable,
+            place: 0,
+        }),
     }
-    if number == STRICT {
-        return Chosen::By(ZeroSize::Strict);
-    }
-    Chosen::Refused(Refusal {
-        number: OUTSIDE_TABLE,
-        place: 0,
-    })
 }
 
 // The version and the choice of a reader, by their numbers, that of the version first.
-pub fn reading_at(version: u16, zero_size: u32) -> Reading
+#[tactic(auto, unfolding(crate::specs::Choices::reading_of))]
+pub fn reading_at(version: u16, zero_size: u32) -> Result<(Version, ZeroSize), Refusal>
     ensures { result ≡ reading_of version zero_size }
 {
-    match version_at(version) {
-        Numbered::At(v) => chosen_at(v, zero_size),
-        Numbered::Refused(refusal) => Reading::Refused(refusal),
-    }
-}
-
-fn chosen_at(version: Version, zero_size: u32) -> Reading
-    ensures { result ≡ chosen_at version zero_size }
-{
-    match zero_size_at(zero_size) {
-        Chosen::By(choice) => Reading::At(version, choice),
-        Chosen::Refused(refusal) => Reading::Refused(refusal),
-    }
+    let version = version_at(version)?;
+    let choice = zero_size_at(zero_size)?;
+    Ok((version, choice))
 }

@@ -1,9 +1,10 @@
 // Answers of the handshake's ends as plain members.
 ghost use Rattle.std.specs.Prelude.{◌≡◌};
-ghost use Rattle.c_structs.specs.Ends.{event_info, host_info, ask_info, failed_info, modem_info};
+ghost use Rattle.c_structs.specs.Answers.{no_refusal};
+ghost use Rattle.c_structs.specs.Ends.{event_info, host_info, command_info, ask_info, failed_info, modem_info};
 
 use crate::messages::kind_number;
-use crate::no_refusal;
+use crate::{RefusalInfo, no_refusal};
 use handshake::number_of;
 use host::{Ask, HostAnswer};
 use modem::{ModemAnswer, ModemStage, settled_number};
@@ -14,7 +15,7 @@ use protocol::status::NO_DEVICE_SUPPORT;
 #[repr(C)]
 #[derive(Clone, Copy)]
 pub struct HostInfo {
-    pub refusal: Refusal,
+    pub refusal: RefusalInfo,
     pub event: u32,
     pub version: u16,
 }
@@ -24,7 +25,7 @@ pub struct HostInfo {
 #[repr(C)]
 #[derive(Clone, Copy)]
 pub struct AskInfo {
-    pub refusal: Refusal,
+    pub refusal: RefusalInfo,
     pub command: u32,
     pub version: u16,
     pub length: usize,
@@ -36,7 +37,7 @@ pub struct AskInfo {
 #[repr(C)]
 #[derive(Clone, Copy)]
 pub struct ModemInfo {
-    pub refusal: Refusal,
+    pub refusal: RefusalInfo,
     pub action: u32,
     pub status: u32,
     pub kind: u32,
@@ -45,69 +46,54 @@ pub struct ModemInfo {
     pub length: usize,
 }
 
-pub fn host_info(answer: HostAnswer) -> HostInfo
-    ensures { result ≡ host_info answer }
-{
-    match answer {
-        HostAnswer::Unchanged => event_info(0, 0),
-        HostAnswer::Opened => event_info(1, 0),
-        HostAnswer::AsksVersion => event_info(2, 0),
-        HostAnswer::Settled(version) => event_info(3, number_of(version)),
-        HostAnswer::Refused(refusal) => HostInfo {
-            refusal,
-            event: 0,
-            version: 0,
-        },
+impl From<Result<HostAnswer, Refusal>> for HostInfo {
+    #[tactic(auto, unfolding(crate::specs::Ends::host_info))]
+    fn from(answer: Result<HostAnswer, Refusal>) -> HostInfo
+        ensures { result ≡ host_info answer }
+    {
+        match answer {
+            Ok(HostAnswer::Unchanged) => event_info(0, 0),
+            Ok(HostAnswer::Opened) => event_info(1, 0),
+            Ok(HostAnswer::AsksVersion) => event_info(2, 0),
+            Ok(HostAnswer::Settled(version)) => event_info(3, number_of(version)),
+            Err(refusal) => HostInfo {
+                refusal: RefusalInfo::from(refusal),
+                event: 0,
+                version: 0,
+            },
+        }
     }
 }
 
-pub fn ask_info(ask: Ask) -> AskInfo
-    ensures { result ≡ ask_info ask }
-{
-    let refusal = no_refusal();
-    match ask {
-        Ask::Nothing => AskInfo {
-            refusal,
-            command: 0,
-            version: 0,
-            length: 0,
-        },
-        Ask::Services => AskInfo {
-            refusal,
-            command: 1,
-            version: 0,
-            length: 0,
-        },
-        Ask::Version(length) => AskInfo {
-            refusal,
-            command: 2,
-            version: 0,
-            length,
-        },
-        Ask::Free(version) => AskInfo {
-            refusal,
-            command: 3,
-            version: number_of(version),
-            length: 0,
-        },
-        Ask::Refused(refusal) => AskInfo {
-            refusal,
-            command: 0,
-            version: 0,
-            length: 0,
-        },
+impl From<Result<Ask, Refusal>> for AskInfo {
+    #[tactic(auto, unfolding(crate::specs::Ends::ask_info))]
+    fn from(ask: Result<Ask, Refusal>) -> AskInfo
+        ensures { result ≡ ask_info ask }
+    {
+        match ask {
+            Ok(Ask::Nothing) => command_info(0, 0, 0),
+            Ok(Ask::Services) => command_info(1, 0, 0),
+            Ok(Ask::Version(length)) => command_info(2, 0, length),
+            Ok(Ask::Free(version)) => command_info(3, number_of(version), 0),
+            Err(refusal) => AskInfo {
+                refusal: RefusalInfo::from(refusal),
+                command: 0,
+                version: 0,
+                length: 0,
+            },
+        }
     }
 }
 
 // What a message is answered, by an end that is then at the stage.
-pub fn modem_info(answer: ModemAnswer, stage: ModemStage) -> ModemInfo
+#[tactic(auto, unfolding(crate::specs::Ends::modem_info))]
+pub fn modem_info(answer: Result<ModemAnswer, Refusal>, stage: ModemStage) -> ModemInfo
     ensures { result ≡ modem_info answer stage }
 {
-    let refusal = no_refusal();
     let version = settled_number(stage);
     match answer {
-        ModemAnswer::Serve(kind) => ModemInfo {
-            refusal,
+        Ok(ModemAnswer::Serve(kind)) => ModemInfo {
+            refusal: no_refusal(),
             action: 1,
             status: 0,
             kind: kind_number(kind),
@@ -115,8 +101,8 @@ pub fn modem_info(answer: ModemAnswer, stage: ModemStage) -> ModemInfo
             place: 0,
             length: 0,
         },
-        ModemAnswer::Version(length) => ModemInfo {
-            refusal,
+        Ok(ModemAnswer::Version(length)) => ModemInfo {
+            refusal: no_refusal(),
             action: 2,
             status: 0,
             kind: 0,
@@ -124,10 +110,10 @@ pub fn modem_info(answer: ModemAnswer, stage: ModemStage) -> ModemInfo
             place: 0,
             length,
         },
-        ModemAnswer::Failed(status) => failed_info(3, status, version, 0),
-        ModemAnswer::Unknown(place) => failed_info(4, NO_DEVICE_SUPPORT, version, place),
-        ModemAnswer::Refused(refusal) => ModemInfo {
-            refusal,
+        Ok(ModemAnswer::Failed(status)) => failed_info(3, status, version, 0),
+        Ok(ModemAnswer::Unknown(place)) => failed_info(4, NO_DEVICE_SUPPORT, version, place),
+        Err(refusal) => ModemInfo {
+            refusal: RefusalInfo::from(refusal),
             action: 0,
             status: 0,
             kind: 0,
@@ -142,9 +128,8 @@ pub fn modem_info(answer: ModemAnswer, stage: ModemStage) -> ModemInfo
 fn failed_info(action: u32, status: u32, version: u16, place: usize) -> ModemInfo
     ensures { result ≡ failed_info action status version place }
 {
-    let refusal = no_refusal();
     ModemInfo {
-        refusal,
+        refusal: no_refusal(),
         action,
         status,
         kind: 0,
@@ -157,10 +142,20 @@ fn failed_info(action: u32, status: u32, version: u16, place: usize) -> ModemInf
 fn event_info(event: u32, version: u16) -> HostInfo
     ensures { result ≡ event_info event version }
 {
-    let refusal = no_refusal();
     HostInfo {
-        refusal,
+        refusal: no_refusal(),
         event,
         version,
+    }
+}
+
+fn command_info(command: u32, version: u16, length: usize) -> AskInfo
+    ensures { result ≡ command_info no_refusal command version length }
+{
+    AskInfo {
+        refusal: no_refusal(),
+        command,
+        version,
+        length,
     }
 }

@@ -1,12 +1,11 @@
 // Answers about messages as plain members.
 ghost use Rattle.std.specs.Prelude.{◌≡◌};
-ghost use Rattle.c_structs.specs.Messages.{flag_of, kind_number, whole_info, cut_info, kind_info, head_of, nothing_received, receive_info};
+ghost use Rattle.c_structs.specs.Messages.{kind_number, whole_info, cut_info, kind_info, head_of, nothing_received, receive_info};
 
-use crate::no_refusal;
+use crate::{RefusalInfo, no_refusal};
 use assembler::door::Received;
-use cutter::Cutting;
+use cutter::Fragments;
 use message::{MessageHeader, Whole};
-use payload::Shown;
 use protocol::Refusal;
 use protocol::service::{Kind, ServiceId};
 
@@ -14,7 +13,7 @@ use protocol::service::{Kind, ServiceId};
 #[repr(C)]
 #[derive(Clone, Copy)]
 pub struct WholeInfo {
-    pub refusal: Refusal,
+    pub refusal: RefusalInfo,
     pub message_type: u32,
     pub transaction: u32,
     pub word: u32,
@@ -24,7 +23,7 @@ pub struct WholeInfo {
 #[repr(C)]
 #[derive(Clone, Copy)]
 pub struct CutInfo {
-    pub refusal: Refusal,
+    pub refusal: RefusalInfo,
     pub count: u32,
     pub length: usize,
 }
@@ -33,7 +32,7 @@ pub struct CutInfo {
 #[repr(C)]
 #[derive(Clone, Copy)]
 pub struct KindInfo {
-    pub refusal: Refusal,
+    pub refusal: RefusalInfo,
     pub kind: u32,
 }
 
@@ -42,123 +41,136 @@ pub struct KindInfo {
 #[repr(C)]
 #[derive(Clone, Copy)]
 pub struct ReceiveInfo {
-    pub refusal: Refusal,
+    pub refusal: RefusalInfo,
     pub received: u32,
     pub dropped: u32,
     pub message: MessageHeader,
     pub length: usize,
 }
 
-pub fn whole_info(whole: Whole) -> WholeInfo
-    ensures { result ≡ whole_info whole }
-{
-    match whole {
-        Whole::Message {
-            message_type,
-            transaction,
-            word,
-        } => {
-            let refusal = no_refusal();
-            WholeInfo {
-                refusal,
+impl From<Result<Whole, Refusal>> for WholeInfo {
+    #[tactic(auto, unfolding(crate::specs::Messages::whole_info))]
+    fn from(whole: Result<Whole, Refusal>) -> WholeInfo
+        ensures { result ≡ whole_info whole }
+    {
+        match whole {
+            Ok(message) => WholeInfo {
+                refusal: no_refusal(),
+                message_type: message.message_type,
+                transaction: message.transaction,
+                word: message.word,
+            },
+            Err(refusal) => WholeInfo {
+                refusal: RefusalInfo::from(refusal),
+                message_type: 0,
+                transaction: 0,
+                word: 0,
+            },
+        }
+    }
+}
+
+impl From<Result<Fragments, Refusal>> for CutInfo {
+    #[tactic(auto, unfolding(crate::specs::Messages::cut_info))]
+    fn from(cutting: Result<Fragments, Refusal>) -> CutInfo
+        ensures { result ≡ cut_info cutting }
+    {
+        match cutting {
+            Ok(fragments) => CutInfo {
+                refusal: no_refusal(),
+                count: fragments.count,
+                length: fragments.length,
+            },
+            Err(refusal) => CutInfo {
+                refusal: RefusalInfo::from(refusal),
+                count: 0,
+                length: 0,
+            },
+        }
+    }
+}
+
+impl From<Result<Option<Kind>, Refusal>> for KindInfo {
+    #[tactic(auto, unfolding(crate::specs::Messages::kind_info))]
+    fn from(shown: Result<Option<Kind>, Refusal>) -> KindInfo
+        ensures { result ≡ kind_info shown }
+    {
+        match shown {
+            Ok(Some(kind)) => KindInfo {
+                refusal: no_refusal(),
+                kind: kind_number(kind),
+            },
+            Ok(None) => KindInfo {
+                refusal: no_refusal(),
+                kind: 0,
+            },
+            Err(refusal) => KindInfo {
+                refusal: RefusalInfo::from(refusal),
+                kind: 0,
+            },
+        }
+    }
+}
+
+impl From<Result<Received, Refusal>> for ReceiveInfo {
+    #[tactic(auto, unfolding(crate::specs::Messages::receive_info))]
+    fn from(received: Result<Received, Refusal>) -> ReceiveInfo
+        ensures { result ≡ receive_info received }
+    {
+        match received {
+            Ok(received) => ReceiveInfo::from(received),
+            Err(refusal) => ReceiveInfo {
+                refusal: RefusalInfo::from(refusal),
+                received: 0,
+                dropped: 0,
+                message: head_of(0, 0, 0),
+                length: 0,
+            },
+        }
+    }
+}
+
+impl From<Received> for ReceiveInfo {
+    #[tactic(auto, unfolding(crate::specs::Messages::receive_info))]
+    fn from(received: Received) -> ReceiveInfo
+        ensures { result ≡ receive_info (Ok received) }
+    {
+        let refusal = no_refusal();
+        match received {
+            Received::Whole {
                 message_type,
                 transaction,
                 word,
-            }
-        }
-        Whole::Refused(refusal) => WholeInfo {
-            refusal,
-            message_type: 0,
-            transaction: 0,
-            word: 0,
-        },
-    }
-}
-
-pub fn cut_info(cutting: Cutting) -> CutInfo
-    ensures { result ≡ cut_info cutting }
-{
-    match cutting {
-        Cutting::Fragments { count, length } => {
-            let refusal = no_refusal();
-            CutInfo {
+            } => ReceiveInfo {
                 refusal,
-                count,
+                received: 1,
+                dropped: 0,
+                message: head_of(message_type, transaction, word),
+                length: 0,
+            },
+            Received::Pending {
+                message_type,
+                transaction,
+                dropped,
+            } => ReceiveInfo {
+                refusal,
+                received: 2,
+                dropped: u32::from(dropped),
+                message: head_of(message_type, transaction, 0),
+                length: 0,
+            },
+            Received::Complete {
+                message,
                 length,
-            }
-        }
-        Cutting::Refused(refusal) => CutInfo {
-            refusal,
-            count: 0,
-            length: 0,
-        },
-    }
-}
-
-pub fn kind_info(shown: Shown) -> KindInfo
-    ensures { result ≡ kind_info shown }
-{
-    match shown {
-        Shown::Payload(kind) => {
-            let refusal = no_refusal();
-            KindInfo {
+                dropped,
+            } => ReceiveInfo {
                 refusal,
-                kind: kind_number(kind),
-            }
+                received: 3,
+                dropped: u32::from(dropped),
+                message,
+                length,
+            },
         }
-        Shown::NoPayload => {
-            let refusal = no_refusal();
-            KindInfo { refusal, kind: 0 }
-        }
-        Shown::Refused(refusal) => KindInfo { refusal, kind: 0 },
-    }
-}
-
-pub fn receive_info(received: Received) -> ReceiveInfo
-    ensures { result ≡ receive_info received }
-{
-    let refusal = no_refusal();
-    match received {
-        Received::Whole {
-            message_type,
-            transaction,
-            word,
-        } => ReceiveInfo {
-            refusal,
-            received: 1,
-            dropped: 0,
-            message: head_of(message_type, transaction, word),
-            length: 0,
-        },
-        Received::Pending {
-            message_type,
-            transaction,
-            dropped,
-        } => ReceiveInfo {
-            refusal,
-            received: 2,
-            dropped: flag_of(dropped),
-            message: head_of(message_type, transaction, 0),
-            length: 0,
-        },
-        Received::Complete {
-            message,
-            length,
-            dropped,
-        } => ReceiveInfo {
-            refusal,
-            received: 3,
-            dropped: flag_of(dropped),
-            message,
-            length,
-        },
-        Received::Refused(refusal) => ReceiveInfo {
-            refusal,
-            received: 0,
-            dropped: 0,
-            message: head_of(0, 0, 0),
-            length: 0,
-        },
     }
 }
 
@@ -166,9 +178,8 @@ pub fn receive_info(received: Received) -> ReceiveInfo
 pub fn nothing_received() -> ReceiveInfo
     ensures { result ≡ nothing_received }
 {
-    let refusal = no_refusal();
     ReceiveInfo {
-        refusal,
+        refusal: no_refusal(),
         received: 0,
         dropped: 0,
         message: head_of(0, 0, 0),
@@ -176,7 +187,7 @@ pub fn nothing_received() -> ReceiveInfo
     }
 }
 
-// The numbers of the kinds; 0 is none.
+// The numbers of the kinds; 0 is none. Kind and u32 are of other crates, so that no From can stand here.
 pub fn kind_number(kind: Kind) -> u32
     ensures { result ≡ kind_number kind }
 {
@@ -189,15 +200,6 @@ pub fn kind_number(kind: Kind) -> u32
         Kind::SetPin => 6,
         Kind::PinInfo => 7,
     }
-}
-
-fn flag_of(b: bool) -> u32
-    ensures { result ≡ flag_of b }
-{
-    if b {
-        return 1;
-    }
-    0
 }
 
 // A message of which no more is known.

@@ -3,11 +3,11 @@ ghost use Rattle.std.specs.Prelude.{◌≡◌};
 ghost use Rattle.c_structs.specs.Pins.{no_set_pin, no_texts, set_pin_answer, no_info, pin_info_answer, entry_by, entry_answer, pin_modem_info};
 
 use crate::ends::{ModemInfo, modem_info};
-use crate::no_refusal;
+use crate::{RefusalInfo, no_refusal};
 use modem::{ModemStage, settled_number};
 use pairs::Range;
-use pin::pin_info::{PinInfo, PinInfoRead};
-use pin::set_pin::{SetPin, SetPinRead, SetPinTexts};
+use pin::pin_info::PinInfo;
+use pin::set_pin::{SetPin, SetPinTexts};
 use pin_entry::PinAnswer;
 use pin_modem::PinModemAnswer;
 use protocol::Refusal;
@@ -15,7 +15,7 @@ use protocol::Refusal;
 #[repr(C)]
 #[derive(Clone, Copy)]
 pub struct SetPinAnswer {
-    pub refusal: Refusal,
+    pub refusal: RefusalInfo,
     pub info: SetPin,
     pub texts: SetPinTexts,
 }
@@ -23,7 +23,7 @@ pub struct SetPinAnswer {
 #[repr(C)]
 #[derive(Clone, Copy)]
 pub struct PinInfoAnswer {
-    pub refusal: Refusal,
+    pub refusal: RefusalInfo,
     pub info: PinInfo,
 }
 
@@ -31,102 +31,107 @@ pub struct PinInfoAnswer {
 #[repr(C)]
 #[derive(Clone, Copy)]
 pub struct EntryAnswer {
-    pub refusal: Refusal,
+    pub refusal: RefusalInfo,
     pub status: u32,
     pub shown: u32,
     pub info: PinInfo,
 }
 
-pub fn set_pin_answer(read: SetPinRead) -> SetPinAnswer
-    ensures { result ≡ set_pin_answer read }
-{
-    match read {
-        SetPinRead::Info(info, texts) => {
-            let refusal = no_refusal();
-            SetPinAnswer {
-                refusal,
+impl From<Result<(SetPin, SetPinTexts), Refusal>> for SetPinAnswer {
+    #[tactic(auto, unfolding(crate::specs::Pins::set_pin_answer))]
+    fn from(read: Result<(SetPin, SetPinTexts), Refusal>) -> SetPinAnswer
+        ensures { result ≡ set_pin_answer read }
+    {
+        match read {
+            Ok((info, texts)) => SetPinAnswer {
+                refusal: no_refusal(),
                 info,
                 texts,
-            }
-        }
-        SetPinRead::Refused(refusal) => {
-            let info = SetPin {
-                pin_type: 0,
-                pin_operation: 0,
-            };
-            let texts = no_texts();
-            SetPinAnswer {
-                refusal,
-                info,
-                texts,
-            }
+            },
+            Err(refusal) => SetPinAnswer {
+                refusal: RefusalInfo::from(refusal),
+                info: no_set_pin(),
+                texts: no_texts(),
+            },
         }
     }
 }
 
-pub fn pin_info_answer(read: PinInfoRead) -> PinInfoAnswer
-    ensures { result ≡ pin_info_answer read }
-{
-    match read {
-        PinInfoRead::Info(info) => {
-            let refusal = no_refusal();
-            PinInfoAnswer { refusal, info }
-        }
-        PinInfoRead::Refused(refusal) => {
-            let info = no_info();
-            PinInfoAnswer { refusal, info }
+impl From<Result<PinInfo, Refusal>> for PinInfoAnswer {
+    #[tactic(auto, unfolding(crate::specs::Pins::pin_info_answer))]
+    fn from(read: Result<PinInfo, Refusal>) -> PinInfoAnswer
+        ensures { result ≡ pin_info_answer read }
+    {
+        match read {
+            Ok(info) => PinInfoAnswer {
+                refusal: no_refusal(),
+                info,
+            },
+            Err(refusal) => PinInfoAnswer {
+                refusal: RefusalInfo::from(refusal),
+                info: no_info(),
+            },
         }
     }
 }
 
-pub fn entry_answer(answer: PinAnswer) -> EntryAnswer
-    ensures { result ≡ entry_answer answer }
-{
-    let refusal = no_refusal();
-    match answer {
-        PinAnswer::Info { status, info } => EntryAnswer {
-            refusal,
-            status,
-            shown: 1,
-            info,
-        },
-        PinAnswer::Failed(status) => plain_entry(refusal, status),
-        PinAnswer::Refused(refusal) => plain_entry(refusal, 0),
+impl From<Result<PinAnswer, Refusal>> for EntryAnswer {
+    #[tactic(auto, unfolding(crate::specs::Pins::entry_answer))]
+    fn from(answer: Result<PinAnswer, Refusal>) -> EntryAnswer
+        ensures { result ≡ entry_answer answer }
+    {
+        match answer {
+            Ok(PinAnswer::Info { status, info }) => EntryAnswer {
+                refusal: no_refusal(),
+                status,
+                shown: 1,
+                info,
+            },
+            Ok(PinAnswer::Failed(status)) => plain_entry(no_refusal(), status),
+            Err(refusal) => plain_entry(RefusalInfo::from(refusal), 0),
+        }
     }
 }
 
 // An answer without PIN_INFO.
-fn plain_entry(refusal: Refusal, status: u32) -> EntryAnswer
+fn plain_entry(refusal: RefusalInfo, status: u32) -> EntryAnswer
     ensures { result ≡ entry_by refusal status }
 {
-    let info = no_info();
     EntryAnswer {
         refusal,
         status,
         shown: 0,
-        info,
+        info: no_info(),
     }
 }
 
 // What a message is answered, by an end that is then at the stage: 5 is an entry, with the status and
 // so many payload bytes.
-pub fn pin_modem_info(answer: PinModemAnswer, stage: ModemStage) -> ModemInfo
+#[tactic(auto, unfolding(crate::specs::Pins::pin_modem_info, crate::specs::Ends::modem_info))]
+pub fn pin_modem_info(answer: Result<PinModemAnswer, Refusal>, stage: ModemStage) -> ModemInfo
     ensures { result ≡ pin_modem_info answer stage }
 {
     match answer {
-        PinModemAnswer::Modem(plain) => modem_info(plain, stage),
-        PinModemAnswer::Pin { status, length } => {
-            let refusal = no_refusal();
-            ModemInfo {
-                refusal,
-                action: 5,
-                status,
-                kind: 0,
-                version: settled_number(stage),
-                place: 0,
-                length,
-            }
-        }
+        Ok(PinModemAnswer::Modem(plain)) => modem_info(Ok(plain), stage),
+        Ok(PinModemAnswer::Pin { status, length }) => ModemInfo {
+            refusal: no_refusal(),
+            action: 5,
+            status,
+            kind: 0,
+            version: settled_number(stage),
+            place: 0,
+            length,
+        },
+        Err(refusal) => modem_info(Err(refusal), stage),
+    }
+}
+
+fn no_set_pin() -> SetPin
+    ensures { result ≡ no_set_pin }
+{
+    SetPin {
+        pin_type: 0,
+        pin_operation: 0,
     }
 }
 

@@ -1,17 +1,17 @@
 // Readings and bars in C's layout.
 ghost use Rattle.std.specs.Prelude.{◌≡◌};
-ghost use Rattle.c_structs.specs.Quality.{shown, reading_info, bars_info};
+ghost use Rattle.c_structs.specs.Quality.{no_value, shown, reading_info, bars_info};
 
-use crate::no_refusal;
+use crate::{RefusalInfo, no_refusal};
 use protocol::Refusal;
-use signal_quality::{Bars, Reading, ReadingRead};
+use signal_quality::Reading;
 
 // 1 dBm, 2 dB, 3 below the range, with its edge, 4 unknown; 0 where refused. The value is 0 where
 // there is none.
 #[repr(C)]
 #[derive(Clone, Copy)]
 pub struct ReadingInfo {
-    pub refusal: Refusal,
+    pub refusal: RefusalInfo,
     pub kind: u32,
     pub value: f32,
 }
@@ -20,7 +20,7 @@ pub struct ReadingInfo {
 #[repr(C)]
 #[derive(Clone, Copy)]
 pub struct BarsInfo {
-    pub refusal: Refusal,
+    pub refusal: RefusalInfo,
     pub reading: u32,
     pub bars: u32,
 }
@@ -33,71 +33,68 @@ const BELOW_RANGE: u32 = 3;
 
 const UNKNOWN: u32 = 4;
 
-pub fn reading_info(read: ReadingRead) -> ReadingInfo
-    ensures { result ≡ reading_info read }
-{
-    match read {
-        ReadingRead::Info(reading) => shown(reading),
-        ReadingRead::Refused(refusal) => ReadingInfo {
-            refusal,
-            kind: 0,
-            value: 0.0,
-        },
+impl From<Result<Reading, Refusal>> for ReadingInfo {
+    #[tactic(auto, unfolding(crate::specs::Quality::reading_info))]
+    fn from(read: Result<Reading, Refusal>) -> ReadingInfo
+        ensures { result ≡ reading_info read }
+    {
+        match read {
+            Ok(reading) => ReadingInfo::from(reading),
+            Err(refusal) => ReadingInfo {
+                refusal: RefusalInfo::from(refusal),
+                kind: 0,
+                value: no_value(),
+            },
+        }
     }
 }
 
-fn shown(reading: Reading) -> ReadingInfo
-    ensures { result ≡ shown reading }
-{
-    let refusal = no_refusal();
-    match reading {
-        Reading::Dbm(value) => ReadingInfo {
-            refusal,
-            kind: DBM,
+impl From<Reading> for ReadingInfo {
+    #[tactic(auto, unfolding(crate::specs::Quality::shown))]
+    fn from(reading: Reading) -> ReadingInfo
+        ensures { result ≡ shown reading }
+    {
+        let (kind, value) = match reading {
+            Reading::Dbm(value) => (DBM, value),
+            Reading::Db(value) => (DB, value),
+            Reading::BelowRange(value) => (BELOW_RANGE, value),
+            Reading::Unknown => (UNKNOWN, no_value()),
+        };
+        ReadingInfo {
+            refusal: no_refusal(),
+            kind,
             value,
-        },
-        Reading::Db(value) => ReadingInfo {
-            refusal,
-            kind: DB,
-            value,
-        },
-        Reading::BelowRange(value) => ReadingInfo {
-            refusal,
-            kind: BELOW_RANGE,
-            value,
-        },
-        Reading::Unknown => ReadingInfo {
-            refusal,
-            kind: UNKNOWN,
-            value: 0.0,
-        },
+        }
     }
 }
 
-pub fn bars_info(bars: Bars) -> BarsInfo
-    ensures { result ≡ bars_info bars }
+fn no_value() -> f32
+    ensures { result ≡ no_value }
 {
-    match bars {
-        Bars::Count(bars) => {
-            let refusal = no_refusal();
-            BarsInfo {
-                refusal,
+    0.0
+}
+
+impl From<Result<Option<u32>, Refusal>> for BarsInfo {
+    #[tactic(auto, unfolding(crate::specs::Quality::bars_info))]
+    fn from(bars: Result<Option<u32>, Refusal>) -> BarsInfo
+        ensures { result ≡ bars_info bars }
+    {
+        match bars {
+            Ok(Some(bars)) => BarsInfo {
+                refusal: no_refusal(),
                 reading: 1,
                 bars,
-            }
-        }
-        Bars::NoReading => {
-            let refusal = no_refusal();
-            BarsInfo {
-                refusal,
+            },
+            Ok(None) => BarsInfo {
+                refusal: no_refusal(),
                 reading: 0,
                 bars: 0,
-            }
+            },
+            Err(refusal) => BarsInfo {
+                refusal: RefusalInfo::from(refusal),
+                reading: 0,
+                bars: 0,
+            },
         }
-        Bars::Refused(refusal) => BarsInfo {
-            refusal,
-            reading: 0,
-            bars: 0,
-        },
     }
 }

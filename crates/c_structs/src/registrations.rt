@@ -1,14 +1,12 @@
 // The REGISTER_STATE payload's record and answer in C's layout.
 ghost use Rattle.std.specs.Prelude.{◌≡◌};
-ghost use Rattle.c_structs.specs.Registrations.{preferred_in, no_info, no_texts, info_of, answer_of, form_of, record_of};
+ghost use Rattle.c_structs.specs.Registrations.{no_info, no_texts, info_of, answer_of, record_of};
 
-use crate::no_refusal;
+use crate::{RefusalInfo, no_refusal};
 use handshake::number_of;
 use pairs::Range;
 use protocol::{Refusal, Version};
-use registration::{
-    Registration, RegistrationForm, RegistrationRead, RegistrationTexts, version_of,
-};
+use registration::{Registration, RegistrationForm, RegistrationTexts, version_of};
 
 // What the version's form does not have is 0 in an answer, and no writer looks at it.
 #[repr(C)]
@@ -27,57 +25,65 @@ pub struct RegistrationInfo {
 #[repr(C)]
 #[derive(Clone, Copy)]
 pub struct RegistrationAnswer {
-    pub refusal: Refusal,
+    pub refusal: RefusalInfo,
     pub info: RegistrationInfo,
     pub texts: RegistrationTexts,
 }
 
-pub fn answer_of(read: RegistrationRead) -> RegistrationAnswer
-    ensures { result ≡ answer_of read }
-{
-    match read {
-        RegistrationRead::Info(fields, texts) => {
-            let refusal = no_refusal();
-            let info = info_of(fields);
-            RegistrationAnswer {
-                refusal,
-                info,
+impl From<Result<(Registration, RegistrationTexts), Refusal>> for RegistrationAnswer {
+    #[tactic(auto, unfolding(crate::specs::Registrations::answer_of))]
+    fn from(read: Result<(Registration, RegistrationTexts), Refusal>) -> RegistrationAnswer
+        ensures { result ≡ answer_of read }
+    {
+        match read {
+            Ok((fields, texts)) => RegistrationAnswer {
+                refusal: no_refusal(),
+                info: RegistrationInfo::from(fields),
                 texts,
-            }
-        }
-        RegistrationRead::Refused(refusal) => {
-            let info = no_info();
-            let texts = no_texts();
-            RegistrationAnswer {
-                refusal,
-                info,
-                texts,
-            }
+            },
+            Err(refusal) => RegistrationAnswer {
+                refusal: RefusalInfo::from(refusal),
+                info: no_info(),
+                texts: no_texts(),
+            },
         }
     }
 }
 
-pub fn info_of(fields: Registration) -> RegistrationInfo
-    ensures { result ≡ info_of fields }
-{
-    let form = fields.form;
-    RegistrationInfo {
-        version: number_of(version_of(fields)),
-        nw_error: fields.nw_error,
-        register_state: fields.register_state,
-        register_mode: fields.register_mode,
-        available_data_class: fields.available_data_class,
-        cellular_class: fields.cellular_class,
-        registration_flag: fields.registration_flag,
-        preferred_data_class: preferred_in(form),
+impl From<Registration> for RegistrationInfo {
+    #[tactic(auto, unfolding(crate::specs::Registrations::info_of))]
+    fn from(fields: Registration) -> RegistrationInfo
+        ensures { result ≡ info_of fields }
+    {
+        RegistrationInfo {
+            version: number_of(version_of(fields)),
+            nw_error: fields.nw_error,
+            register_state: fields.register_state,
+            register_mode: fields.register_mode,
+            available_data_class: fields.available_data_class,
+            cellular_class: fields.cellular_class,
+            registration_flag: fields.registration_flag,
+            preferred_data_class: match fields.form {
+                RegistrationForm::V1 => 0,
+                RegistrationForm::V2 {
+                    preferred_data_class,
+                } => preferred_data_class,
+            },
+        }
     }
 }
 
 // The record of a version; the number in `info` is not looked at.
+#[tactic(auto, unfolding(crate::specs::Registrations::record_of))]
 pub fn record_of(version: Version, info: RegistrationInfo) -> Registration
     ensures { result ≡ record_of version info }
 {
-    let form = form_of(version, info.preferred_data_class);
+    let form = match version {
+        Version::V1 => RegistrationForm::V1,
+        Version::V2 => RegistrationForm::V2 {
+            preferred_data_class: info.preferred_data_class,
+        },
+    };
     Registration {
         nw_error: info.nw_error,
         register_state: info.register_state,
@@ -86,28 +92,6 @@ pub fn record_of(version: Version, info: RegistrationInfo) -> Registration
         cellular_class: info.cellular_class,
         registration_flag: info.registration_flag,
         form,
-    }
-}
-
-fn form_of(version: Version, preferred_data_class: u32) -> RegistrationForm
-    ensures { result ≡ form_of version preferred_data_class }
-{
-    match version {
-        Version::V1 => RegistrationForm::V1,
-        Version::V2 => RegistrationForm::V2 {
-            preferred_data_class,
-        },
-    }
-}
-
-fn preferred_in(form: RegistrationForm) -> u32
-    ensures { result ≡ preferred_in form }
-{
-    match form {
-        RegistrationForm::V1 => 0,
-        RegistrationForm::V2 {
-            preferred_data_class,
-        } => preferred_data_class,
     }
 }
 

@@ -2,18 +2,17 @@
 ghost use Rattle.std.specs.Prelude.{◌≡◌};
 ghost use Rattle.c_structs.specs.Services.{no_info, no_element, not_listed, answer_of, element_info, listed_info, position_info, all_info};
 
-use crate::no_refusal;
-use device_services::{DeviceService, DeviceServices, DeviceServicesRead};
+use crate::{RefusalInfo, no_refusal};
+use device_services::{DeviceService, DeviceServices};
 use protocol::Refusal;
 use protocol::service::ServiceId;
-use services_ask::PositionAnswer;
-use services_query::all::AllAnswer;
-use services_query::{ElementAnswer, ListedAnswer};
+use services_ask::Position;
+use services_query::all::AllListed;
 
 #[repr(C)]
 #[derive(Clone, Copy)]
 pub struct DeviceServicesAnswer {
-    pub refusal: Refusal,
+    pub refusal: RefusalInfo,
     pub info: DeviceServices,
 }
 
@@ -21,7 +20,7 @@ pub struct DeviceServicesAnswer {
 #[repr(C)]
 #[derive(Clone, Copy)]
 pub struct ElementInfo {
-    pub refusal: Refusal,
+    pub refusal: RefusalInfo,
     pub listed: u32,
     pub element: DeviceService,
 }
@@ -30,7 +29,7 @@ pub struct ElementInfo {
 #[repr(C)]
 #[derive(Clone, Copy)]
 pub struct ListedInfo {
-    pub refusal: Refusal,
+    pub refusal: RefusalInfo,
     pub listed: u32,
 }
 
@@ -38,7 +37,7 @@ pub struct ListedInfo {
 #[repr(C)]
 #[derive(Clone, Copy)]
 pub struct PositionInfo {
-    pub refusal: Refusal,
+    pub refusal: RefusalInfo,
     pub listed: u32,
     pub element_number: u32,
     pub cid_number: u32,
@@ -48,93 +47,91 @@ pub struct PositionInfo {
 #[repr(C)]
 #[derive(Clone, Copy)]
 pub struct AllInfo {
-    pub refusal: Refusal,
+    pub refusal: RefusalInfo,
     pub elements: u32,
     pub cids: usize,
 }
 
-pub fn answer_of(read: DeviceServicesRead) -> DeviceServicesAnswer
-    ensures { result ≡ answer_of read }
-{
-    match read {
-        DeviceServicesRead::Info(info) => {
-            let refusal = no_refusal();
-            DeviceServicesAnswer { refusal, info }
-        }
-        DeviceServicesRead::Refused(refusal) => {
-            let info = no_info();
-            DeviceServicesAnswer { refusal, info }
+impl From<Result<DeviceServices, Refusal>> for DeviceServicesAnswer {
+    #[tactic(auto, unfolding(crate::specs::Services::answer_of))]
+    fn from(read: Result<DeviceServices, Refusal>) -> DeviceServicesAnswer
+        ensures { result ≡ answer_of read }
+    {
+        match read {
+            Ok(info) => DeviceServicesAnswer {
+                refusal: no_refusal(),
+                info,
+            },
+            Err(refusal) => DeviceServicesAnswer {
+                refusal: RefusalInfo::from(refusal),
+                info: no_info(),
+            },
         }
     }
 }
 
-pub fn element_info(answer: ElementAnswer) -> ElementInfo
-    ensures { result ≡ element_info answer }
-{
-    let none = no_element();
-    match answer {
-        ElementAnswer::Listed(element) => {
-            let refusal = no_refusal();
-            ElementInfo {
-                refusal,
+impl From<Result<Option<DeviceService>, Refusal>> for ElementInfo {
+    #[tactic(auto, unfolding(crate::specs::Services::element_info))]
+    fn from(answer: Result<Option<DeviceService>, Refusal>) -> ElementInfo
+        ensures { result ≡ element_info answer }
+    {
+        match answer {
+            Ok(Some(element)) => ElementInfo {
+                refusal: no_refusal(),
                 listed: 1,
                 element,
-            }
-        }
-        ElementAnswer::NotListed => {
-            let refusal = no_refusal();
-            ElementInfo {
-                refusal,
+            },
+            Ok(None) => ElementInfo {
+                refusal: no_refusal(),
                 listed: 0,
-                element: none,
-            }
+                element: no_element(),
+            },
+            Err(refusal) => ElementInfo {
+                refusal: RefusalInfo::from(refusal),
+                listed: 0,
+                element: no_element(),
+            },
         }
-        ElementAnswer::Refused(refusal) => ElementInfo {
-            refusal,
-            listed: 0,
-            element: none,
-        },
     }
 }
 
-pub fn listed_info(answer: ListedAnswer) -> ListedInfo
-    ensures { result ≡ listed_info answer }
-{
-    match answer {
-        ListedAnswer::Listed => {
-            let refusal = no_refusal();
-            ListedInfo { refusal, listed: 1 }
+impl From<Result<bool, Refusal>> for ListedInfo {
+    #[tactic(auto, unfolding(crate::specs::Services::listed_info))]
+    fn from(answer: Result<bool, Refusal>) -> ListedInfo
+        ensures { result ≡ listed_info answer }
+    {
+        match answer {
+            Ok(listed) => ListedInfo {
+                refusal: no_refusal(),
+                listed: u32::from(listed),
+            },
+            Err(refusal) => ListedInfo {
+                refusal: RefusalInfo::from(refusal),
+                listed: 0,
+            },
         }
-        ListedAnswer::NotListed => {
-            let refusal = no_refusal();
-            ListedInfo { refusal, listed: 0 }
-        }
-        ListedAnswer::Refused(refusal) => ListedInfo { refusal, listed: 0 },
     }
 }
 
-pub fn position_info(answer: PositionAnswer) -> PositionInfo
-    ensures { result ≡ position_info answer }
-{
-    match answer {
-        PositionAnswer::Listed {
-            element_number,
-            cid_number,
-        } => {
-            let refusal = no_refusal();
-            PositionInfo {
-                refusal,
+impl From<Result<Option<Position>, Refusal>> for PositionInfo {
+    #[tactic(auto, unfolding(crate::specs::Services::position_info))]
+    fn from(answer: Result<Option<Position>, Refusal>) -> PositionInfo
+        ensures { result ≡ position_info answer }
+    {
+        match answer {
+            Ok(Some(position)) => PositionInfo {
+                refusal: no_refusal(),
                 listed: 1,
-                element_number,
-                cid_number,
-            }
+                element_number: position.element_number,
+                cid_number: position.cid_number,
+            },
+            Ok(None) => not_listed(no_refusal()),
+            Err(refusal) => not_listed(RefusalInfo::from(refusal)),
         }
-        PositionAnswer::NotListed => not_listed(no_refusal()),
-        PositionAnswer::Refused(refusal) => not_listed(refusal),
     }
 }
 
-fn not_listed(refusal: Refusal) -> PositionInfo
+fn not_listed(refusal: RefusalInfo) -> PositionInfo
     ensures { result ≡ not_listed refusal }
 {
     PositionInfo {
@@ -145,23 +142,23 @@ fn not_listed(refusal: Refusal) -> PositionInfo
     }
 }
 
-pub fn all_info(answer: AllAnswer) -> AllInfo
-    ensures { result ≡ all_info answer }
-{
-    match answer {
-        AllAnswer::Listed { elements, cids } => {
-            let refusal = no_refusal();
-            AllInfo {
-                refusal,
-                elements,
-                cids,
-            }
+impl From<Result<AllListed, Refusal>> for AllInfo {
+    #[tactic(auto, unfolding(crate::specs::Services::all_info))]
+    fn from(answer: Result<AllListed, Refusal>) -> AllInfo
+        ensures { result ≡ all_info answer }
+    {
+        match answer {
+            Ok(listed) => AllInfo {
+                refusal: no_refusal(),
+                elements: listed.elements,
+                cids: listed.cids,
+            },
+            Err(refusal) => AllInfo {
+                refusal: RefusalInfo::from(refusal),
+                elements: 0,
+                cids: 0,
+            },
         }
-        AllAnswer::Refused(refusal) => AllInfo {
-            refusal,
-            elements: 0,
-            cids: 0,
-        },
     }
 }
 

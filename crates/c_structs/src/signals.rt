@@ -1,13 +1,11 @@
 // The SIGNAL_STATE payload's record, entries and answer in C's layout.
 ghost use Rattle.std.specs.Prelude.{◌≡◌};
-ghost use Rattle.c_structs.specs.Signals.{count_in, no_info, info_of, refused_by, answer_of, form_of, record_of};
+ghost use Rattle.c_structs.specs.Signals.{no_info, info_of, refused_by, answer_of, record_of};
 
-use crate::no_refusal;
+use crate::{RefusalInfo, no_refusal};
 use handshake::number_of;
 use protocol::{Refusal, Version};
-use signal_state::{
-    RsrpSnr, SignalForm, SignalState, SignalStateRead, SignalStateShown, version_of,
-};
+use signal_state::{RsrpSnr, SignalForm, SignalState, SignalStateShown, version_of};
 
 // What the version's form does not have is 0 in an answer, and no writer looks at it; the same holds
 // of the entries past the count.
@@ -27,36 +25,40 @@ pub struct SignalStateInfo {
 #[repr(C)]
 #[derive(Clone, Copy)]
 pub struct SignalStateAnswer {
-    pub refusal: Refusal,
+    pub refusal: RefusalInfo,
     pub info: SignalStateInfo,
 }
 
-pub fn answer_of(shown: SignalStateShown) -> SignalStateAnswer
-    ensures { result ≡ answer_of shown }
-{
-    let answer = shown.answer;
-    let entries = shown.entries;
-    match answer {
-        SignalStateRead::Info(fields) => {
-            let refusal = no_refusal();
-            let info = info_of(fields, entries);
-            SignalStateAnswer { refusal, info }
+impl From<SignalStateShown> for SignalStateAnswer {
+    #[tactic(auto, unfolding(crate::specs::Signals::answer_by))]
+    fn from(shown: SignalStateShown) -> SignalStateAnswer
+        ensures { result ≡ answer_of shown }
+    {
+        match shown.answer {
+            Ok(fields) => SignalStateAnswer {
+                refusal: no_refusal(),
+                info: info_of(fields, shown.entries),
+            },
+            Err(refusal) => SignalStateAnswer::from(refusal),
         }
-        SignalStateRead::Refused(refusal) => refused(refusal),
     }
 }
 
-pub fn refused(refusal: Refusal) -> SignalStateAnswer
-    ensures { result ≡ refused_by refusal }
-{
-    let info = no_info();
-    SignalStateAnswer { refusal, info }
+impl From<Refusal> for SignalStateAnswer {
+    fn from(refusal: Refusal) -> SignalStateAnswer
+        ensures { result ≡ refused_by refusal }
+    {
+        SignalStateAnswer {
+            refusal: RefusalInfo::from(refusal),
+            info: no_info(),
+        }
+    }
 }
 
+#[tactic(auto, unfolding(crate::specs::Signals::info_of))]
 pub fn info_of(fields: SignalState, entries: [RsrpSnr; 16]) -> SignalStateInfo
     ensures { result ≡ info_of fields entries }
 {
-    let form = fields.form;
     SignalStateInfo {
         version: number_of(version_of(fields)),
         rssi: fields.rssi,
@@ -64,16 +66,23 @@ pub fn info_of(fields: SignalState, entries: [RsrpSnr; 16]) -> SignalStateInfo
         signal_strength_interval: fields.signal_strength_interval,
         rssi_threshold: fields.rssi_threshold,
         error_rate_threshold: fields.error_rate_threshold,
-        count: count_in(form),
+        count: match fields.form {
+            SignalForm::V1 => 0,
+            SignalForm::V2 { count } => count,
+        },
         entries,
     }
 }
 
 // The record of a version; its entries stand beside it, and the number in `info` is not looked at.
+#[tactic(auto, unfolding(crate::specs::Signals::record_of))]
 pub fn record_of(version: Version, info: SignalStateInfo) -> SignalState
     ensures { result ≡ record_of version info }
 {
-    let form = form_of(version, info.count);
+    let form = match version {
+        Version::V1 => SignalForm::V1,
+        Version::V2 => SignalForm::V2 { count: info.count },
+    };
     SignalState {
         rssi: info.rssi,
         error_rate: info.error_rate,
@@ -84,24 +93,7 @@ pub fn record_of(version: Version, info: SignalStateInfo) -> SignalState
     }
 }
 
-fn form_of(version: Version, count: u32) -> SignalForm
-    ensures { result ≡ form_of version count }
-{
-    match version {
-        Version::V1 => SignalForm::V1,
-        Version::V2 => SignalForm::V2 { count },
-    }
-}
-
-fn count_in(form: SignalForm) -> u32
-    ensures { result ≡ count_in form }
-{
-    match form {
-        SignalForm::V1 => 0,
-        SignalForm::V2 { count } => count,
-    }
-}
-
+#[tactic(auto, unfolding(crate::specs::Signals::no_info))]
 fn no_info() -> SignalStateInfo
     ensures { result ≡ no_info }
 {

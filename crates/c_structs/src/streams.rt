@@ -1,12 +1,8 @@
 // What a stream answers as plain members.
 ghost use Rattle.std.specs.Prelude.{◌≡◌};
-ghost use Rattle.c_structs.specs.Messages.{receive_info};
 ghost use Rattle.c_structs.specs.Streams.{stream_info};
-ghost use Rattle.assembler.specs.declared.door.Received.TheVariants.{Refused};
 
-use crate::messages::{ReceiveInfo, nothing_received, receive_info};
-use assembler::door::Received;
-use protocol::Refusal;
+use crate::messages::{ReceiveInfo, nothing_received};
 use stream::Said;
 
 // A chunk fed: the piece that was taken, as far as one is whole, or a refusal of the stream's own; how
@@ -19,6 +15,7 @@ pub struct StreamInfo {
     pub ended: u32,
 }
 
+#[tactic(auto, unfolding(crate::specs::Streams::stream_info))]
 pub fn stream_info(said: Said, taken: usize) -> StreamInfo
     ensures { result ≡ stream_info said taken }
 {
@@ -29,25 +26,19 @@ pub fn stream_info(said: Said, taken: usize) -> StreamInfo
             ended: 0,
         },
         Said::Piece(received) => StreamInfo {
-            piece: receive_info(received),
+            piece: ReceiveInfo::from(received),
             taken,
             ended: 0,
         },
         Said::Ended(refusal) => StreamInfo {
-            piece: refused(refusal),
+            piece: ReceiveInfo::from(Err(refusal)),
             taken,
             ended: 1,
         },
         Said::Refused(refusal) => StreamInfo {
-            piece: refused(refusal),
+            piece: ReceiveInfo::from(Err(refusal)),
             taken,
             ended: 0,
         },
     }
-}
-
-fn refused(refusal: Refusal) -> ReceiveInfo
-    ensures { result ≡ receive_info (Refused refusal) }
-{
-    receive_info(Received::Refused(refusal))
 }

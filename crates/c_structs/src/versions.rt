@@ -2,28 +2,31 @@
 ghost use Rattle.std.specs.Prelude.{◌≡◌};
 ghost use Rattle.c_structs.specs.Versions.{no_info, answer_of};
 
-use crate::no_refusal;
+use crate::{RefusalInfo, no_refusal};
 use protocol::Refusal;
-use version_info::{VersionInfo, VersionInfoRead};
+use version_info::VersionInfo;
 
 #[repr(C)]
 #[derive(Clone, Copy)]
 pub struct VersionInfoAnswer {
-    pub refusal: Refusal,
+    pub refusal: RefusalInfo,
     pub info: VersionInfo,
 }
 
-pub fn answer_of(read: VersionInfoRead) -> VersionInfoAnswer
-    ensures { result ≡ answer_of read }
-{
-    match read {
-        VersionInfoRead::Info(info) => {
-            let refusal = no_refusal();
-            VersionInfoAnswer { refusal, info }
-        }
-        VersionInfoRead::Refused(refusal) => {
-            let info = no_info();
-            VersionInfoAnswer { refusal, info }
+impl From<Result<VersionInfo, Refusal>> for VersionInfoAnswer {
+    #[tactic(auto, unfolding(crate::specs::Versions::answer_of))]
+    fn from(read: Result<VersionInfo, Refusal>) -> VersionInfoAnswer
+        ensures { result ≡ answer_of read }
+    {
+        match read {
+            Ok(info) => VersionInfoAnswer {
+                refusal: no_refusal(),
+                info,
+            },
+            Err(refusal) => VersionInfoAnswer {
+                refusal: RefusalInfo::from(refusal),
+                info: no_info(),
+            },
         }
     }
 }

@@ -6,17 +6,12 @@ use Rattle.std.specs.Float.{binary32}
 use Rattle.std.specs.Float.Ieee.{of_bits}
 use Rattle.protocol.specs.Refusal.{refusal, too_short, wrong_length, offset_in_fixed_part, past_end, outside_table, contradiction, misaligned_offset, offset_with_zero_size, wrong_size}
 use Rattle.protocol.specs.Verdict.{Writing}
-use Rattle.protocol.specs.declared.Verdict.{Verdict}
-use Rattle.protocol.specs.declared.Verdict.TheVariants.{Fits, Fault}
 use Rattle.protocol.specs.declared.Version.{Version}
 use Rattle.protocol.specs.declared.Version.TheVariants.{V1, V2}
-use Rattle.protocol.specs.declared.Written.TheVariants.{Length}
 use Rattle.packet_service.specs.PacketService.{read_of as packet_read, bytes_of as packet_bytes, write_of as packet_write}
 use Rattle.packet_service.specs.declared.PacketForm.{PacketForm}
 use Rattle.packet_service.specs.declared.PacketForm.TheVariants.{V1 as Form1, V2 as Form2}
 use Rattle.packet_service.specs.declared.PacketService.{PacketService}
-use Rattle.packet_service.specs.declared.PacketServiceRead.{PacketServiceRead}
-use Rattle.packet_service.specs.declared.PacketServiceRead.TheVariants.{Info as PacketInfo, Refused as PacketRefused}
 use Rattle.pairs.specs.Pair.{range, verdict_of, range_bytes}
 use Rattle.pairs.specs.declared.Range.{Range}
 use Rattle.pairs.specs.declared.PairKind.TheVariants.{Text}
@@ -26,29 +21,29 @@ use Rattle.registration.specs.Registration.{texts, read_with as registration_rea
 use Rattle.registration.specs.declared.RegistrationForm.{RegistrationForm}
 use Rattle.registration.specs.declared.RegistrationForm.TheVariants.{V1 as RegistrationForm1, V2 as RegistrationForm2}
 use Rattle.registration.specs.declared.Registration.{Registration}
-use Rattle.registration.specs.declared.RegistrationRead.{RegistrationRead}
-use Rattle.registration.specs.declared.RegistrationRead.TheVariants.{Info as RegistrationInfo, Refused as RegistrationRefused}
 use Rattle.signal_quality.specs.Decibels.{rsrp_of, snr_of}
 use Rattle.signal_quality.specs.declared.Reading.TheVariants.{Dbm, Db}
-use Rattle.signal_quality.specs.declared.ReadingRead.{ReadingRead}
-use Rattle.signal_quality.specs.declared.ReadingRead.TheVariants.{Info as Read}
 use Rattle.signal_state.specs.SignalState.{no_entries, refused as signal_refused, read_with as signal_read}
 use Rattle.signal_state.specs.Claims.{info as signal_info}
 use Rattle.signal_state.specs.declared.SignalForm.TheVariants.{V2 as SignalForm2}
 use Rattle.signal_state.specs.declared.SignalState.{SignalState}
 use Rattle.signal_state.specs.declared.SignalStateShown.{SignalStateShown}
 use Rattle.device_services.specs.DeviceServices.{read_with as services_read}
-use Rattle.device_services.specs.declared.DeviceServicesRead.{DeviceServicesRead}
-use Rattle.device_services.specs.declared.DeviceServicesRead.TheVariants.{Refused as ServicesRefused}
 use Rattle.message.specs.Message.{whole_of, fragment_of}
 use Rattle.message.specs.declared.Whole.{Whole}
-use Rattle.message.specs.declared.Whole.TheVariants as whole
 use Rattle.message.specs.declared.Fragment.{Fragment}
-use Rattle.message.specs.declared.Fragment.TheVariants as fragment
 use Rattle.version_info.specs.VersionInfo.{read_of as version_read, write_of as version_write}
 use Rattle.version_info.specs.declared.VersionInfo.{VersionInfo}
-use Rattle.version_info.specs.declared.VersionInfoRead.{VersionInfoRead}
-use Rattle.version_info.specs.declared.VersionInfoRead.TheVariants.{Info as VersionGiven, Refused as VersionRefused}
+use Rattle.std.specs.Prelude.{Ok, Err}
+use Rattle.protocol.specs.Verdict.{no_fault}
+use Rattle.device_services.specs.DeviceServices.{DeviceServicesRead}
+use Rattle.packet_service.specs.PacketService.{PacketServiceRead}
+use Rattle.signal_quality.specs.Decibels.{ReadingRead}
+use Rattle.registration.specs.Registration.{RegistrationRead}
+use Rattle.protocol.specs.Verdict.{Verdict}
+use Rattle.version_info.specs.VersionInfo.{VersionInfoRead}
+use Rattle.std.specs.Prelude.{Result}
+use Rattle.protocol.specs.declared.Refusal.{Refusal}
 
 -- ---- what a case says
 
@@ -70,8 +65,8 @@ pub data Case : Type 0 where
   signal_shown : Version → ZeroSize → List ℕ → SignalStateShown → Case
   services_shown : ZeroSize → List ℕ → DeviceServicesRead → Case
   -- a message is judged whole, and as a fragment
-  whole_judged : List ℕ → Whole → Case
-  fragment_judged : List ℕ → Fragment → Case
+  whole_judged : List ℕ → (Result Whole Refusal) → Case
+  fragment_judged : List ℕ → (Result Fragment Refusal) → Case
   -- a code is read
   rsrp_read : ℕ → ReadingRead → Case
   snr_read : ℕ → ReadingRead → Case
@@ -159,7 +154,7 @@ with_pair pair = take 20 home_written ++ (range_bytes pair ++ drop 28 home_writt
 
 -- as it is shown without a ProviderId
 abbrev pub home_alone : RegistrationRead
-home_alone = RegistrationInfo (home (RegistrationForm2 0) 0x20) (texts (range 0 0) (range 0 0) (range 0 0))
+home_alone = Ok ((home (RegistrationForm2 0) 0x20), (texts (range 0 0) (range 0 0) (range 0 0)))
 
 -- a services list of one element, and nothing behind its pair
 abbrev pub one_element : Range → List ℕ
@@ -189,62 +184,62 @@ one_signal system =
 
 unfoldable pub cases : List Case
 cases =
-    version_written latest (replicate 4 0) (record { answer = Length 4; output = latest_bytes })
-    ∷ version_shown latest_bytes (VersionGiven latest)
-    ∷ packet_shown V2 attached_bytes (PacketInfo attached)
-    ∷ packet_shown V1 attached_bytes (PacketRefused (refusal wrong_length 32))
-    ∷ registration_written (home (RegistrationForm2 0) 0x20) provider_id 64 (record { answer = Length 64; output = home_written })
-    ∷ registration_shown V1 Absent (home_bytes (RegistrationForm2 0) 0x20) (RegistrationInfo (home RegistrationForm1 0x20) (texts (range 52 10) (range 0 0) (range 0 0)))
-    ∷ registration_shown V1 Absent (home_bytes (RegistrationForm2 0) 0x60) (RegistrationRefused (refusal outside_table 12))
-    ∷ registration_written (home RegistrationForm1 0x20) provider_id 60 (record { answer = Length 60; output = home_bytes RegistrationForm1 0x20 })
-    ∷ registration_shown V2 Absent (home_bytes RegistrationForm1 0x20) (RegistrationRefused (refusal offset_in_fixed_part 20))
+    version_written latest (replicate 4 0) (record { answer = Ok 4; output = latest_bytes })
+    ∷ version_shown latest_bytes (Ok latest)
+    ∷ packet_shown V2 attached_bytes (Ok attached)
+    ∷ packet_shown V1 attached_bytes (Err (refusal wrong_length 32))
+    ∷ registration_written (home (RegistrationForm2 0) 0x20) provider_id 64 (record { answer = Ok 64; output = home_written })
+    ∷ registration_shown V1 Absent (home_bytes (RegistrationForm2 0) 0x20) (Ok ((home RegistrationForm1 0x20), (texts (range 52 10) (range 0 0) (range 0 0))))
+    ∷ registration_shown V1 Absent (home_bytes (RegistrationForm2 0) 0x60) (Err (refusal outside_table 12))
+    ∷ registration_written (home RegistrationForm1 0x20) provider_id 60 (record { answer = Ok 60; output = home_bytes RegistrationForm1 0x20 })
+    ∷ registration_shown V2 Absent (home_bytes RegistrationForm1 0x20) (Err (refusal offset_in_fixed_part 20))
     -- of the pair alone, and as a whole payload
-    ∷ pair_judged Absent 52 12 20 64 (range 0xFFFFFFFC 8) (Fault (refusal past_end 20))
-    ∷ registration_shown V2 Absent (with_pair (range 0xFFFFFFFC 8)) (RegistrationRefused (refusal past_end 20))
+    ∷ pair_judged Absent 52 12 20 64 (range 0xFFFFFFFC 8) (Err (refusal past_end 20))
+    ∷ registration_shown V2 Absent (with_pair (range 0xFFFFFFFC 8)) (Err (refusal past_end 20))
     -- 6 in document 01; order 1: "The case of size 0 with offset 52 in 01 becomes 18";
     -- order 10: "01's case of size 0 with offset 52 is then accepted by default, 18 under the strict choice"
-    ∷ pair_judged Absent 52 12 20 64 (range 52 0) Fits
-    ∷ pair_judged Strict 52 12 20 64 (range 52 0) (Fault (refusal offset_with_zero_size 20))
+    ∷ pair_judged Absent 52 12 20 64 (range 52 0) no_fault
+    ∷ pair_judged Strict 52 12 20 64 (range 52 0) (Err (refusal offset_with_zero_size 20))
     ∷ registration_shown V2 Absent (with_pair (range 52 0)) home_alone
-    ∷ registration_shown V2 Strict (with_pair (range 52 0)) (RegistrationRefused (refusal offset_with_zero_size 20))
+    ∷ registration_shown V2 Strict (with_pair (range 52 0)) (Err (refusal offset_with_zero_size 20))
     -- "For an optional signal list, absent means no entries; a services pair of size 0 is 8 by default"
     ∷ signal_shown V2 Absent (no_signal (range 52 0)) (signal_info no_entry (no_entries 16))
     ∷ signal_shown V2 Strict (no_signal (range 52 0)) (signal_refused (refusal offset_with_zero_size 20))
-    ∷ services_shown Absent (one_element (range 52 0)) (ServicesRefused (refusal wrong_size 8))
-    ∷ services_shown Strict (one_element (range 52 0)) (ServicesRefused (refusal offset_with_zero_size 8))
-    ∷ services_shown Strict (one_element (range 0 0)) (ServicesRefused (refusal wrong_size 8))
+    ∷ services_shown Absent (one_element (range 52 0)) (Err (refusal wrong_size 8))
+    ∷ services_shown Strict (one_element (range 52 0)) (Err (refusal offset_with_zero_size 8))
+    ∷ services_shown Strict (one_element (range 0 0)) (Err (refusal wrong_size 8))
     -- order 1: "zero size first, then fixed part, then alignment", and then 7; the list comes after
     ∷ registration_shown V2 Absent (with_pair (range 3 0)) home_alone
-    ∷ registration_shown V2 Strict (with_pair (range 3 0)) (RegistrationRefused (refusal offset_with_zero_size 20))
-    ∷ registration_shown V2 Absent (with_pair (range 51 10)) (RegistrationRefused (refusal offset_in_fixed_part 20))
-    ∷ registration_shown V2 Absent (with_pair (range 54 12)) (RegistrationRefused (refusal misaligned_offset 20))
+    ∷ registration_shown V2 Strict (with_pair (range 3 0)) (Err (refusal offset_with_zero_size 20))
+    ∷ registration_shown V2 Absent (with_pair (range 51 10)) (Err (refusal offset_in_fixed_part 20))
+    ∷ registration_shown V2 Absent (with_pair (range 54 12)) (Err (refusal misaligned_offset 20))
     ∷ signal_shown V2 Absent (no_signal (range 30 24)) (signal_refused (refusal misaligned_offset 20))
     -- order 4: "Accept 18h besides the single bits, at both versions, in reader, writer"; "every other pair of bits stays 9"
-    ∷ packet_shown V1 (packet_bytes (serving 4 (Form1 0x18))) (PacketInfo (serving 4 (Form1 0x18)))
-    ∷ packet_shown V2 (packet_bytes (serving 2 (Form2 0x18 0))) (PacketInfo (serving 2 (Form2 0x18 0)))
-    ∷ packet_written (serving 2 (Form2 0x18 0)) 32 (record { answer = Length 32; output = packet_bytes (serving 2 (Form2 0x18 0)) })
-    ∷ packet_shown V1 (packet_bytes (serving 2 (Form1 0x28))) (PacketRefused (refusal outside_table 8))
-    ∷ packet_shown V2 (packet_bytes (serving 2 (Form2 0x28 0))) (PacketRefused (refusal outside_table 8))
+    ∷ packet_shown V1 (packet_bytes (serving 4 (Form1 0x18))) (Ok (serving 4 (Form1 0x18)))
+    ∷ packet_shown V2 (packet_bytes (serving 2 (Form2 0x18 0))) (Ok (serving 2 (Form2 0x18 0)))
+    ∷ packet_written (serving 2 (Form2 0x18 0)) 32 (record { answer = Ok 32; output = packet_bytes (serving 2 (Form2 0x18 0)) })
+    ∷ packet_shown V1 (packet_bytes (serving 2 (Form1 0x28))) (Err (refusal outside_table 8))
+    ∷ packet_shown V2 (packet_bytes (serving 2 (Form2 0x28 0))) (Err (refusal outside_table 8))
     -- under the rules of 2.00; SystemType and AvailableDataClass as in 01
-    ∷ packet_shown V2 (packet_bytes (serving 1 (Form2 0x18 0))) (PacketRefused (refusal contradiction 8))
-    ∷ packet_shown V2 (packet_bytes (serving 2 (Form2 0x18 1))) (PacketRefused (refusal contradiction 28))
+    ∷ packet_shown V2 (packet_bytes (serving 1 (Form2 0x18 0))) (Err (refusal contradiction 8))
+    ∷ packet_shown V2 (packet_bytes (serving 2 (Form2 0x18 1))) (Err (refusal contradiction 28))
     ∷ signal_shown V2 Absent (one_signal 0x18) (signal_refused (refusal outside_table 48))
-    ∷ registration_shown V1 Absent (home_bytes RegistrationForm1 0x28) (RegistrationInfo (home RegistrationForm1 0x28) (texts (range 48 10) (range 0 0) (range 0 0)))
-    ∷ version_shown [] (VersionRefused (refusal too_short 0))
-    ∷ packet_shown V1 [] (PacketRefused (refusal too_short 0))
-    ∷ packet_shown V2 [] (PacketRefused (refusal too_short 0))
-    ∷ registration_shown V1 Absent [] (RegistrationRefused (refusal too_short 0))
-    ∷ registration_shown V2 Absent [] (RegistrationRefused (refusal too_short 0))
+    ∷ registration_shown V1 Absent (home_bytes RegistrationForm1 0x28) (Ok ((home RegistrationForm1 0x28), (texts (range 48 10) (range 0 0) (range 0 0))))
+    ∷ version_shown [] (Err (refusal too_short 0))
+    ∷ packet_shown V1 [] (Err (refusal too_short 0))
+    ∷ packet_shown V2 [] (Err (refusal too_short 0))
+    ∷ registration_shown V1 Absent [] (Err (refusal too_short 0))
+    ∷ registration_shown V2 Absent [] (Err (refusal too_short 0))
     ∷ signal_shown V1 Absent [] (signal_refused (refusal too_short 0))
     ∷ signal_shown V2 Absent [] (signal_refused (refusal too_short 0))
-    ∷ services_shown Absent [] (ServicesRefused (refusal too_short 0))
-    ∷ whole_judged [] (whole.Refused (refusal too_short 0))
-    ∷ fragment_judged [] (fragment.Refused (refusal too_short 0))
+    ∷ services_shown Absent [] (Err (refusal too_short 0))
+    ∷ whole_judged [] (Err (refusal too_short 0))
+    ∷ fragment_judged [] (Err (refusal too_short 0))
     -- −156 and −31 dBm, −23 and 40 dB, by their bit patterns
-    ∷ rsrp_read 1 (Read (Dbm (of_bits binary32 0xC31C0000)))
-    ∷ rsrp_read 126 (Read (Dbm (of_bits binary32 0xC1F80000)))
-    ∷ snr_read 1 (Read (Db (of_bits binary32 0xC1B80000)))
-    ∷ snr_read 127 (Read (Db (of_bits binary32 0x42200000)))
+    ∷ rsrp_read 1 (Ok (Dbm (of_bits binary32 0xC31C0000)))
+    ∷ rsrp_read 126 (Ok (Dbm (of_bits binary32 0xC1F80000)))
+    ∷ snr_read 1 (Ok (Db (of_bits binary32 0xC1B80000)))
+    ∷ snr_read 127 (Ok (Db (of_bits binary32 0x42200000)))
     ∷ []
 
 abbrev pub AsWorked : Type 0

@@ -13,19 +13,18 @@ use Rattle.wire.specs.Numbers.{u32_at}
 use Rattle.protocol.specs.Verdict.{judge, fault_if, first_of, with_room}
 use Rattle.protocol.specs.MessageType.{COMMAND, COMMAND_DONE, is_fragmented}
 use Rattle.protocol.specs.Service.{basic_connect, extensions, id_at, same_id, among, kind_of as payload_kind}
-use Rattle.protocol.specs.declared.Verdict.{Verdict}
-use Rattle.protocol.specs.declared.Verdict.TheVariants.{Fits}
 use Rattle.protocol.specs.declared.service.Kind.{Kind}
 use Rattle.protocol.specs.declared.service.Kind.TheVariants as kinds
 use Rattle.protocol.proofs.Verdicts.{kept_fits}
 use Rattle.message.specs.Message.{wrong_word}
 use Rattle.message.specs.declared.MessageHeader.{MessageHeader}
 use Rattle.cutter.specs.Cut.{fragments_of, joined, wrong_size, wrong_transaction, message_rules, cut_by, cut_after, cut_of}
-use Rattle.cutter.specs.declared.Cutting.TheVariants.{Fragments}
-use Rattle.payload.specs.Payload.{command_way, done_way, way_of, row_of, shown_in, shown_by, shown_of}
-use Rattle.payload.specs.declared.Shown.TheVariants.{Payload}
+use Rattle.payload.specs.Payload.{Shown, command_way, done_way, way_of, row_of, shown_in, shown_by, shown_of}
 use Rattle.exchange.specs.Messages.{OfWidth, header_seen}
 use Rattle.claims.specs.Transfer.{Record, register_state, packet_service, signal_state, device_services, version_info, set_pin, pin_info, service_of, cid_of, kind_of, SetCommand, Failure, Answer, WayOf, Carries}
+use Rattle.std.specs.Prelude.{Ok, Some}
+use Rattle.protocol.specs.Verdict.{no_fault}
+use Rattle.protocol.specs.Verdict.{Verdict}
 
 -- ---- the rules of the cutter
 
@@ -73,39 +72,39 @@ way_kept m (inr (inr w)) = numbered_kept m (inr w.done) w.numbered (rw w.done re
 pub carried_kept : (r : Record) (m : MessageHeader) → Carries r m → HeaderKept m
 carried_kept r m c = way_kept m (any_way r m c.way)
 
-room_fits : (v : Verdict) (b s : List ℕ) → v ≡ Fits → length b ≤ length s → with_room v b s ≡ Fits
+room_fits : (v : Verdict) (b s : List ℕ) → v ≡ no_fault → length b ≤ length s → with_room v b s ≡ no_fault
 unfolding with_room first_of fault_if
 room_fits v b s e h = rw (e, le-ltb (length s) (length b) h)
 
 -- with room for its fragments, the message is accepted
 pub kept_accepted : (m : MessageHeader) (size : ℕ) (information stream : List ℕ) → HeaderKept m → 64 ≤ size → size ≤ 4096 → length information ≤ 4096
     → length (joined (fragments_of m size information)) ≤ length stream
-    → (cut_of m size information stream).answer ≡ Fragments (length (fragments_of m size information)) (length (joined (fragments_of m size information)))
+    → (cut_of m size information stream).answer ≡ Ok (record { count = (length (fragments_of m size information)); length = (length (joined (fragments_of m size information))) })
 unfolding cut_of cut_after cut_by
 kept_accepted m size information stream k low high few room =
     let rules = message_rules m size (length information) in
-    let fits : judge rules ≡ Fits = kept_fits rules (size_kept size low high, (k.0, (k.1.0, (k.1.1, (le-ltb 4096 (length information) few, tt))))) in
-    let f : with_room (judge rules) (joined (fragments_of m size information)) stream ≡ Fits = room_fits (judge rules) (joined (fragments_of m size information)) stream fits room in
+    let fits : judge rules ≡ no_fault = kept_fits rules (size_kept size low high, (k.0, (k.1.0, (k.1.1, (le-ltb 4096 (length information) few, tt))))) in
+    let f : with_room (judge rules) (joined (fragments_of m size information)) stream ≡ no_fault = room_fits (judge rules) (joined (fragments_of m size information)) stream fits room in
     rw f
 
 -- ---- the payload that the message shows
 
 -- on each way the column of a row
-in_set : (m : MessageHeader) (k : Kind) → SetCommand m → shown_in (row_of k) (way_of (header_seen m)) ≡ (row_of k).set
+in_set : (m : MessageHeader) (k : Kind) → SetCommand m → ◌≡◌ {A = Shown} (Ok (shown_in (row_of k) (way_of (header_seen m)))) (Ok (row_of k).set)
 unfolding way_of command_way header_seen
 in_set m k w = rw (w.command, w.set)
 
-in_answer : (m : MessageHeader) (k : Kind) → Answer m → shown_in (row_of k) (way_of (header_seen m)) ≡ (row_of k).answer
+in_answer : (m : MessageHeader) (k : Kind) → Answer m → ◌≡◌ {A = Shown} (Ok (shown_in (row_of k) (way_of (header_seen m)))) (Ok (row_of k).answer)
 unfolding way_of done_way header_seen
 in_answer m k (inl w) = rw (w.done, w.success)
 in_answer m k (inr w) = rw w.indicates
 
-in_failed : (m : MessageHeader) (k : Kind) → Failure m → shown_in (row_of k) (way_of (header_seen m)) ≡ (row_of k).failed
+in_failed : (m : MessageHeader) (k : Kind) → Failure m → ◌≡◌ {A = Shown} (Ok (shown_in (row_of k) (way_of (header_seen m)))) (Ok (row_of k).failed)
 unfolding way_of done_way header_seen
 in_failed m k w = rw (w.done, w.failure)
 
 -- the row of its service and CID has its payload on its way
-own_row : (r : Record) (m : MessageHeader) → WayOf r m → shown_by (header_seen m) (payload_kind (service_of r) (cid_of r)) ≡ Payload (kind_of r)
+own_row : (r : Record) (m : MessageHeader) → WayOf r m → shown_by (header_seen m) (payload_kind (service_of r) (cid_of r)) ≡ Ok (Some (kind_of r))
 unfolding WayOf shown_by payload_kind among same_id id_at u32_at basic_connect extensions service_of cid_of kind_of
 own_row (register_state p x y z) m w = in_answer m kinds.RegisterState w
 own_row (packet_service p) m w = in_answer m kinds.PacketService w
@@ -124,7 +123,7 @@ own_kind : (r : Record) (m : MessageHeader) → Carries r m → payload_kind (he
 unfolding header_seen
 own_kind r m c = rw (c.service, c.cid)
 
-pub shows : (r : Record) (m : MessageHeader) → Carries r m → shown_of (header_seen m) ≡ Payload (kind_of r)
+pub shows : (r : Record) (m : MessageHeader) → Carries r m → shown_of (header_seen m) ≡ Ok (Some (kind_of r))
 unfolding shown_of
 shows r m c = rw (fragmented r m c, own_kind r m c) (own_row r m c.way)
 

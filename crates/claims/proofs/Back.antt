@@ -7,8 +7,6 @@ use native.Mathlib.Omega.{arith}
 use lib.ListN.{length, take}
 use Rattle.protocol.specs.declared.Version.{Version}
 use Rattle.protocol.specs.declared.Version.TheVariants.{V1, V2}
-use Rattle.protocol.specs.declared.Verdict.TheVariants.{Fits}
-use Rattle.protocol.specs.declared.Written.TheVariants.{Length}
 use Rattle.protocol.proofs.Verdicts.{written_front, written_fits}
 use Rattle.packet_service.specs.PacketService as packet
 use Rattle.packet_service.specs.Claims.{OfWidth as PacketOfWidth}
@@ -48,17 +46,19 @@ use Rattle.pin.proofs.PinInfoLaws as pin_info_laws
 use Rattle.services_trip.proofs.RoundTrip as services_trip
 use Rattle.device_services.proofs.Acceptance as services_accepted
 use Rattle.claims.specs.Transfer.{Record, register_state, packet_service, signal_state, device_services, version_info, set_pin, pin_info, write_of, OfWidth, RegisterStateBack, PacketServiceBack, SignalStateBack, ReadsBack}
+use Rattle.std.specs.Prelude.{Ok}
+use Rattle.protocol.specs.Verdict.{no_fault}
 
 -- ---- the bytes of each payload
 
-packet_service_back : (p : PacketService) → PacketOfWidth p → packet.verdict_of p ≡ Fits → (w v : Version) → packet.version_of p ≡ w → PacketServiceBack w v p (packet.bytes_of p)
+packet_service_back : (p : PacketService) → PacketOfWidth p → packet.verdict_of p ≡ no_fault → (w v : Version) → packet.version_of p ≡ w → PacketServiceBack w v p (packet.bytes_of p)
 unfolding PacketServiceBack
 packet_service_back p z f V1 V1 e = rw e at (packet_trip.bytes_read p z f)
 packet_service_back p z f V2 V2 e = rw e at (packet_trip.bytes_read p z f)
 packet_service_back p z f V2 V1 e = packet_other.later_read_earlier p e
 packet_service_back p z f V1 V2 e = packet_other.earlier_read_later p e
 
-register_state_back : (choice : ZeroSize) (p : Registration) (x y z : List ℕ) → RegistrationOfWidth p → registration.written_verdict p (length x) (length y) (length z) ≡ Fits
+register_state_back : (choice : ZeroSize) (p : Registration) (x y z : List ℕ) → RegistrationOfWidth p → registration.written_verdict p (length x) (length y) (length z) ≡ no_fault
     → Returned choice p x y z (registration.bytes_of p x y z) → (w v : Version) → registration.version_of p ≡ w → RegisterStateBack w v choice p x y z (registration.bytes_of p x y z)
 unfolding RegisterStateBack
 register_state_back choice p x y z s f b V1 V1 e = b
@@ -68,7 +68,7 @@ register_state_back choice p x y z s f b V2 V1 e =
     (registration.laid_for p x y z, (registration_other.later_read_earlier choice p x y z e s f, t))
 register_state_back choice p x y z s f b V1 V2 e = registration_other.earlier_read_later choice p x y z e s f
 
-signal_state_back : (choice : ZeroSize) (p : SignalState) (es : List RsrpSnr) → SignalOfWidth p → EntriesOfWidth es → signal.written_verdict p es ≡ Fits → (g : SignalForm) (v : Version) → p.form ≡ g
+signal_state_back : (choice : ZeroSize) (p : SignalState) (es : List RsrpSnr) → SignalOfWidth p → EntriesOfWidth es → signal.written_verdict p es ≡ no_fault → (g : SignalForm) (v : Version) → p.form ≡ g
     → SignalStateBack (signal.version_in g) v choice p es (signal.bytes_of p es)
 unfolding SignalStateBack
 signal_state_back choice p es z zs f Form1 V1 e =
@@ -82,7 +82,7 @@ signal_state_back choice p es z zs f (Form2 n) V1 e =
 
 -- ---- what a writer puts into an output
 
-pub reads_back : (r : Record) → OfWidth r → (out : List ℕ) (n : ℕ) → (write_of r out).answer ≡ Length n → (v : Version) (choice : ZeroSize)
+pub reads_back : (r : Record) → OfWidth r → (out : List ℕ) (n : ℕ) → (write_of r out).answer ≡ Ok n → (v : Version) (choice : ZeroSize)
     → ReadsBack r v choice (take n (write_of r out).output)
 unfolding OfWidth write_of ReadsBack registration_write packet_write signal_write
 reads_back (register_state p x y z) s out n e v choice =
@@ -113,7 +113,7 @@ signal_few : (v : Version) (s : List ℕ) → SignalAcceptable v by_default s �
 signal_few V1 s a = omega (arith, a.form)
 signal_few V2 s a = a.form.1.0
 
-pub few : (r : Record) → OfWidth r → (out : List ℕ) (n : ℕ) → (write_of r out).answer ≡ Length n → length (take n (write_of r out).output) ≤ 4096
+pub few : (r : Record) → OfWidth r → (out : List ℕ) (n : ℕ) → (write_of r out).answer ≡ Ok n → length (take n (write_of r out).output) ≤ 4096
 unfolding OfWidth write_of packet_write
 few (register_state p x y z) s out n e =
     let b = registration_trip.round_trip by_default p x y z out n s e in

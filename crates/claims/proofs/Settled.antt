@@ -1,9 +1,8 @@
 -- What the writer gives of a list says of VERSION what the list does, and every message of the run arrives as it was sent: so the run of both ends
 -- over the wire goes by the list. Assumes nothing.
 use Prim.Native.Nat.{ℕ, ◌≤◌, ◌<◌, ◌^◌}
-use mathlib.Core.Path.{◌≡◌, refl, ◌∙◌}
+use mathlib.Core.Path.{refl}
 use mathlib.Core.Logic.{inl, inr}
-use mathlib.Core.Bool.{Bool, true, false, cond}
 use mathlib.Core.List.{List, []}
 use native.Mathlib.Omega.{arith}
 use lib.ListN.{length, take}
@@ -12,14 +11,13 @@ use Rattle.protocol.specs.Service.{id_at, basic_connect, extensions}
 use Rattle.protocol.specs.declared.Version.{Version}
 use Rattle.message.specs.Message.{wrong_word}
 use Rattle.version_info.specs.VersionInfo.{bytes_of}
-use Rattle.services_query.specs.declared.ListedAnswer.TheVariants.{Listed, NotListed}
 use Rattle.services_writer.specs.ServicesWriter.{write_of}
 use Rattle.pairs.specs.Pair.{by_default}
 use Rattle.services_trip.proofs.RoundTrip.{round_trip}
 use Rattle.handshake.specs.Versions.{info_of, larger, lower}
 use Rattle.protocol.specs.Status.{no_device_support}
 use Rattle.handshake.specs.Commands.{version_cid}
-use Rattle.handshake_claims.specs.Run.{Message, asks_services, asks_version, reply_to, Passes, listed_as}
+use Rattle.handshake_claims.specs.Run.{Message, asks_services, asks_version, reply_to, Passes}
 use Rattle.handshake_claims.proofs.Run.{ends_settle}
 use Rattle.services_writer.specs.declared.ServiceList.{ServiceList}
 use Rattle.claims.specs.Transfer.{device_services, OfWidth, write_of as written}
@@ -27,10 +25,6 @@ use Rattle.claims.specs.Wire.{Way, Open, wire, Sendable}
 use Rattle.claims.specs.Settle.{lists_version, ListWritten, BothSettle}
 use Rattle.claims.proofs.Back.{few}
 use Rattle.claims.proofs.Wired.{arrives_whole}
-
-said : (b : Bool) → cond b Listed NotListed ≡ listed_as b
-said true = refl
-said false = refl
 
 -- ---- the messages of the run can be sent
 
@@ -108,7 +102,7 @@ both_ends host modem advertised below p out n l given o S t₁ t₂ x y x32 y32 
     let small = list_few p out n l in
     ends_settle (wire to₁ back₁) (wire to₂ back₂) w₁ w₂ t₁ t₂ given s host modem advertised (lists_version p) g f (record {
       below = below;
-      list = (round_trip by_default p out n l.width l.accepted).listed (id_at extensions 0) version_cid ∙ said (lists_version p);
+      list = (round_trip by_default p out n l.width l.accepted).listed (id_at extensions 0) version_cid;
       other = o;
       first_numbered = x;
       second_numbered = y;

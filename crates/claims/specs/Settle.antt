@@ -4,7 +4,6 @@
 use Rattle.std.specs.Prelude.{ℕ, ◌≤◌, ◌<◌, ◌^◌, ◌≡◌, Bool, false, List, length, take}
 use Rattle.protocol.specs.Service.{id_at, extensions}
 use Rattle.protocol.specs.declared.Version.{Version}
-use Rattle.protocol.specs.declared.Written.TheVariants.{Length}
 use Rattle.folds.specs.Folds.{any_of}
 use Rattle.services_writer.specs.ServicesWriter.{write_of}
 use Rattle.services_writer.specs.declared.ServiceList.{ServiceList}
@@ -17,6 +16,7 @@ use Rattle.handshake_claims.specs.Run.{Message, OtherCommand, Rooms, run, expect
 use Rattle.claims.specs.Wire.{Way, Open, wire, Sendable}
 use Rattle.host.specs.declared.HostStage.{HostStage}
 use Rattle.modem.specs.declared.ModemStage.{ModemStage}
+use Rattle.std.specs.Prelude.{Ok}
 
 -- the list holds CID 15 of the extensions
 abbrev pub lists_version : ServiceList → Bool
@@ -25,7 +25,7 @@ lists_version p = any_of (holds_in p (id_at extensions 0) version_cid) p.device_
 -- what is written of the list p: n bytes of an output
 pub record ListWritten (p : ServiceList) (out : List ℕ) (n : ℕ) : Type 0 where
   pub width : OfWidth p
-  pub accepted : (write_of p out).answer ≡ Length n
+  pub accepted : (write_of p out).answer ≡ Ok n
 
 -- any native versions, any advertised one not above the modem's, any list that the writer accepts, any other command, any transactions, any ways for the four
 -- messages, ends just opened and room for VERSION

@@ -9,7 +9,6 @@ use Rattle.protocol.specs.Status as status
 use Rattle.protocol.specs.Service.{basic_connect, extensions, id_at}
 use Rattle.protocol.specs.declared.Version.{Version}
 use Rattle.protocol.specs.declared.Version.TheVariants.{V1, V2}
-use Rattle.protocol.specs.declared.Written.TheVariants.{Length}
 use Rattle.protocol.specs.declared.service.ServiceId.{ServiceId}
 use Rattle.protocol.specs.declared.service.Kind.{Kind}
 use Rattle.protocol.specs.declared.service.Kind.TheVariants as kinds
@@ -17,42 +16,36 @@ use Rattle.pairs.specs.Claims.{shown_in}
 use Rattle.packet_service.specs.PacketService as packet
 use Rattle.packet_service.specs.Claims.{OfWidth as PacketOfWidth}
 use Rattle.packet_service.specs.declared.PacketService.{PacketService}
-use Rattle.packet_service.specs.declared.PacketServiceRead.TheVariants as packet_read
 use Rattle.version_info.specs.VersionInfo as version
 use Rattle.version_info.specs.declared.VersionInfo.{VersionInfo}
-use Rattle.version_info.specs.declared.VersionInfoRead.TheVariants as version_read
 use Rattle.registration.specs.Registration as registration
 use Rattle.pairs.specs.declared.ZeroSize.{ZeroSize}
 use Rattle.registration.specs.Claims.{Returned, shown_earlier, refused_later}
 use Rattle.registration.specs.Claims.{OfWidth as RegistrationOfWidth}
 use Rattle.registration.specs.declared.Registration.{Registration}
 use Rattle.registration.specs.declared.RegistrationTexts.{RegistrationTexts}
-use Rattle.registration.specs.declared.RegistrationRead.TheVariants as registration_read
 use Rattle.signal_state.specs.SignalState as signal
 use Rattle.signal_state.specs.Claims.{kept_in, EntriesOfWidth}
 use Rattle.signal_state.specs.Claims.{OfWidth as SignalOfWidth}
 use Rattle.signal_state.specs.declared.RsrpSnr.{RsrpSnr}
 use Rattle.signal_state.specs.declared.SignalState.{SignalState}
-use Rattle.signal_state.specs.declared.SignalStateRead.TheVariants as signal_read
 use Rattle.pin.specs.SetPin.{write_of as write_set_pin}
 use Rattle.pin.specs.SetPinClaims.{Returned as SetPinReturned, OfWidth as SetPinOfWidth}
 use Rattle.pin.specs.declared.set_pin.SetPin.{SetPin}
 use Rattle.pin.specs.PinInfo.{read_of as read_pin_info, write_of as write_pin_info}
 use Rattle.pin.specs.PinInfoClaims.{OfWidth as PinInfoOfWidth}
 use Rattle.pin.specs.declared.pin_info.PinInfo.{PinInfo}
-use Rattle.pin.specs.declared.pin_info.PinInfoRead.TheVariants as pin_info_read
 use Rattle.services_writer.specs.ServicesWriter as services
 use Rattle.services_writer.specs.declared.ServiceList.{ServiceList}
 use Rattle.services_trip.specs.ServicesTrip.{Returned as ServicesReturned, OfWidth as ServicesOfWidth}
 use Rattle.message.specs.declared.MessageHeader.{MessageHeader}
 use Rattle.cutter.specs.Cut.{fragments_of, joined, cut_of}
-use Rattle.cutter.specs.declared.Cutting.TheVariants.{Fragments}
 use Rattle.assembler.specs.Assembly.{empty, is_pending}
 use Rattle.assembler.specs.Run.{Piece, run_of}
 use Rattle.payload.specs.Payload.{shown_of}
-use Rattle.payload.specs.declared.Shown.TheVariants.{Payload}
 use Rattle.exchange.specs.Messages.{header_seen, parts, pieces, received}
 use Rattle.exchange.specs.Delivery.{then_run}
+use Rattle.std.specs.Prelude.{Ok, Err, Some}
 
 -- ---- the records: one of the seven payloads, in either form where it has two, with its texts or its entries
 
@@ -166,19 +159,19 @@ RegisterStateBack V2 V1 choice p x y z s =
     (t : RegistrationTexts)
     × ((registration.read_with V1 choice s ≡ shown_earlier p t)
     × ((shown_in s t.provider_id ≡ x) × ((shown_in s t.provider_name ≡ y) × (shown_in s t.roaming_text ≡ z))))
-RegisterStateBack V1 V2 choice p x y z s = registration.read_with V2 choice s ≡ registration_read.Refused (refused_later (length x) (length y) (length z))
+RegisterStateBack V1 V2 choice p x y z s = registration.read_with V2 choice s ≡ Err (refused_later (length x) (length y) (length z))
 
 -- the record, or 2 at 32, or 1 at 28
 unfoldable pub PacketServiceBack : Version → Version → PacketService → List ℕ → Type 0
-PacketServiceBack V1 V1 p s = packet.read_of V1 s ≡ packet_read.Info p
-PacketServiceBack V2 V2 p s = packet.read_of V2 s ≡ packet_read.Info p
-PacketServiceBack V2 V1 p s = packet.read_of V1 s ≡ packet_read.Refused (refusal wrong_length 32)
-PacketServiceBack V1 V2 p s = packet.read_of V2 s ≡ packet_read.Refused (refusal too_short 28)
+PacketServiceBack V1 V1 p s = packet.read_of V1 s ≡ Ok p
+PacketServiceBack V2 V2 p s = packet.read_of V2 s ≡ Ok p
+PacketServiceBack V2 V1 p s = packet.read_of V1 s ≡ Err (refusal wrong_length 32)
+PacketServiceBack V1 V2 p s = packet.read_of V2 s ≡ Err (refusal too_short 28)
 
 -- the record and its entries, or 2 at the length, or 1 at 20
 unfoldable pub SignalStateBack : Version → Version → ZeroSize → SignalState → List RsrpSnr → List ℕ → Type 0
-SignalStateBack V1 V1 choice p es s = signal.read_with V1 choice s ≡ record { answer = signal_read.Info p; entries = kept_in p.form es }
-SignalStateBack V2 V2 choice p es s = signal.read_with V2 choice s ≡ record { answer = signal_read.Info p; entries = kept_in p.form es }
+SignalStateBack V1 V1 choice p es s = signal.read_with V1 choice s ≡ record { answer = Ok p; entries = kept_in p.form es }
+SignalStateBack V2 V2 choice p es s = signal.read_with V2 choice s ≡ record { answer = Ok p; entries = kept_in p.form es }
 SignalStateBack V2 V1 choice p es s = signal.read_with V1 choice s ≡ signal.refused (refusal wrong_length (length s))
 SignalStateBack V1 V2 choice p es s = signal.read_with V2 choice s ≡ signal.refused (refusal too_short 20)
 
@@ -188,9 +181,9 @@ ReadsBack (register_state p x y z) v choice s = RegisterStateBack (registration.
 ReadsBack (packet_service p) v choice s = PacketServiceBack (packet.version_of p) v p s
 ReadsBack (signal_state p es) v choice s = SignalStateBack (signal.version_of p) v choice p es s
 ReadsBack (device_services p) v choice s = ServicesReturned choice p s
-ReadsBack (version_info i) v choice s = version.read_of s ≡ version_read.Info i
+ReadsBack (version_info i) v choice s = version.read_of s ≡ Ok i
 ReadsBack (set_pin p x y) v choice s = SetPinReturned choice p x y s
-ReadsBack (pin_info i) v choice s = read_pin_info s ≡ pin_info_read.Info i
+ReadsBack (pin_info i) v choice s = read_pin_info s ≡ Ok i
 
 -- ---- the claim
 
@@ -199,19 +192,19 @@ pub record Transferred (r : Record) (m : MessageHeader) (size : ℕ) (s stream :
   pub count : ℕ
   pub long : ℕ
   -- the cutter accepts
-  pub cut : (cut_of m size s stream).answer ≡ Fragments count long
+  pub cut : (cut_of m size s stream).answer ≡ Ok (record { count = count; length = long })
   -- and gives the fragments laid down, `size` bytes each but the last
   pub fragments : parts count size (take long (cut_of m size s stream).output) ≡ fragments_of m size s
   -- the last piece completes the message, where it has room, and leaves the empty assembly
   pub run : run_of empty (earlier ++ pieces room 0 (parts count size (take long (cut_of m size s stream).output)))
       ≡ then_run (run_of empty earlier) (received m s (is_pending (run_of empty earlier).end.progress) (room (count - 1)) (count - 1))
   -- the message shows the record's payload
-  pub shown : shown_of (header_seen m) ≡ Payload (kind_of r)
+  pub shown : shown_of (header_seen m) ≡ Ok (Some (kind_of r))
   -- and at either version, by either choice of the reader (02, order 10), it reads back
   pub back : (v : Version) (choice : ZeroSize) → ReadsBack r v choice s
 
 -- any record that the writer accepts, any message that carries it, any permitted transfer size, a stream with room for the fragments, any earlier pieces
 abbrev pub EveryRecord : Type 0
-EveryRecord = (r : Record) → OfWidth r → (out : List ℕ) (n : ℕ) → (write_of r out).answer ≡ Length n → (m : MessageHeader) → Carries r m → (size : ℕ) → 64 ≤ size → size ≤ 4096
+EveryRecord = (r : Record) → OfWidth r → (out : List ℕ) (n : ℕ) → (write_of r out).answer ≡ Ok n → (m : MessageHeader) → Carries r m → (size : ℕ) → 64 ≤ size → size ≤ 4096
     → (stream : List ℕ) → length (joined (fragments_of m size (take n (write_of r out).output))) ≤ length stream → (earlier : List Piece) (room : ℕ → ℕ)
     → Transferred r m size (take n (write_of r out).output) stream earlier room

@@ -8,10 +8,11 @@ use Rattle.assembler.specs.Run.{Piece, Seen, run_of}
 use Rattle.assembler.specs.declared.Answer.{Answer}
 use Rattle.assembler.specs.declared.Answer.TheVariants as answer
 use Rattle.cutter.specs.Cut.{cut_of}
-use Rattle.cutter.specs.declared.Cutting.{Cutting}
-use Rattle.cutter.specs.declared.Cutting.TheVariants as cutting
+use Rattle.cutter.specs.declared.Fragments.{Fragments}
 use Rattle.exchange.specs.Messages.{OfWidth, parts, pieces}
 use Rattle.handshake_claims.specs.Run.{Message, Sent, nothing, sends, Line}
+use Rattle.std.specs.Prelude.{Ok, Err, Result}
+use Rattle.protocol.specs.declared.Refusal.{Refusal}
 
 -- ---- the way of a message: transfer size, the cutter's output, what the receiver's assembly was fed before, and the room in its output for each piece
 
@@ -30,14 +31,14 @@ pub record Open (w : Way) : Type 0 where
 
 -- ---- what arrives: the message that the last part completes
 
-unfoldable pub parts_by : Cutting → ℕ → List ℕ → List (List ℕ)
-parts_by (cutting.Fragments count n) size out = parts count size (take n out)
-parts_by (cutting.Refused r) size out = []
+unfoldable pub parts_by : (Result Fragments Refusal) → ℕ → List ℕ → List (List ℕ)
+parts_by (Ok cut) size out = parts cut.count size (take cut.length out)
+parts_by (Err r) size out = []
 
-abbrev pub arrived_by : Answer → List ℕ → Sent
-arrived_by (answer.Complete h n dropped) s = sends (record { header = h; information = s })
-arrived_by (answer.Pending dropped) s = nothing
-arrived_by (answer.Refused r) s = nothing
+abbrev pub arrived_by : (Result Answer Refusal) → List ℕ → Sent
+arrived_by (Ok (answer.Complete h n dropped)) s = sends (record { header = h; information = s })
+arrived_by (Ok (answer.Pending dropped)) s = nothing
+arrived_by (Err r) s = nothing
 
 abbrev pub last_arrived : List Seen → Sent
 last_arrived [] = nothing

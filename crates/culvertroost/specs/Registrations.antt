@@ -3,18 +3,18 @@
 use Rattle.std.specs.Prelude.{ℕ, List}
 use Rattle.protocol.specs.Verdict.{Writing}
 use Rattle.registration.specs.Registration.{read_with, read_of, write_of}
-use Rattle.registration.specs.declared.RegistrationRead.{RegistrationRead}
-use Rattle.registration.specs.declared.RegistrationRead.TheVariants.{Refused}
 use Rattle.c_structs.specs.Answers.{at_version, unwritten}
 use Rattle.c_structs.specs.Choices.{by_reading}
 use Rattle.c_structs.specs.Registrations.{record_of}
 use Rattle.c_structs.specs.declared.registrations.RegistrationInfo.{RegistrationInfo}
+use Rattle.std.specs.Prelude.{Err}
+use Rattle.registration.specs.Registration.{RegistrationRead}
 
 abbrev pub read_at : ℕ → List ℕ → RegistrationRead
-read_at n s = at_version n Refused (λ v. read_of v s)
+read_at n s = at_version n Err (λ v. read_of v s)
 
 abbrev pub read_chosen : ℕ → ℕ → List ℕ → RegistrationRead
-read_chosen n k s = by_reading n k Refused (λ v z. read_with v z s)
+read_chosen n k s = by_reading n k Err (λ v z. read_with v z s)
 
 -- with the texts x, y and z
 abbrev pub write_at : RegistrationInfo → List ℕ → List ℕ → List ℕ → List ℕ → Writing

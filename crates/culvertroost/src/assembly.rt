@@ -5,16 +5,15 @@ ghost use Rattle.lent.specs.LentAssembly.{emptied, receive_in};
 ghost use Rattle.c_structs.specs.Answers.{refusal_of};
 ghost use Rattle.c_structs.specs.Messages.{receive_info};
 
-use c_structs::messages::{ReceiveInfo, receive_info};
-use c_structs::refusal_of;
+use c_structs::RefusalInfo;
+use c_structs::messages::ReceiveInfo;
 use lent::assembly::{empty, receive};
-use protocol::Refusal;
 
-pub fn cvr_assembly_empty(memory: &mut [u8]) -> Refusal
+pub fn cvr_assembly_empty(memory: &mut [u8]) -> RefusalInfo
     ensures value { result ≡ refusal_of (emptied memory.old).verdict }
     ensures memory_after { memory.new ≡ (emptied memory.old).memory }
 {
-    refusal_of(empty(memory))
+    RefusalInfo::from(empty(memory))
 }
 
 pub fn cvr_receive(memory: &mut [u8], piece: &[u8], out: &mut [u8]) -> ReceiveInfo
@@ -22,5 +21,5 @@ pub fn cvr_receive(memory: &mut [u8], piece: &[u8], out: &mut [u8]) -> ReceiveIn
     ensures memory_after { memory.new ≡ (receive_in memory.old piece.now (length out.old)).memory }
     ensures out_after { out.new ≡ over (receive_in memory.old piece.now (length out.old)).information out.old }
 {
-    receive_info(receive(memory, piece, out))
+    ReceiveInfo::from(receive(memory, piece, out))
 }

@@ -4,43 +4,42 @@ ghost use Rattle.lent_host.specs.LentHost.{make_in, open_in, close_in, receive_i
 ghost use Rattle.c_structs.specs.Answers.{refusal_of};
 ghost use Rattle.c_structs.specs.Ends.{host_info, ask_info};
 
-use c_structs::ends::{AskInfo, HostInfo, ask_info, host_info};
-use c_structs::refusal_of;
+use c_structs::RefusalInfo;
+use c_structs::ends::{AskInfo, HostInfo};
 use lent_host::{close, make, next_command, open, receive};
 use message::MessageHeader;
-use protocol::Refusal;
 
-pub fn cvr_host_make(memory: &mut [u8], native: u16) -> Refusal
+pub fn cvr_host_make(memory: &mut [u8], native: u16) -> RefusalInfo
     ensures value { result ≡ refusal_of (make_in memory.old native).verdict }
     ensures memory_after { memory.new ≡ (make_in memory.old native).memory }
 {
-    refusal_of(make(memory, native))
+    RefusalInfo::from(make(memory, native))
 }
 
 pub fn cvr_host_open(memory: &mut [u8], advertised: u16) -> HostInfo
     ensures value { result ≡ host_info (open_in memory.old advertised).answer }
     ensures memory_after { memory.new ≡ (open_in memory.old advertised).memory }
 {
-    host_info(open(memory, advertised))
+    HostInfo::from(open(memory, advertised))
 }
 
 pub fn cvr_host_close(memory: &mut [u8]) -> HostInfo
     ensures value { result ≡ host_info (close_in memory.old).answer }
     ensures memory_after { memory.new ≡ (close_in memory.old).memory }
 {
-    host_info(close(memory))
+    HostInfo::from(close(memory))
 }
 
 pub fn cvr_host_next_command(memory: &[u8], out: &mut [u8]) -> AskInfo
     ensures value { result ≡ ask_info (ask_in memory.now out.old).answer }
     ensures out_after { out.new ≡ (ask_in memory.now out.old).output }
 {
-    ask_info(next_command(memory, out))
+    AskInfo::from(next_command(memory, out))
 }
 
 pub fn cvr_host_receive(memory: &mut [u8], message: MessageHeader, information: &[u8]) -> HostInfo
     ensures value { result ≡ host_info (receive_in memory.old message information.now).answer }
     ensures memory_after { memory.new ≡ (receive_in memory.old message information.now).memory }
 {
-    host_info(receive(memory, message, information))
+    HostInfo::from(receive(memory, message, information))
 }

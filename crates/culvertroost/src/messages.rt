@@ -7,8 +7,8 @@ ghost use Rattle.payload.specs.Payload.{shown_of};
 ghost use Rattle.c_structs.specs.Answers.{written_answer};
 ghost use Rattle.c_structs.specs.Messages.{whole_info, cut_info, kind_info};
 
-use c_structs::messages::{CutInfo, KindInfo, WholeInfo, cut_info, kind_info, whole_info};
-use c_structs::{WrittenAnswer, written_answer};
+use c_structs::WrittenAnswer;
+use c_structs::messages::{CutInfo, KindInfo, WholeInfo};
 use cutter::{cut, next_transaction};
 use message::{MessageHeader, judge_whole, write_whole};
 use payload::payload_of;
@@ -16,7 +16,7 @@ use payload::payload_of;
 pub fn cvr_message_judge(message: &[u8]) -> WholeInfo
     ensures { result ≡ whole_info (whole_of message.now) }
 {
-    whole_info(judge_whole(message))
+    WholeInfo::from(judge_whole(message))
 }
 
 pub fn cvr_message_write(
@@ -28,7 +28,7 @@ pub fn cvr_message_write(
     ensures value { result ≡ written_answer (write_whole_of message_type transaction word out.old).answer }
     ensures out_after { out.new ≡ (write_whole_of message_type transaction word out.old).output }
 {
-    written_answer(write_whole(message_type, transaction, word, out))
+    WrittenAnswer::from(write_whole(message_type, transaction, word, out))
 }
 
 pub fn cvr_message_cut(
@@ -40,13 +40,13 @@ pub fn cvr_message_cut(
     ensures value { result ≡ cut_info (cut_of message size information.now out.old).answer }
     ensures out_after { out.new ≡ (cut_of message size information.now out.old).output }
 {
-    cut_info(cut(message, size, information, out))
+    CutInfo::from(cut(message, size, information, out))
 }
 
 pub fn cvr_payload_kind(message: MessageHeader) -> KindInfo
     ensures { result ≡ kind_info (shown_of message) }
 {
-    kind_info(payload_of(message))
+    KindInfo::from(payload_of(message))
 }
 
 pub fn cvr_transaction_next(transaction: u32) -> u32

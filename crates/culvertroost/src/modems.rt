@@ -4,31 +4,35 @@ ghost use Rattle.lent_modem.specs.LentModem.{make_in, restart_in, receive_in};
 ghost use Rattle.c_structs.specs.Answers.{refusal_of};
 ghost use Rattle.culvertroost.specs.Modems.{reply_info};
 
+use c_structs::RefusalInfo;
 use c_structs::ends::{ModemInfo, modem_info};
-use c_structs::refusal_of;
 use lent_modem::{close, make, open, receive};
 use message::MessageHeader;
-use protocol::Refusal;
 
-pub fn cvr_modem_make(memory: &mut [u8], native: u16, advertised: u16, services: &[u8]) -> Refusal
+pub fn cvr_modem_make(
+    memory: &mut [u8],
+    native: u16,
+    advertised: u16,
+    services: &[u8],
+) -> RefusalInfo
     ensures value { result ≡ refusal_of (make_in memory.old native advertised services.now).verdict }
     ensures memory_after { memory.new ≡ (make_in memory.old native advertised services.now).memory }
 {
-    refusal_of(make(memory, native, advertised, services))
+    RefusalInfo::from(make(memory, native, advertised, services))
 }
 
-pub fn cvr_modem_open(memory: &mut [u8]) -> Refusal
+pub fn cvr_modem_open(memory: &mut [u8]) -> RefusalInfo
     ensures value { result ≡ refusal_of (restart_in memory.old).verdict }
     ensures memory_after { memory.new ≡ (restart_in memory.old).memory }
 {
-    refusal_of(open(memory))
+    RefusalInfo::from(open(memory))
 }
 
-pub fn cvr_modem_close(memory: &mut [u8]) -> Refusal
+pub fn cvr_modem_close(memory: &mut [u8]) -> RefusalInfo
     ensures value { result ≡ refusal_of (restart_in memory.old).verdict }
     ensures memory_after { memory.new ≡ (restart_in memory.old).memory }
 {
-    refusal_of(close(memory))
+    RefusalInfo::from(close(memory))
 }
 
 pub fn cvr_modem_receive(
@@ -42,7 +46,5 @@ pub fn cvr_modem_receive(
     ensures out_after { out.new ≡ (receive_in memory.old message information.now out.old).output }
 {
     let reply = receive(memory, message, information, out);
-    let answer = reply.answer;
-    let stage = reply.stage;
-    modem_info(answer, stage)
+    modem_info(reply.answer, reply.stage)
 }

@@ -9,18 +9,15 @@ ghost use Rattle.c_structs.specs.Answers.{refusal_of, written_answer};
 ghost use Rattle.c_structs.specs.Pins.{set_pin_answer, pin_info_answer, entry_answer};
 ghost use Rattle.culvertroost.specs.Pins.{read_chosen, pin_reply_info};
 
-use c_structs::choices::{Chosen, zero_size_at};
+use c_structs::choices::zero_size_at;
 use c_structs::ends::ModemInfo;
-use c_structs::pins::{
-    EntryAnswer, PinInfoAnswer, SetPinAnswer, entry_answer, pin_info_answer, pin_modem_info,
-    set_pin_answer,
-};
-use c_structs::{WrittenAnswer, refusal_of, written_answer};
+use c_structs::pins::{EntryAnswer, PinInfoAnswer, SetPinAnswer, pin_modem_info};
+use c_structs::{RefusalInfo, WrittenAnswer};
 use lent_pins::modems::receive;
 use lent_pins::{enter, make};
 use message::MessageHeader;
 use pin::pin_info::PinInfo;
-use pin::set_pin::{SetPin, SetPinRead};
+use pin::set_pin::{SetPin, SetPinTexts};
 use pin::{pin_info, set_pin};
 use pin_entry::starts::PinStarts;
 use protocol::Refusal;
@@ -28,50 +25,54 @@ use protocol::Refusal;
 pub fn cvr_set_pin_read(payload: &[u8]) -> SetPinAnswer
     ensures { result ≡ set_pin_answer (set_pin.read_of payload.now) }
 {
-    set_pin_answer(set_pin::read(payload))
+    SetPinAnswer::from(set_pin::read(payload))
 }
 
 pub fn cvr_set_pin_read_with(zero_size: u32, payload: &[u8]) -> SetPinAnswer
     ensures { result ≡ set_pin_answer (read_chosen zero_size payload.now) }
 {
-    match zero_size_at(zero_size) {
-        Chosen::By(choice) => set_pin_answer(set_pin::read_with(choice, payload)),
-        Chosen::Refused(refusal) => set_pin_answer(SetPinRead::Refused(refusal)),
-    }
+    SetPinAnswer::from(read_chosen(zero_size, payload))
+}
+
+fn read_chosen(zero_size: u32, payload: &[u8]) -> Result<(SetPin, SetPinTexts), Refusal>
+    ensures { result ≡ read_chosen zero_size payload.now }
+{
+    let choice = zero_size_at(zero_size)?;
+    set_pin::read_with(choice, payload)
 }
 
 pub fn cvr_set_pin_write(info: SetPin, pin: &[u8], new_pin: &[u8], out: &mut [u8]) -> WrittenAnswer
     ensures value { result ≡ written_answer (set_pin.write_of info pin.now new_pin.now out.old).answer }
     ensures out_after { out.new ≡ (set_pin.write_of info pin.now new_pin.now out.old).output }
 {
-    written_answer(set_pin::write(info, pin, new_pin, out))
+    WrittenAnswer::from(set_pin::write(info, pin, new_pin, out))
 }
 
 pub fn cvr_pin_info_read(payload: &[u8]) -> PinInfoAnswer
     ensures { result ≡ pin_info_answer (pin_info.read_of payload.now) }
 {
-    pin_info_answer(pin_info::read(payload))
+    PinInfoAnswer::from(pin_info::read(payload))
 }
 
 pub fn cvr_pin_info_write(info: PinInfo, out: &mut [u8]) -> WrittenAnswer
     ensures value { result ≡ written_answer (pin_info.write_of info out.old).answer }
     ensures out_after { out.new ≡ (pin_info.write_of info out.old).output }
 {
-    written_answer(pin_info::write(info, out))
+    WrittenAnswer::from(pin_info::write(info, out))
 }
 
-pub fn cvr_pin_make(memory: &mut [u8], pins: PinStarts) -> Refusal
+pub fn cvr_pin_make(memory: &mut [u8], pins: PinStarts) -> RefusalInfo
     ensures value { result ≡ refusal_of (make_in memory.old pins.rows).verdict }
     ensures memory_after { memory.new ≡ (make_in memory.old pins.rows).memory }
 {
-    refusal_of(make(memory, pins))
+    RefusalInfo::from(make(memory, pins))
 }
 
 pub fn cvr_pin_enter(memory: &mut [u8], payload: &[u8]) -> EntryAnswer
     ensures value { result ≡ entry_answer (enter_in memory.old payload.now).answer }
     ensures memory_after { memory.new ≡ (enter_in memory.old payload.now).memory }
 {
-    entry_answer(enter(memory, payload))
+    EntryAnswer::from(enter(memory, payload))
 }
 
 pub fn cvr_pin_receive(
@@ -87,7 +88,5 @@ pub fn cvr_pin_receive(
     ensures out_after { out.new ≡ (receive_in modem.old pins.old message information.now out.old).output }
 {
     let reply = receive(modem, pins, message, information, out);
-    let answer = reply.answer;
-    let stage = reply.stage;
-    pin_modem_info(answer, stage)
+    pin_modem_info(reply.answer, reply.stage)
 }

@@ -1,19 +1,16 @@
 // SIGNAL_STATE, for C. The number of the version is judged before anything else, then that of the
 // reader's choice.
 ghost use Rattle.std.specs.Prelude.{◌≡◌};
-ghost use Rattle.protocol.specs.declared.Verdict.TheVariants.{Fault};
 ghost use Rattle.c_structs.specs.Answers.{written_answer};
-ghost use Rattle.c_structs.specs.Choices.{by_reading};
 ghost use Rattle.c_structs.specs.Signals.{answer_of};
-ghost use Rattle.signal_state.specs.SignalState.{choice_verdict};
 ghost use Rattle.culvertroost.specs.Signals.{read_at, read_chosen, write_at};
 
-use c_structs::choices::{Reading, reading_at};
-use c_structs::signals::{SignalStateAnswer, SignalStateInfo, answer_of, record_of, refused};
-use c_structs::{WrittenAnswer, written_answer};
-use handshake::{Numbered, version_at};
-use protocol::{Verdict, Written};
-use signal_state::{judge_choice, read};
+use c_structs::WrittenAnswer;
+use c_structs::choices::reading_at;
+use c_structs::signals::{SignalStateAnswer, SignalStateInfo, record_of};
+use handshake::version_at;
+use protocol::Written;
+use signal_state::{read, read_with};
 use signal_writer::write;
 
 pub fn cvr_signal_state_read(version: u16, payload: &[u8]) -> SignalStateAnswer
@@ -23,31 +20,23 @@ pub fn cvr_signal_state_read(version: u16, payload: &[u8]) -> SignalStateAnswer
 }
 
 // In a function of its own the compiler keeps the answer from being copied once more.
+#[tactic(auto, unfolding(c_structs::specs::Signals::answer_by))]
 fn answer_at(version: u16, payload: &[u8]) -> SignalStateAnswer
     ensures { result ≡ answer_of (read_at version payload.now) }
 {
     match version_at(version) {
-        Numbered::At(v) => answer_of(read(v, payload)),
-        Numbered::Refused(refusal) => refused(refusal),
+        Ok(version) => SignalStateAnswer::from(read(version, payload)),
+        Err(refusal) => SignalStateAnswer::from(refusal),
     }
 }
 
-// Where the choice finds no fault, the answer is the plain one.
+#[tactic(auto, unfolding(c_structs::specs::Signals::answer_by))]
 pub fn cvr_signal_state_read_with(version: u16, zero_size: u32, payload: &[u8]) -> SignalStateAnswer
     ensures { result ≡ answer_of (read_chosen version zero_size payload.now) }
 {
-    match judge_chosen(version, zero_size, payload) {
-        Verdict::Fits => cvr_signal_state_read(version, payload),
-        Verdict::Fault(refusal) => refused(refusal),
-    }
-}
-
-fn judge_chosen(version: u16, zero_size: u32, payload: &[u8]) -> Verdict
-    ensures { result ≡ by_reading version zero_size Fault (λ v z. choice_verdict v z payload.now) }
-{
     match reading_at(version, zero_size) {
-        Reading::At(v, choice) => judge_choice(v, choice, payload),
-        Reading::Refused(refusal) => Verdict::Fault(refusal),
+        Ok((version, choice)) => SignalStateAnswer::from(read_with(version, choice, payload)),
+        Err(refusal) => SignalStateAnswer::from(refusal),
     }
 }
 
@@ -55,9 +44,14 @@ pub fn cvr_signal_state_write(info: SignalStateInfo, out: &mut [u8]) -> WrittenA
     ensures value { result ≡ written_answer (write_at info out.old).answer }
     ensures out_after { out.new ≡ (write_at info out.old).output }
 {
-    let entries = info.entries;
-    match version_at(info.version) {
-        Numbered::At(v) => written_answer(write(record_of(v, info), entries, out)),
-        Numbered::Refused(refusal) => written_answer(Written::Refused(refusal)),
-    }
+    WrittenAnswer::from(write_at(info, out))
+}
+
+#[tactic(auto, unfolding(protocol::specs::Verdict::given))]
+fn write_at(info: SignalStateInfo, out: &mut [u8]) -> Written
+    ensures value { result ≡ (write_at info out.old).answer }
+    ensures out_after { out.new ≡ (write_at info out.old).output }
+{
+    let version = version_at(info.version)?;
+    write(record_of(version, info), info.entries, out)
 }

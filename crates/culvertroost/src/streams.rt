@@ -5,17 +5,16 @@ ghost use Rattle.lent_stream.specs.LentStream.{reset_in, feed_in};
 ghost use Rattle.c_structs.specs.Answers.{refusal_of};
 ghost use Rattle.c_structs.specs.Streams.{stream_info};
 
-use c_structs::refusal_of;
+use c_structs::RefusalInfo;
 use c_structs::streams::{StreamInfo, stream_info};
 use lent_stream::{feed, reset};
-use protocol::Refusal;
 
-pub fn cvr_stream_reset(stream: &mut [u8], assembly: &mut [u8]) -> Refusal
+pub fn cvr_stream_reset(stream: &mut [u8], assembly: &mut [u8]) -> RefusalInfo
     ensures value { result ≡ refusal_of (reset_in stream.old assembly.old).verdict }
     ensures stream_after { stream.new ≡ (reset_in stream.old assembly.old).memory }
     ensures assembly_after { assembly.new ≡ (reset_in stream.old assembly.old).assembly }
 {
-    refusal_of(reset(stream, assembly))
+    RefusalInfo::from(reset(stream, assembly))
 }
 
 pub fn cvr_stream_feed(
@@ -30,6 +29,5 @@ pub fn cvr_stream_feed(
     ensures out_after { out.new ≡ over (feed_in stream.old assembly.old chunk.now (length out.old)).information out.old }
 {
     let fed = feed(stream, assembly, chunk, out);
-    let said = fed.said;
-    stream_info(said, fed.taken)
+    stream_info(fed.said, fed.taken)
 }

@@ -5,11 +5,11 @@ ghost use Rattle.lent.specs.LentAssembly.{emptied, receive_in};
 ghost use Rattle.c_structs.specs.Answers.{refusal_of};
 ghost use Rattle.c_structs.specs.Messages.{receive_info};
 
+use c_structs::RefusalInfo;
 use c_structs::messages::ReceiveInfo;
-use protocol::Refusal;
 
 #[unsafe(no_mangle)]
-pub extern "C" fn cvr_assembly_empty(memory: &mut [u8]) -> Refusal
+pub extern "C" fn cvr_assembly_empty(memory: &mut [u8]) -> RefusalInfo
     ensures value { result ≡ refusal_of (emptied memory.old).verdict }
     ensures memory_after { memory.new ≡ (emptied memory.old).memory }
 {

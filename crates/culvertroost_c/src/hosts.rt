@@ -4,12 +4,12 @@ ghost use Rattle.lent_host.specs.LentHost.{make_in, open_in, close_in, receive_i
 ghost use Rattle.c_structs.specs.Answers.{refusal_of};
 ghost use Rattle.c_structs.specs.Ends.{host_info, ask_info};
 
+use c_structs::RefusalInfo;
 use c_structs::ends::{AskInfo, HostInfo};
 use message::MessageHeader;
-use protocol::Refusal;
 
 #[unsafe(no_mangle)]
-pub extern "C" fn cvr_host_make(memory: &mut [u8], native: u16) -> Refusal
+pub extern "C" fn cvr_host_make(memory: &mut [u8], native: u16) -> RefusalInfo
     ensures value { result ≡ refusal_of (make_in memory.old native).verdict }
     ensures memory_after { memory.new ≡ (make_in memory.old native).memory }
 {

@@ -4,9 +4,9 @@ ghost use Rattle.lent_modem.specs.LentModem.{make_in, restart_in, receive_in};
 ghost use Rattle.c_structs.specs.Answers.{refusal_of};
 ghost use Rattle.culvertroost.specs.Modems.{reply_info};
 
+use c_structs::RefusalInfo;
 use c_structs::ends::ModemInfo;
 use message::MessageHeader;
-use protocol::Refusal;
 
 #[unsafe(no_mangle)]
 pub extern "C" fn cvr_modem_make(
@@ -14,7 +14,7 @@ pub extern "C" fn cvr_modem_make(
     native: u16,
     advertised: u16,
     services: &[u8],
-) -> Refusal
+) -> RefusalInfo
     ensures value { result ≡ refusal_of (make_in memory.old native advertised services.now).verdict }
     ensures memory_after { memory.new ≡ (make_in memory.old native advertised services.now).memory }
 {
@@ -22,7 +22,7 @@ pub extern "C" fn cvr_modem_make(
 }
 
 #[unsafe(no_mangle)]
-pub extern "C" fn cvr_modem_open(memory: &mut [u8]) -> Refusal
+pub extern "C" fn cvr_modem_open(memory: &mut [u8]) -> RefusalInfo
     ensures value { result ≡ refusal_of (restart_in memory.old).verdict }
     ensures memory_after { memory.new ≡ (restart_in memory.old).memory }
 {
@@ -30,7 +30,7 @@ pub extern "C" fn cvr_modem_open(memory: &mut [u8]) -> Refusal
 }
 
 #[unsafe(no_mangle)]
-pub extern "C" fn cvr_modem_close(memory: &mut [u8]) -> Refusal
+pub extern "C" fn cvr_modem_close(memory: &mut [u8]) -> RefusalInfo
     ensures value { result ≡ refusal_of (restart_in memory.old).verdict }
     ensures memory_after { memory.new ≡ (restart_in memory.old).memory }
 {

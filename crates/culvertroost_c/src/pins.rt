@@ -8,14 +8,13 @@ ghost use Rattle.c_structs.specs.Answers.{refusal_of, written_answer};
 ghost use Rattle.c_structs.specs.Pins.{set_pin_answer, pin_info_answer, entry_answer};
 ghost use Rattle.culvertroost.specs.Pins.{read_chosen, pin_reply_info};
 
-use c_structs::WrittenAnswer;
 use c_structs::ends::ModemInfo;
 use c_structs::pins::{EntryAnswer, PinInfoAnswer, SetPinAnswer};
+use c_structs::{RefusalInfo, WrittenAnswer};
 use message::MessageHeader;
 use pin::pin_info::PinInfo;
 use pin::set_pin::SetPin;
 use pin_entry::starts::PinStarts;
-use protocol::Refusal;
 
 #[unsafe(no_mangle)]
 pub extern "C" fn cvr_set_pin_read(payload: &[u8]) -> SetPinAnswer
@@ -60,7 +59,7 @@ pub extern "C" fn cvr_pin_info_write(info: PinInfo, out: &mut [u8]) -> WrittenAn
 }
 
 #[unsafe(no_mangle)]
-pub extern "C" fn cvr_pin_make(memory: &mut [u8], pins: PinStarts) -> Refusal
+pub extern "C" fn cvr_pin_make(memory: &mut [u8], pins: PinStarts) -> RefusalInfo
     ensures value { result ≡ refusal_of (make_in memory.old pins.rows).verdict }
     ensures memory_after { memory.new ≡ (make_in memory.old pins.rows).memory }
 {

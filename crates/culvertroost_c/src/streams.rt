@@ -5,11 +5,11 @@ ghost use Rattle.lent_stream.specs.LentStream.{reset_in, feed_in};
 ghost use Rattle.c_structs.specs.Answers.{refusal_of};
 ghost use Rattle.c_structs.specs.Streams.{stream_info};
 
+use c_structs::RefusalInfo;
 use c_structs::streams::StreamInfo;
-use protocol::Refusal;
 
 #[unsafe(no_mangle)]
-pub extern "C" fn cvr_stream_reset(stream: &mut [u8], assembly: &mut [u8]) -> Refusal
+pub extern "C" fn cvr_stream_reset(stream: &mut [u8], assembly: &mut [u8]) -> RefusalInfo
     ensures value { result ≡ refusal_of (reset_in stream.old assembly.old).verdict }
     ensures stream_after { stream.new ≡ (reset_in stream.old assembly.old).memory }
     ensures assembly_after { assembly.new ≡ (reset_in stream.old assembly.old).assembly }

@@ -1,20 +1,20 @@
 -- How many fragments there are, how long they are together, and that the first and then the others make up all.
 -- Assumes nothing.
-use Rattle.std.proofs.Common.{◌≡◌, ℕ, zero, suc, ◌+◌, ◌-◌, ◌*◌, ◌<◌, ◌≤◌, min, Bool, true, false, ◌||◌, ltb, List, ◌++◌, length, take, drop, sym, refl, ap, ◌∙◌, suc-mul, div-lt_iff_lt-mul, arith, length-append, length-drop, take-append-drop, length-take, ltb-false, le-ltb, lt-ltb}
+use Rattle.std.proofs.Common.{◌≡◌, ℕ, zero, suc, ◌+◌, ◌-◌, ◌*◌, ◌<◌, ◌≤◌, min, Bool, true, false, ◌||◌, ltb, List, ◌++◌, length, take, drop, sym, refl, ap, ◌∙◌, suc-mul, div-lt_iff_lt-mul, arith, length-append, length-drop, take-append-drop, length-take, ltb-false, le-ltb}
 use native.Mathlib.Nat.{lt-div-mul-add}
 use lib.Seq.{sets}
 use Rattle.wire.specs.Output.{over}
 use Rattle.wire.proofs.Laws.{sets_then, sets_over}
-use Rattle.protocol.specs.Refusal.{refusal, output_too_small}
-use Rattle.protocol.specs.Verdict.{fault_if, first_of, with_room}
+use Rattle.protocol.specs.Verdict.{no_fault, fault_if, first_of, judge, with_room}
+use Rattle.protocol.proofs.Verdicts.{fits_kept}
 use Rattle.message.specs.Message.{first_length}
 use Rattle.message.specs.declared.MessageHeader.{MessageHeader}
-use Rattle.cutter.specs.declared.Cutting.TheVariants.{Fragments, Refused}
 use Rattle.message.proofs.Headers.{place_most}
 use Rattle.cutter.specs.Claims.{MostCut}
-use Rattle.cutter.specs.Cut.{first_bytes, later_count, later_fragments, fragments_by, fragments_of, joined, cut_by, cut_after, fitting_of, wrong_size}
+use Rattle.cutter.specs.Cut.{first_bytes, later_count, later_fragments, fragments_by, fragments_of, joined, cut_by, cut_after, fitting_of, wrong_size, message_rules}
 use Rattle.cutter.proofs.Stored.{length_fragment, length_first}
 use Rattle.cutter.proofs.Later.{cut_take, cut_drop}
+use Rattle.std.specs.Prelude.{Ok}
 
 -- ---- sizes and counts
 
@@ -25,6 +25,13 @@ size_right size = go (ltb size 64) refl
     go : (b : Bool) → ltb size 64 ≡ b → (b || ltb 4096 size) ≡ false → (64 ≤ size) × (size ≤ 4096)
     go true h e = let z : ◌≡◌ {A = ℕ} 0 1 = cc in absurd (omega arith)
     go false h e = (ltb-false size 64 h, ltb-false 4096 size e)
+
+-- what a message that keeps its rules has for its cutting
+pub rules_say : (m : MessageHeader) (size n : ℕ) → judge (message_rules m size n) ≡ no_fault → (64 ≤ size) × (size ≤ 4096) × (n ≤ 4096)
+rules_say m size n e =
+    let k = fits_kept (message_rules m size n) e in
+    let z = size_right size k.0 in
+    (z.0, z.1, ltb-false _ _ k.1.1.1.1.0)
 
 -- the later fragments hold what the first leaves, and there are at most 127
 module _ (first each n : ℕ) (wide : 44 ≤ each) (small : n ≤ 4096) where
@@ -127,15 +134,10 @@ rest_length m size information total amount end et ec ee =
     let lb : length (joined (later_fragments m (size - 20) total 1 (total - 1) (drop amount information))) ≡ length b = λ i. length (joined (later_fragments m (size - 20) (et i) 1 (less i) (cut_drop information amount first ec i))) in
     omega (arith, la, lb, length-append a b)
 
--- ---- the two answers about room
+-- ---- the answer where there is room
 
 module _ (m : MessageHeader) (size : ℕ) (information s : List ℕ) where
-  pub too_small : (n : ℕ) → n ≡ length (joined (fragments_of m size information)) → length s < n
-      → fitting_of m size information s ≡ record { answer = Refused (refusal output_too_small n); output = s }
-  unfolding cut_after cut_by with_room fault_if first_of
-  too_small n e h = rw (← e, lt-ltb _ _ h)
-
   pub has_room : (n count : ℕ) → n ≡ length (joined (fragments_of m size information)) → count ≡ length (fragments_of m size information) → n ≤ length s
-      → fitting_of m size information s ≡ record { answer = Fragments count n; output = over (joined (fragments_of m size information)) s }
+      → fitting_of m size information s ≡ record { answer = Ok (record { count = count; length = n }); output = over (joined (fragments_of m size information)) s }
   unfolding cut_after cut_by with_room fault_if first_of
   has_room n count e f h = rw (← e, le-ltb _ _ h, ← f, ← e)

@@ -7,12 +7,14 @@ use Rattle.protocol.specs.Refusal.{unknown, too_long, outside_table, wrong_trans
 use Rattle.protocol.specs.Verdict.{Rule, rule, judge, with_room}
 use Rattle.protocol.specs.MessageType.{INDICATE_STATUS, is_fragmented}
 use Rattle.protocol.specs.Service.{id_bytes}
-use Rattle.protocol.specs.declared.Verdict.{Verdict}
-use Rattle.protocol.specs.declared.Verdict.TheVariants.{Fits, Fault}
 use Rattle.message.specs.Message.{most_information, most_transfer, first_length, wrong_word}
 use Rattle.message.specs.declared.MessageHeader.{MessageHeader}
-use Rattle.cutter.specs.declared.Cutting.{Cutting}
-use Rattle.cutter.specs.declared.Cutting.TheVariants.{Fragments, Refused}
+use Rattle.cutter.specs.declared.Fragments.{Fragments}
+use Rattle.std.specs.Prelude.{Ok, Err}
+use Rattle.protocol.specs.Verdict.{no_fault}
+use Rattle.protocol.specs.Verdict.{Verdict}
+use Rattle.std.specs.Prelude.{Result}
+use Rattle.protocol.specs.declared.Refusal.{Refusal}
 
 -- ---- the bytes of a fragment
 
@@ -89,19 +91,19 @@ message_rules m size n =
 -- ---- what the cutter answers, and what the output s then holds
 
 pub record Cut : Type 0 where
-  pub answer : Cutting
+  pub answer : Result Fragments Refusal
   pub output : List ℕ
 
 unfoldable pub cut_by : Verdict → List (List ℕ) → List ℕ → Cut
-cut_by Fits ps s = record { answer = Fragments (length ps) (length (joined ps)); output = over (joined ps) s }
-cut_by (Fault r) ps s = record { answer = Refused r; output = s }
+cut_by (Ok _) ps s = record { answer = Ok (record { count = (length ps); length = (length (joined ps)) }); output = over (joined ps) s }
+cut_by (Err r) ps s = record { answer = Err r; output = s }
 
 -- by the verdict on the message, then by the room for all its fragments
 unfoldable pub cut_after : Verdict → MessageHeader → ℕ → List ℕ → List ℕ → Cut
 cut_after v m size information s = cut_by (with_room v (joined (fragments_of m size information)) s) (fragments_of m size information) s
 
 abbrev pub fitting_of : MessageHeader → ℕ → List ℕ → List ℕ → Cut
-fitting_of m size information s = cut_after Fits m size information s
+fitting_of m size information s = cut_after no_fault m size information s
 
 unfoldable pub cut_of : MessageHeader → ℕ → List ℕ → List ℕ → Cut
 cut_of m size information s = cut_after (judge (message_rules m size (length information))) m size information s

@@ -7,9 +7,7 @@ use native.Mathlib.Nat.{zero-add, min-eq_right}
 use native.Mathlib.Omega.{arith}
 use borrow.Author.Tests.{ltb-false}
 use lib.ListN.{length}
-use Rattle.protocol.specs.Verdict.{judge_from, fault_if, first_of, open_length}
-use Rattle.protocol.specs.declared.Verdict.{Verdict}
-use Rattle.protocol.specs.declared.Verdict.TheVariants.{Fits, Fault}
+use Rattle.protocol.specs.Verdict.{judge_from, fault_if, first_of, open_length, no_fault, Verdict}
 use Rattle.protocol.proofs.Verdicts.{left_fits, fits_kept}
 use Rattle.folds.specs.Folds.{first_fault}
 use Rattle.folds.proofs.Laws.{fault_same}
@@ -19,13 +17,14 @@ use Rattle.pairs.specs.declared.ZeroSize.TheVariants.{Strict}
 use Rattle.pairs.proofs.Laws.{absent_fits, zero_fits, zero_size_exactly}
 use Rattle.device_services.specs.DeviceServices.{count_of, pair_place, fixed_part, pair_of, length_verdict, content_rules, element_verdict, elements_verdict, part_verdict, verdict_with}
 use Rattle.device_services.specs.Claims.{EmptyPair, ZeroSizeByDefault, ZeroSizeStrict}
+use Rattle.std.specs.Prelude.{Ok, Err}
 
 -- all elements are a part
 from_first : (z : ZeroSize) (s : List ℕ) (fixed count : ℕ) → elements_verdict z s fixed 0 count ≡ first_fault (element_verdict z s fixed) count
 from_first z s fixed count = let e : count - 0 ≡ count = omega arith in rw e (fault_same _ _ count (λ i l. ap (element_verdict z s fixed) (zero-add i)))
 
 -- there are at most 32 elements
-pub few : (n count : ℕ) → length_verdict n count ≡ Fits → count ≤ 32
+pub few : (n count : ℕ) → length_verdict n count ≡ no_fault → count ≤ 32
 unfolding length_verdict
 few n count e = ltb-false 32 count (fits_kept _ (left_fits _ (open_length (fixed_part count) n) e)).1.0
 
@@ -36,8 +35,8 @@ whole_part z s = by_length (length_verdict (length s) (count_of s)) refl
   where
     by_length : (d : Verdict) → length_verdict (length s) (count_of s) ≡ d
         → first_of d (elements_verdict z s (fixed_part (count_of s)) 0 (min 32 (count_of s))) ≡ first_of d (first_fault (element_verdict z s (fixed_part (count_of s))) (count_of s))
-    by_length Fits e = rw (min-eq_right (few (length s) (count_of s) e)) (from_first z s (fixed_part (count_of s)) (count_of s))
-    by_length (Fault r) e = refl
+    by_length (Ok _) e = rw (min-eq_right (few (length s) (count_of s) e)) (from_first z s (fixed_part (count_of s)) (count_of s))
+    by_length (Err r) e = refl
 
 -- a pair (0, 0) has no element: 8 at its offset field
 pub empty_pair : EmptyPair

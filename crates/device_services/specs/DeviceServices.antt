@@ -1,12 +1,10 @@
 -- The DEVICE_SERVICES payload (document 01, "Device services"; document 02, order 10; MBIM 1.0, MBIM_DEVICE_SERVICES_INFO and MBIM_DEVICE_SERVICE_ELEMENT).
 -- In this order: the fields and their places; the rules, in the order in which they are judged; what a reader answers.
-use Rattle.std.specs.Prelude.{ℕ, ◌+◌, ◌*◌, ◌-◌, min, false, cond, List, [], ◌∷◌, ltb, length}
+use Rattle.std.specs.Prelude.{ℕ, ◌+◌, ◌*◌, ◌-◌, min, false, cond, List, [], ◌∷◌, ltb, length, Ok, Err, true, Bool, Result}
 use Rattle.wire.specs.Numbers.{u32_at}
 use Rattle.protocol.specs.Refusal.{too_short, wrong_count}
 use Rattle.protocol.specs.Service.{id_at}
-use Rattle.protocol.specs.Verdict.{Rule, rule, judge, first_of, open_length}
-use Rattle.protocol.specs.declared.Verdict.{Verdict}
-use Rattle.protocol.specs.declared.Verdict.TheVariants.{Fits, Fault}
+use Rattle.protocol.specs.Verdict.{Rule, rule, judge, first_of, open_length, Verdict}
 use Rattle.folds.specs.Folds.{first_fault, list_of}
 use Rattle.pairs.specs.Pair.{by_default, range_at, verdict_of as pair_verdict}
 use Rattle.lists.specs.Lists.{list_rules}
@@ -16,10 +14,13 @@ use Rattle.pairs.specs.declared.PairKind.TheVariants.{List as ListKind}
 use Rattle.pairs.specs.declared.ZeroSize.{ZeroSize}
 use Rattle.device_services.specs.declared.DeviceServices.{DeviceServices}
 use Rattle.device_services.specs.declared.DeviceService.{DeviceService}
-use Rattle.device_services.specs.declared.ElementJudged.{ElementJudged}
-use Rattle.device_services.specs.declared.ElementJudged.TheVariants as element
-use Rattle.device_services.specs.declared.DeviceServicesRead.{DeviceServicesRead}
-use Rattle.device_services.specs.declared.DeviceServicesRead.TheVariants.{Info, Refused}
+use Rattle.protocol.specs.declared.Refusal.{Refusal}
+
+abbrev pub DeviceServicesRead : Type 0
+DeviceServicesRead = Result DeviceServices Refusal
+
+abbrev pub ElementJudged : Type 0
+ElementJudged = Result Bool Refusal
 
 -- ---- fields and places
 
@@ -63,7 +64,7 @@ cid_at s at k = u32_at s (at + 28 + 4 * k)
 unfoldable pub cids_at : List ℕ → ℕ → List ℕ
 cids_at s at = list_of (cid_at s at) (cid_count_at s at)
 
--- ---- rules: broken, number, place; the first broken one decides
+-- ---- rules: broken, reason, place; the first broken one decides
 
 -- a payload of n bytes: "under 8 bytes, 1; count, 15; pairs missing, 1; then 5"
 unfoldable pub length_verdict : ℕ → ℕ → Verdict
@@ -88,14 +89,14 @@ abbrev pub elements_verdict : ZeroSize → List ℕ → ℕ → ℕ → ℕ → 
 elements_verdict z s fixed first end = first_fault (λ i. element_verdict z s fixed (first + i)) (end - first)
 
 abbrev pub judged_as : Verdict → ElementJudged → ElementJudged
-judged_as Fits x = x
-judged_as (Fault r) x = element.Refused r
+judged_as (Ok _) x = x
+judged_as (Err r) x = Err r
 
 -- element i by itself: the length and the count, then whether the list has it, then its pair and the element
 unfoldable pub element_judged_with : ZeroSize → List ℕ → ℕ → ElementJudged
 element_judged_with z s i =
     judged_as (length_verdict (length s) (count_of s))
-    (cond (ltb i (count_of s)) (judged_as (element_verdict z s (fixed_part (count_of s)) i) element.Fits) element.NotListed)
+    (cond (ltb i (count_of s)) (judged_as (element_verdict z s (fixed_part (count_of s)) i) (Ok true)) (Ok false))
 
 abbrev pub element_judged : List ℕ → ℕ → ElementJudged
 element_judged s i = element_judged_with by_default s i
@@ -115,8 +116,8 @@ verdict_of s = verdict_with by_default s
 -- ---- what a reader answers
 
 abbrev pub shown : Verdict → DeviceServices → DeviceServicesRead
-shown Fits p = Info p
-shown (Fault r) p = Refused r
+shown (Ok _) p = Ok p
+shown (Err r) p = Err r
 
 unfoldable pub read_with : ZeroSize → List ℕ → DeviceServicesRead
 read_with z s = shown (verdict_with z s) (head_at s)

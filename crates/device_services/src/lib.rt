@@ -8,7 +8,7 @@ ghost use Rattle.device_services.specs.DeviceServices.{count_of, head_at, pair_p
 use lists::{ListForm, judge_lists};
 use pairs::ZeroSize;
 use protocol::service::{ServiceId, id_at};
-use protocol::{Refusal, TOO_SHORT, Verdict, WRONG_COUNT, judge_open_length};
+use protocol::{Reason, Refusal, Verdict, judge_open_length, refuse_if};
 use wire::u32_at;
 
 // What stands before the pairs.
@@ -29,20 +29,6 @@ pub struct DeviceService {
     pub cid_count: u32,
 }
 
-#[derive(Clone, Copy)]
-pub enum DeviceServicesRead {
-    Info(DeviceServices),
-    Refused(Refusal),
-}
-
-// What is said of an element by its number: not listed, where the list has none of that number.
-#[derive(Clone, Copy)]
-pub enum ElementJudged {
-    Fits,
-    NotListed,
-    Refused(Refusal),
-}
-
 // The most elements of a list, and the most CIDs of an element.
 pub const MOST_SERVICES: u32 = 32;
 
@@ -52,6 +38,9 @@ pub const MOST_CIDS: u32 = 128;
 pub const ELEMENT_FIXED_PART: u32 = 28;
 
 pub const ELEMENT_LIMIT: u32 = 540;
+
+// An element without CIDs as 32-bit numbers: the four of its id, its two numbers and its count of CIDs.
+pub const FIELD_WORDS: usize = 7;
 
 // The fixed part of a list without elements; the pairs follow it.
 const PAIRS: u32 = 8;
@@ -81,21 +70,19 @@ const ELEMENT: ListForm = ListForm {
     optional: false,
 };
 
-pub fn read(payload: &[u8]) -> DeviceServicesRead
+pub fn read(payload: &[u8]) -> Result<DeviceServices, Refusal>
     ensures { result ≡ read_of payload.now }
 {
     read_with(ZeroSize::Absent, payload)
 }
 
 // `.._with`: by the caller's choice.
-pub fn read_with(zero_size: ZeroSize, payload: &[u8]) -> DeviceServicesRead
+#[tactic(auto, unfolding(crate::specs::DeviceServices::read_with))]
+pub fn read_with(zero_size: ZeroSize, payload: &[u8]) -> Result<DeviceServices, Refusal>
     ensures { result ≡ read_with zero_size payload.now }
 {
-    let info = head_at(payload);
-    match judge_list_with(zero_size, payload) {
-        Verdict::Fits => DeviceServicesRead::Info(info),
-        Verdict::Fault(refusal) => DeviceServicesRead::Refused(refusal),
-    }
+    judge_list_with(zero_size, payload)?;
+    Ok(head_at(payload))
 }
 
 // The verdict on the whole payload.
@@ -105,6 +92,7 @@ pub fn judge_list(payload: &[u8]) -> Verdict
     judge_list_with(ZeroSize::Absent, payload)
 }
 
+#[tactic(auto, using(crate::proofs::Laws::whole_part))]
 pub fn judge_list_with(zero_size: ZeroSize, payload: &[u8]) -> Verdict
     ensures { result ≡ verdict_with zero_size payload.now }
 {
@@ -113,64 +101,60 @@ pub fn judge_list_with(zero_size: ZeroSize, payload: &[u8]) -> Verdict
 
 // The length and the count, then of the list's elements those with the numbers from `first` to below
 // `end`, each with its pair, up to the first fault, whatever the others are.
+#[tactic(auto, using(crate::proofs::Laws::few), unfolding(protocol::specs::Verdict::first_of, crate::specs::DeviceServices::element_verdict, crate::specs::DeviceServices::content_rules))]
 pub fn judge_part(zero_size: ZeroSize, payload: &[u8], first: u32, end: u32) -> Verdict
     ensures { result ≡ part_verdict zero_size payload.now first end }
 {
-    match judge_length(payload) {
-        Verdict::Fits => {
-            let count = judged_count(payload);
-            let fixed = listed_place(count);
-            let last = least(end, count);
-            judge_lists(zero_size, payload, fixed, PAIRS, first, last, ELEMENT)
-        }
-        Verdict::Fault(refusal) => Verdict::Fault(refusal),
-    }
+    judge_length(payload)?;
+    let count = judged_count(payload);
+    let fixed = pair_place(count) as u32;
+    judge_lists(
+        zero_size,
+        payload,
+        fixed,
+        PAIRS,
+        first,
+        end.min(count),
+        ELEMENT,
+    )
 }
 
 // The verdict on the payload's length and count, before any pair.
+#[tactic(auto, unfolding(crate::specs::DeviceServices::length_verdict, protocol::specs::Verdict::judge_from, protocol::specs::Verdict::first_of, protocol::specs::Verdict::fault_if))]
 pub fn judge_length(payload: &[u8]) -> Verdict
     ensures { result ≡ length_verdict (length payload.now) (count_of payload.now) }
 {
     let n = payload.len();
-    if n < PAIRS as usize {
-        return Verdict::Fault(Refusal {
-            number: TOO_SHORT,
-            place: n,
-        });
-    }
-    let count = u32_at(payload, DEVICE_SERVICES_COUNT);
-    if MOST_SERVICES < count {
-        return Verdict::Fault(Refusal {
-            number: WRONG_COUNT,
-            place: DEVICE_SERVICES_COUNT,
-        });
-    }
+    let count = judged_count(payload);
+    refuse_if(n < PAIRS as usize, Reason::TooShort, n)?;
+    refuse_if(
+        MOST_SERVICES < count,
+        Reason::WrongCount,
+        DEVICE_SERVICES_COUNT,
+    )?;
     judge_open_length(pair_place(count), n)
 }
 
 // The length and the count, then one pair and its element, whatever the others are.
-pub fn judge_element(payload: &[u8], number: u32) -> ElementJudged
+pub fn judge_element(payload: &[u8], number: u32) -> Result<bool, Refusal>
     ensures { result ≡ element_judged payload.now number }
 {
     judge_element_with(ZeroSize::Absent, payload, number)
 }
 
-pub fn judge_element_with(zero_size: ZeroSize, payload: &[u8], number: u32) -> ElementJudged
+#[tactic(auto, using(crate::proofs::Laws::few), unfolding(crate::specs::DeviceServices::element_judged_with, crate::specs::DeviceServices::element_verdict, crate::specs::DeviceServices::content_rules))]
+pub fn judge_element_with(zero_size: ZeroSize, payload: &[u8], number: u32) -> Result<bool, Refusal>
     ensures { result ≡ element_judged_with zero_size payload.now number }
 {
-    if let Verdict::Fault(refusal) = judge_length(payload) {
-        return ElementJudged::Refused(refusal);
-    }
+    judge_length(payload)?;
     let count = judged_count(payload);
     if count <= number {
-        return ElementJudged::NotListed;
+        return Ok(false);
     }
-    let fixed = listed_place(count);
-    let place = listed_place(number);
-    match lists::judge_list(zero_size, payload, fixed, place, ELEMENT) {
-        Verdict::Fits => ElementJudged::Fits,
-        Verdict::Fault(refusal) => ElementJudged::Refused(refusal),
-    }
+    let fixed = pair_place(count) as u32;
+    let place = pair_place(number) as u32;
+    lists::judge_list(zero_size, payload, fixed, place, ELEMENT)?;
+    Ok(true)
 }
 
 // `judged_..`: what a list shows that was judged before. Nothing is judged here.
@@ -184,7 +168,7 @@ pub fn judged_count(payload: &[u8]) -> u32
 pub fn bounded_count(payload: &[u8]) -> u32
     ensures { result ≡ min (count_of payload.now) 32 }
 {
-    least(judged_count(payload), MOST_SERVICES)
+    judged_count(payload).min(MOST_SERVICES)
 }
 
 // Where an element of the list starts.
@@ -195,6 +179,7 @@ pub fn judged_offset(payload: &[u8], number: u32) -> u32
 }
 
 // The fields of the element that starts at an offset.
+#[tactic(auto, unfolding(crate::specs::DeviceServices::element_at))]
 pub fn judged_element(payload: &[u8], offset: u32) -> DeviceService
     ensures { result ≡ element_at payload.now offset }
 {
@@ -230,6 +215,7 @@ pub fn pair_place(number: u32) -> usize
 }
 
 // What stands before the pairs.
+#[tactic(auto, unfolding(crate::specs::DeviceServices::head_at))]
 fn head_at(payload: &[u8]) -> DeviceServices
     ensures { result ≡ head_at payload.now }
 {
@@ -237,21 +223,4 @@ fn head_at(payload: &[u8]) -> DeviceServices
         device_services_count: u32_at(payload, DEVICE_SERVICES_COUNT),
         max_dss_sessions: u32_at(payload, MAX_DSS_SESSIONS),
     }
-}
-
-fn least(a: u32, b: u32) -> u32
-    ensures { result ≡ min a b }
-{
-    if a < b {
-        return a;
-    }
-    b
-}
-
-// `pair_place` of a number that a list can have; of the count, where its fixed part ends.
-fn listed_place(number: u32) -> u32
-    requires { number ≤ 32 }
-    ensures { result ≡ pair_place number }
-{
-    PAIRS + PAIR_SIZE * number
 }

@@ -17,15 +17,14 @@ use Rattle.pairs.specs.declared.ZeroSize.{ZeroSize}
 use Rattle.signal_state.specs.SignalState.{entry_in, read_with as signal_read}
 use Rattle.signal_state.specs.declared.RsrpSnr.{RsrpSnr}
 use Rattle.signal_state.specs.declared.SignalState.{SignalState}
-use Rattle.signal_state.specs.declared.SignalStateRead.{SignalStateRead}
-use Rattle.signal_state.specs.declared.SignalStateRead.TheVariants.{Info as SignalInfo, Refused as SignalRefused}
 use Rattle.device_services.specs.DeviceServices.{offset_of, cid_count_at, element_at, cid_at, read_with as services_read}
-use Rattle.device_services.specs.declared.DeviceServicesRead.{DeviceServicesRead}
-use Rattle.device_services.specs.declared.DeviceServicesRead.TheVariants.{Info as ServicesInfo, Refused as ServicesRefused}
 use Rattle.entry_rows.specs.Signals.{count_of, number_rows, entry_rows, entries_rows, answer_text, signal_text}
 use Rattle.entry_rows.specs.Services.{id_row, cid_row, cid_rows, element_rows, elements_rows, services_text}
 use Rattle.entry_rows.proofs.Signals.{few_entries}
 use Rattle.entry_rows.proofs.Services.{few_cids}
+use Rattle.std.specs.Prelude.{Ok, Err}
+use Rattle.device_services.specs.DeviceServices.{DeviceServicesRead}
+use Rattle.signal_state.specs.SignalState.{SignalStateRead}
 
 -- ---- signal state
 
@@ -48,8 +47,8 @@ unfolding answer_text header
 signal_le v z s = go (signal_read v z s).answer refl
   where
     go : (r : SignalStateRead) → (signal_read v z s).answer ≡ r → length (answer_text r (signal_read v z s).entries) ≤ 10000
-    go (SignalRefused r) e = omega (arith, refused_le r)
-    go (SignalInfo p) e = simp length-append (omega (arith, numbers_le p, entries_le (signal_read v z s).entries (count_of p.form), few_entries v z s e))
+    go (Err r) e = omega (arith, refused_le r)
+    go (Ok p) e = simp length-append (omega (arith, numbers_le p, entries_le (signal_read v z s).entries (count_of p.form), few_entries v z s e))
 
 -- ---- device services
 
@@ -75,8 +74,8 @@ unfolding services_text header elements_rows
 services_le z s = go (services_read z s) refl
   where
     go : (r : DeviceServicesRead) → services_read z s ≡ r → length (services_text s r) ≤ 524288
-    go (ServicesRefused r) e = omega (arith, refused_le r)
-    go (ServicesInfo p) e =
+    go (Err r) e = omega (arith, refused_le r)
+    go (Ok p) e =
         let k = few_cids z s e in
         let n = p.device_services_count in
         simp length-append

@@ -5,9 +5,9 @@ use Rattle.folds.specs.Folds.{joined}
 use Rattle.protocol.specs.Service.{id_bytes}
 use Rattle.protocol.specs.declared.service.ServiceId.{ServiceId}
 use Rattle.device_services.specs.DeviceServices.{offset_of, cid_count_at, element_at, cid_at}
-use Rattle.device_services.specs.declared.DeviceServicesRead.{DeviceServicesRead}
-use Rattle.device_services.specs.declared.DeviceServicesRead.TheVariants.{Info, Refused}
 use Rattle.rows.specs.Rows.{header, field, row, indexed_row, refused_line}
+use Rattle.std.specs.Prelude.{Ok, Err}
+use Rattle.device_services.specs.DeviceServices.{DeviceServicesRead}
 
 -- "32 hex digits, printed order"
 unfoldable pub id_row : ℕ → ServiceId → List ℕ
@@ -33,8 +33,8 @@ unfoldable pub elements_rows : List ℕ → ℕ → List ℕ
 elements_rows s n = joined (λ i. element_rows s (offset_of s i) i) n
 
 unfoldable pub services_text : List ℕ → DeviceServicesRead → List ℕ
-services_text s (Refused r) = refused_line r
-services_text s (Info p) =
+services_text s (Err r) = refused_line r
+services_text s (Ok p) =
     header
     ++ (row (ascii "DeviceServicesCount") p.device_services_count
     ++ (row (ascii "MaxDssSessions") p.max_dss_sessions ++ elements_rows s p.device_services_count))

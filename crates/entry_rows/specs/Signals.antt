@@ -7,10 +7,10 @@ use Rattle.signal_state.specs.declared.RsrpSnr.{RsrpSnr}
 use Rattle.signal_state.specs.declared.SignalForm.{SignalForm}
 use Rattle.signal_state.specs.declared.SignalForm.TheVariants.{V1 as Form1, V2 as Form2}
 use Rattle.signal_state.specs.declared.SignalState.{SignalState}
-use Rattle.signal_state.specs.declared.SignalStateRead.{SignalStateRead}
-use Rattle.signal_state.specs.declared.SignalStateRead.TheVariants.{Info, Refused}
 use Rattle.signal_state.specs.declared.SignalStateShown.{SignalStateShown}
 use Rattle.rows.specs.Rows.{header, row, indexed_row, refused_line}
+use Rattle.std.specs.Prelude.{Ok, Err}
+use Rattle.signal_state.specs.SignalState.{SignalStateRead}
 
 unfoldable pub number_rows : SignalState → List ℕ
 number_rows p =
@@ -36,8 +36,8 @@ count_of Form1 = 0
 count_of (Form2 count) = count
 
 unfoldable pub answer_text : SignalStateRead → List RsrpSnr → List ℕ
-answer_text (Refused r) es = refused_line r
-answer_text (Info p) es = header ++ (number_rows p ++ entries_rows es (count_of p.form))
+answer_text (Err r) es = refused_line r
+answer_text (Ok p) es = header ++ (number_rows p ++ entries_rows es (count_of p.form))
 
 abbrev pub signal_text : SignalStateShown → List ℕ
 signal_text x = answer_text x.answer x.entries

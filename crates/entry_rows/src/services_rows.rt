@@ -6,17 +6,18 @@ ghost use Rattle.device_services.specs.DeviceServices.{read_with};
 ghost use Rattle.rows.specs.Rows.{Put};
 ghost use Rattle.entry_rows.specs.Services.{id_row, cid_row, cid_rows, element_rows, elements_rows, services_text};
 
-use device_services::{DeviceServicesRead, judged_cid, judged_element, judged_offset};
+use device_services::{DeviceServices, judged_cid, judged_element, judged_offset};
 use pairs::ZeroSize;
 use protocol::service::{ServiceId, put_id};
 use rows::{put_digits, put_field, put_indexed_row, put_number, put_refused, put_row, put_text};
 
+#[tactic(auto, unfolding(crate::specs::Services::services_text))]
 pub fn put(payload: &[u8], out: &mut [u8], at: usize) -> usize
     ensures { Put out.old at (services_text payload.now (read_with Strict payload.now)) out.new result }
 {
     match device_services::read_with(ZeroSize::Strict, payload) {
-        DeviceServicesRead::Refused(refusal) => put_refused(out, at, refusal),
-        DeviceServicesRead::Info(head) => {
+        Err(refusal) => put_refused(out, at, refusal),
+        Ok(head) => {
             let count = put_text(out, at, b"field\tvalue\n");
             let sessions = put_row(
                 out,
@@ -39,10 +40,8 @@ fn put_elements(payload: &[u8], count: u32, out: &mut [u8], at: usize) -> usize
     ensures { Put out.old at (elements_rows payload.now count) out.new result }
 {
     let mut next = at;
-    let mut i: u32 = 0;
-    while i < count {
+    for i in 0..count {
         next = put_element(payload, judged_offset(payload, i), i, out, next);
-        i += 1;
     }
     next
 }
@@ -77,10 +76,8 @@ fn put_cids(payload: &[u8], offset: u32, count: u32, i: usize, out: &mut [u8], a
     ensures { Put out.old at (cid_rows payload.now offset i count) out.new result }
 {
     let mut next = at;
-    let mut j: u32 = 0;
-    while j < count {
+    for j in 0..count {
         next = put_cid(out, next, i, j as usize, judged_cid(payload, offset, j));
-        j += 1;
     }
     next
 }
@@ -110,6 +107,7 @@ fn put_id_row(out: &mut [u8], at: usize, i: usize, id: ServiceId) -> usize
     put_text(out, end, b"\n")
 }
 
+#[tactic(auto, unfolding(protocol::specs::Service::id_bytes))]
 fn id_bytes(id: ServiceId) -> [u8; 16]
     ensures { result ≡ id_bytes id }
 {

@@ -1,5 +1,5 @@
 // The rows of a SIGNAL_STATE payload, read strictly.
-ghost use Rattle.std.specs.Prelude.{◌≡◌, ◌+◌, ◌≤◌};
+ghost use Rattle.std.specs.Prelude.{◌≡◌, ◌+◌, length};
 ghost use Rattle.pairs.specs.declared.ZeroSize.TheVariants.{Strict};
 ghost use Rattle.signal_state.specs.SignalState.{read_with};
 ghost use Rattle.rows.specs.Rows.{Put};
@@ -8,20 +8,19 @@ ghost use Rattle.entry_rows.specs.Signals.{count_of, number_rows, entry_rows, en
 use pairs::ZeroSize;
 use protocol::Version;
 use rows::{put_indexed_row, put_refused, put_row, put_text};
-use signal_state::{RsrpSnr, SignalForm, SignalState, SignalStateRead};
+use signal_state::{RsrpSnr, SignalForm, SignalState};
 
+#[tactic(auto, using(crate::proofs::Signals::few_entries), unfolding(crate::specs::Signals::answer_text))]
 pub fn put(version: Version, payload: &[u8], out: &mut [u8], at: usize) -> usize
     ensures { Put out.old at (signal_text (read_with version Strict payload.now)) out.new result }
 {
     let shown = signal_state::read_with(version, ZeroSize::Strict, payload);
-    let answer = shown.answer;
-    let entries = shown.entries;
-    match answer {
-        SignalStateRead::Refused(refusal) => put_refused(out, at, refusal),
-        SignalStateRead::Info(state) => {
+    match shown.answer {
+        Err(refusal) => put_refused(out, at, refusal),
+        Ok(state) => {
             let rssi = put_text(out, at, b"field\tvalue\n");
             let list = put_numbers(state, out, rssi);
-            put_entries(out, list, count_of(state), entries)
+            put_entries(out, list, &shown.entries[..count_of(state) as usize])
         }
     }
 }
@@ -50,24 +49,18 @@ fn put_numbers(state: SignalState, out: &mut [u8], at: usize) -> usize
 fn count_of(state: SignalState) -> u32
     ensures { result ≡ count_of state.form }
 {
-    let form = state.form;
-    match form {
+    match state.form {
         SignalForm::V1 => 0,
         SignalForm::V2 { count } => count,
     }
 }
 
-fn put_entries(out: &mut [u8], at: usize, count: u32, entries: [RsrpSnr; 16]) -> usize
-    requires { count ≤ 16 }
-    ensures { Put out.old at (entries_rows entries count) out.new result }
+fn put_entries(out: &mut [u8], at: usize, entries: &[RsrpSnr]) -> usize
+    ensures { Put out.old at (entries_rows entries.now (length entries.now)) out.new result }
 {
-    let n = count as usize;
     let mut next = at;
-    let mut i: usize = 0;
-    while i < n {
-        let entry = entries[i];
-        next = put_entry(out, next, i, entry);
-        i += 1;
+    for i in 0..entries.len() {
+        next = put_entry(out, next, i, entries[i]);
     }
     next
 }

@@ -2,10 +2,9 @@
 -- Assumes nothing.
 use mathlib.Core.Path.{◌≡◌, refl, sym, ap, ◌∙◌}
 use mathlib.Core.List.{List}
-use Prim.Native.Nat.{ℕ, suc, ◌+◌, ◌-◌, ◌≤◌, ◌<◌, min}
+use Prim.Native.Nat.{ℕ, suc, ◌+◌, ◌-◌, ◌<◌, min}
 use native.Mathlib.Omega.{arith}
-use lib.ListN.{length, take, drop, length-drop}
-use lib.Seq.{drop-drop}
+use lib.ListN.{length, take, drop}
 use Rattle.wire.specs.Output.{over}
 use Rattle.assembler.specs.Assembly.{assembly_of, in_place, step_of}
 use Rattle.assembler.specs.declared.FedInPlace.{FedInPlace}
@@ -22,39 +21,19 @@ next : (c : Collected) (size count k : ℕ) (s : List ℕ) → k < count
 unfolding collected parts
 next c size count k s h = let e : count - k ≡ suc (count - (k + 1)) = omega arith in rw e refl
 
-module _ (start : Collected) (stream : List ℕ) (size count : ℕ) where
-  -- k parts are fed, and those from `at` on are still to come
-  pub record Going (f : FedInPlace) (bytes out : List ℕ) (at k : ℕ) : Type 0 where
-    pub rest : collected (now f bytes out) (parts (count - k) size (drop at stream)) ≡ collected start (parts count size stream)
-    pub most : k ≤ count
-    pub within : at ≤ length stream
-    pub same : length out ≡ length start.output
+-- one more part is fed: the first n bytes of what is left, x
+pub turn : {f' : FedInPlace} {bytes' out' p y : List ℕ} (f : FedInPlace) (bytes out x : List ℕ) (size count k n : ℕ) → k < count → n ≡ min (length x) size
+    → p ≡ take n x → y ≡ drop n x
+    → f' ≡ in_place (step_of (assembly_of f.progress bytes) p (length out))
+    → bytes' ≡ (step_of (assembly_of f.progress bytes) p (length out)).assembly.bytes
+    → out' ≡ over (step_of (assembly_of f.progress bytes) p (length out)).information out
+    → collected (now f' bytes' out') (parts (count - (k + 1)) size y) ≡ collected (now f bytes out) (parts (count - k) size x)
+turn {f'} {bytes'} {out'} {p} {y} f bytes out x size count k n less en ep ey ef eb eo =
+    let here : now f' bytes' out' ≡ after (now f bytes out) p =
+    (λ i. record { assembly = record { progress = (ef i).progress; bytes = eb i }; answer = (ef i).answer; output = eo i }) in
+    (λ i. collected ((here ∙ ap (after (now f bytes out)) (ep ∙ cut_take x n size en)) i) (parts (count - (k + 1)) size ((ey ∙ cut_drop x n size en) i)))
+    ∙ sym (next (now f bytes out) size count k x less)
 
-  pub turn : {f f' : FedInPlace} {bytes bytes' out out' : List ℕ} {at k end : ℕ} → Going f bytes out at k → k < count → end ≡ at + min (length stream - at) size
-      → f' ≡ in_place (step_of (assembly_of f.progress bytes) (take (end - at) (drop at stream)) (length out))
-      → bytes' ≡ (step_of (assembly_of f.progress bytes) (take (end - at) (drop at stream)) (length out)).assembly.bytes
-      → out' ≡ over (step_of (assembly_of f.progress bytes) (take (end - at) (drop at stream)) (length out)).information out
-      → length out' ≡ length out → Going f' bytes' out' end (k + 1)
-  turn {f} {f'} {bytes} {bytes'} {out} {out'} {at} {k} {end} g less ee ef eb eo el =
-      let xs = drop at stream in
-      let n : end - at ≡ min (length xs) size = rw length-drop (omega (arith, ee, g.within)) in
-      let p : take (end - at) xs ≡ take size xs = cut_take xs (end - at) size n in
-      let place : at + (end - at) ≡ end = omega (arith, ee) in
-      let d : drop end stream ≡ drop size xs = ap (λ (j : ℕ). drop j stream) (sym place) ∙ sym (drop-drop (end - at) at stream) ∙ cut_drop xs (end - at) size n in
-      let here : now f' bytes' out' ≡ after (now f bytes out) (take (end - at) xs) =
-      (λ i. record { assembly = record { progress = (ef i).progress; bytes = eb i }; answer = (ef i).answer; output = eo i }) in
-      record {
-        rest = (λ i. collected ((here ∙ ap (after (now f bytes out)) p) i) (parts (count - (k + 1)) size (d i))) ∙ sym (next (now f bytes out) size count k xs less) ∙ g.rest;
-        most = omega arith;
-        within = omega (arith, ee, g.within);
-        same = el ∙ g.same;
-      }
-
-  pub finish : {f : FedInPlace} {bytes out : List ℕ} {at k : ℕ} → Going f bytes out at k → count ≤ k → now f bytes out ≡ collected start (parts count size stream)
-  unfolding collected parts
-  finish {k = k} g past = let e : count - k ≡ 0 = omega (arith, g.most) in rw e at g.rest
-
-pub begin : (f : FedInPlace) (bytes out stream : List ℕ) (size count : ℕ) → Going (now f bytes out) stream size count f bytes out 0 0
-begin f bytes out stream size count =
-    let e : count - 0 ≡ count = omega arith in
-    record { rest = ap (λ (k : ℕ). collected (now f bytes out) (parts k size stream)) e; most = omega arith; within = omega arith; same = refl }
+pub finish : (c : Collected) (size left : ℕ) (x : List ℕ) → left ≡ 0 → c ≡ collected c (parts left size x)
+unfolding collected parts
+finish c size left x e = rw e

@@ -22,6 +22,7 @@ use Rattle.message.specs.declared.MessageHeader.{MessageHeader}
 use mathlib.Core.Bool.{Bool, false}
 use Rattle.exchange.proofs.Runs.{all_run}
 use Rattle.exchange.proofs.Sent.{sent, sent_parts}
+use Rattle.std.specs.Prelude.{Ok}
 
 -- a run is made of its parts
 pub run_append : (a : Assembly) (ps qs : List Piece) → run_of a (ps ++ qs) ≡ then_run (run_of a ps) (run_of (run_of a ps).end qs)
@@ -57,7 +58,7 @@ pub passed : Passed
 passed m size information stream count n C earlier out =
     let a = (run_of empty earlier).end in
     ap (collected (before a.progress a.bytes out)) (sent_parts m size information stream count n (sent m size information stream count n C.accepted))
-    ∙ collected_run m information (length out) (fragments_of m size information) (count - 1) 0 (is_pending a.progress) a (Pending false) out refl
+    ∙ collected_run m information (length out) (fragments_of m size information) (count - 1) 0 (is_pending a.progress) a (Ok (Pending false)) out refl
     (fragments_received m size information stream count n C (λ _. length out) earlier)
 
 -- from the empty assembly nothing is dropped

@@ -10,8 +10,6 @@ use lib.ListN.{length, drop, length-replicate}
 use Rattle.wire.specs.Numbers.{u32_at}
 use Rattle.protocol.specs.Verdict.{judge}
 use Rattle.protocol.specs.declared.Refusal.{Refusal}
-use Rattle.protocol.specs.declared.Verdict.{Verdict}
-use Rattle.protocol.specs.declared.Verdict.TheVariants.{Fits, Fault}
 use Rattle.protocol.proofs.Verdicts.{fits_kept}
 use Rattle.message.specs.Message.{header_at, header_rules, header_by, header_of, first_length, message_at, fragment_by, fragment_of}
 use Rattle.message.specs.declared.FragmentHeader.{FragmentHeader}
@@ -27,15 +25,19 @@ use Rattle.assembler.proofs.Laws.{Gathers, Continues, continues_says, brings}
 use Rattle.assembler.proofs.View.{GatherView, gather_view}
 use Rattle.assembler.proofs.Clean.{begun_zeros}
 use Rattle.exchange.specs.Damage.{FragmentOf, carried}
+use Rattle.std.specs.Prelude.{Ok, Err}
+use Rattle.protocol.specs.Verdict.{no_fault}
+use Rattle.protocol.specs.Verdict.{Verdict}
+use Rattle.std.specs.Prelude.{Result}
 
 -- a piece that is judged as a fragment has a header that breaks no rule
-header_fits : (s : List ℕ) (f : Fragment) → fragment_of s ≡ f → ((r : Refusal) → f ≡ fragment.Refused r → ⊥) → judge (header_rules s) ≡ Fits
+header_fits : (s : List ℕ) (f : (Result Fragment Refusal)) → fragment_of s ≡ f → ((r : Refusal) → f ≡ Err r → ⊥) → judge (header_rules s) ≡ no_fault
 unfolding fragment_of fragment_by header_of header_by
 header_fits s f = go (judge (header_rules s)) refl
   where
-    go : (v : Verdict) → judge (header_rules s) ≡ v → fragment_by s (header_by v s) ≡ f → ((r : Refusal) → f ≡ fragment.Refused r → ⊥) → judge (header_rules s) ≡ Fits
-    go Fits j e n = j
-    go (Fault r) j e n = absurd (n r (sym e))
+    go : (v : Verdict) → judge (header_rules s) ≡ v → fragment_by s (header_by v s) ≡ f → ((r : Refusal) → f ≡ Err r → ⊥) → judge (header_rules s) ≡ no_fault
+    go (Ok _) j e n = j
+    go (Err r) j e n = absurd (n r (sym e))
 
 -- what a fragment carries, by its number
 carried_first : (s : List ℕ) (h : FragmentHeader) → header_at s ≡ h → h.number ≡ 0 → carried s ≡ drop (first_length h.message_type) s
@@ -83,13 +85,13 @@ pub feed_view : (a : Assembly) → Clean a → (s : List ℕ) (room : ℕ) → F
 unfolding step_of step_by judged_of judged_by join_of begun_bytes
 feed_view a C s room = go (fragment_view s) refl
   where
-    joining : (h : FragmentHeader) → Accepted s h → (h.number ≡ 0 → ⊥) → fragment_of s ≡ fragment.Later h → (v : Verdict) → judge (join_rules a.progress h (length s)) ≡ v
+    joining : (h : FragmentHeader) → Accepted s h → (h.number ≡ 0 → ⊥) → fragment_of s ≡ Ok (fragment.Later h) → (v : Verdict) → judge (join_rules a.progress h (length s)) ≡ v
         → FeedView a s (step_by a.bytes s room (join_of v a.progress))
-    joining h A z e (Fault r) j = bad r refl
-    joining h A z e Fits j =
+    joining h A z e (Err r) j = bad r refl
+    joining h A z e (Ok _) j =
         let c = continues_says a.progress h (not-false (continues a.progress h) (fits_kept (join_rules a.progress h (length s)) j).0) in
         let b = carried_later s h A.is z in
-        let g = brings a.progress a.progress s 20 false (rw (e, j) refl) in
+        let g = brings a.progress s (record { progress = a.progress; from = 20; dropped = false }) (rw (e, j) refl) in
         joins (omega (arith, c.number, z))
         (record {
           fragment = record { accepted = header_fits s _ e (λ r q. let w : ◌≡◌ {A = ℕ} 0 1 = cc in absurd (omega arith)); says = A.is ∙ joined_header a.progress h c };
@@ -97,11 +99,11 @@ feed_view a C s room = go (fragment_view s) refl
         })
         (rw b (gather_view a (drop 20 s) false room))
 
-    go : {f : Fragment} → FragmentView s f → fragment_of s ≡ f → FeedView a s (step_of a s room)
+    go : {f : (Result Fragment Refusal)} → FragmentView s f → fragment_of s ≡ f → FeedView a s (step_of a s room)
     go (no_fragment r) e = rw e (bad r refl)
     go (opens h f A z O) e =
         let b = carried_first s h A.is z in
-        let g = brings a.progress (begun_progress h f) s (first_length h.message_type) (is_pending a.progress) (rw e refl) in
+        let g = brings a.progress s (record { progress = begun_progress h f; from = first_length h.message_type; dropped = is_pending a.progress }) (rw e refl) in
         rw e (starts (begun_progress h f) (begun_bytes (is_pending a.progress) a.bytes) (is_pending a.progress) refl refl
         (ap length (begun_zeros a C) ∙ length-replicate {A = ℕ} 4096 0) O.message
         (record {

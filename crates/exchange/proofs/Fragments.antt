@@ -20,6 +20,7 @@ use Rattle.message.proofs.Headers.{accepted_later, accepted_opening}
 use Rattle.cutter.specs.Cut.{header_bytes, fragment_bytes, word_bytes, opening_bytes, first_bytes}
 use Rattle.cutter.proofs.Stored.{length_fragment, length_opening, length_first}
 use Rattle.exchange.specs.Messages.{OfWidth, header_seen}
+use Rattle.std.specs.Prelude.{Ok}
 
 -- ---- any fragment
 
@@ -49,11 +50,11 @@ module _ (m : MessageHeader) (F : OfWidth m) (total number : ℕ) (xs : List ℕ
 
   -- a later one is accepted with its own header
   pub later_judged : is_fragmented m.message_type ≡ true → total ≤ 128 → number < total → 0 < number → 20 + length xs ≤ most_transfer
-      → fragment_of (fragment_bytes m total number xs) ≡ fragment.Later (header_of m total number)
+      → fragment_of (fragment_bytes m total number xs) ≡ Ok (fragment.Later (header_of m total number))
   later_judged known few less later short =
       accepted_later (fragment_bytes m total number xs) (rw length_fragment (omega arith)) (at_4 ∙ sym (length_fragment m total number xs))
       (rw length_fragment short) (ap is_fragmented at_0 ∙ known) (rw at_12 (omega arith)) (rw at_12 few) (rw (at_16, at_12) less) (rw at_16 later)
-      ∙ (λ i. fragment.Later (record { message_type = at_0 i; transaction = at_8 i; total = at_12 i; number = at_16 i }))
+      ∙ (λ i. Ok (fragment.Later (record { message_type = at_0 i; transaction = at_8 i; total = at_12 i; number = at_16 i })))
 
 pub drop_fragment : (m : MessageHeader) (total number : ℕ) (xs : List ℕ) → drop 20 (fragment_bytes m total number xs) ≡ xs
 unfolding fragment_bytes header_bytes
@@ -143,12 +144,12 @@ module _ (m : MessageHeader) (F : OfWidth m) (total n : ℕ) (xs : List ℕ) (fe
   first_16 = at_16 m F total 0 (opening_bytes m n ++ xs) (omega arith) (omega arith) (omega (arith, fits))
 
   pub first_judged : is_fragmented m.message_type ≡ true → 0 < total → wrong_word m ≡ false → wrong_amount (eqb total 1) (length xs) n ≡ false
-      → fragment_of (first_bytes m total n xs) ≡ fragment.First (header_of m total 0) (record { message = header_seen m; information_length = n })
+      → fragment_of (first_bytes m total n xs) ≡ Ok (fragment.First (header_of m total 0) (record { message = header_seen m; information_length = n }))
   first_judged known some word amount =
       accepted_opening (first_bytes m total n xs) first_4 (rw length_first short) (ap is_fragmented first_0 ∙ known) (rw first_12 some) (rw first_12 few) first_16
       (rw (first_0, length_first) (omega arith)) (ap wrong_word message_read ∙ carried_word m word) (rw declared_read small)
       ((λ i. wrong_amount (eqb (first_12 i) 1) (carried_read i) (declared_read i)) ∙ amount)
-      ∙ (λ i. fragment.First (record { message_type = first_0 i; transaction = first_8 i; total = first_12 i; number = first_16 i }) (record { message = message_read i; information_length = declared_read i }))
+      ∙ (λ i. Ok (fragment.First (record { message_type = first_0 i; transaction = first_8 i; total = first_12 i; number = first_16 i }) (record { message = message_read i; information_length = declared_read i })))
 
 pub drop_first : (m : MessageHeader) (total n : ℕ) (xs : List ℕ) → drop (first_length m.message_type) (first_bytes m total n xs) ≡ xs
 unfolding first_bytes

@@ -18,12 +18,13 @@ use Rattle.assembler.specs.Run.{Piece, Seen, seen_of, run_of, Clean}
 use Rattle.assembler.specs.declared.Progress.{Progress}
 use Rattle.assembler.specs.declared.Assembly.{Assembly}
 use Rattle.assembler.specs.declared.Answer.{Answer}
-use Rattle.assembler.specs.declared.Answer.TheVariants.{Pending, Complete, Refused}
+use Rattle.assembler.specs.declared.Answer.TheVariants.{Pending, Complete}
 use Rattle.assembler.proofs.View.{GatherView, refuses, waits as waits_on, completes as completes_it, StepView, step_view}
 use Rattle.assembler.proofs.View as view
 use Rattle.assembler.proofs.Clean.{clean_empty, clean_step}
 use Rattle.exchange.specs.Damage.{piece_at, seen_at, FragmentOf, carried, all_carried, waits, completes, MadeOf, ComesOut, InventsNothing}
 use Rattle.exchange.proofs.Feeds.{Next, FeedView, bad, starts, joins, feed_view}
+use Rattle.std.specs.Prelude.{Ok, Err, Result}
 
 -- ---- positions where a list goes on
 
@@ -34,10 +35,10 @@ piece_here : (hs : List Piece) (p : Piece) (ps : List Piece) (i : ℕ) → i ≡
 piece_here hs p ps i e = ap (piece_at (hs ++ (p ∷ ps))) e ∙ ap (λ (x : Piece). x.bytes) (get_or-append_seam hs p ps (record { bytes = []; room = 0 }))
 
 seen_before : (xs ys : List Seen) (i : ℕ) → i < length xs → seen_at (xs ++ ys) i ≡ seen_at xs i
-seen_before xs ys i l = get_or-append xs ys (record { answer = Pending false; information = [] }) i l
+seen_before xs ys i l = get_or-append xs ys (record { answer = Ok (Pending false); information = [] }) i l
 
 seen_here : (xs : List Seen) (y : Seen) (ys : List Seen) (i : ℕ) → i ≡ length xs → seen_at (xs ++ (y ∷ ys)) i ≡ y
-seen_here xs y ys i e = ap (seen_at (xs ++ (y ∷ ys))) e ∙ get_or-append_seam xs y ys (record { answer = Pending false; information = [] })
+seen_here xs y ys i e = ap (seen_at (xs ++ (y ∷ ys))) e ∙ get_or-append_seam xs y ys (record { answer = Ok (Pending false); information = [] })
 
 -- ---- what fragments carry, one more
 
@@ -109,7 +110,7 @@ module _ (hs : List Piece) (xs : List Seen) (b : Assembly) (H : Held hs xs b) (p
       ∙ ap (λ (k : ℕ). k + length (carried p.bytes)) (length-take-le b.progress.gathered b.bytes (omega (arith, N.gathers.0.0, N.gathers.0.1, H.whole)))
 
   -- it waits
-  held_more : (d : Bool) → Held (hs ++ (p ∷ [])) (xs ++ (record { answer = Pending d; information = [] } ∷ [])) (grown b (carried p.bytes))
+  held_more : (d : Bool) → Held (hs ++ (p ∷ [])) (xs ++ (record { answer = Ok (Pending d); information = [] } ∷ [])) (grown b (carried p.bytes))
   unfolding grown
   held_more d =
       let n : length hs + 1 ≡ length (hs ++ (p ∷ [])) = sym (length-append hs (p ∷ [])) in
@@ -132,7 +133,7 @@ module _ (hs : List Piece) (xs : List Seen) (b : Assembly) (H : Held hs xs b) (p
       }
 
   -- it completes the message
-  made : (ps : List Piece) (ys : List Seen) (answer : Answer) → b.progress.next + 1 ≡ b.progress.total
+  made : (ps : List Piece) (ys : List Seen) (answer : (Result Answer Refusal)) → b.progress.next + 1 ≡ b.progress.total
       → MadeOf (hs ++ (p ∷ ps)) (xs ++ (record { answer = answer; information = take b.progress.gathered b.bytes ++ carried p.bytes } ∷ ys)) (length hs) b.progress.message
       b.progress.information_length
   made ps ys answer last =
@@ -159,7 +160,7 @@ module _ (hs : List Piece) (xs : List Seen) (b : Assembly) (H : Held hs xs b) (p
 -- after one piece more: what is held, and the message that came out
 record After (hs : List Piece) (xs : List Seen) (p : Piece) (s : Step) : Type 0 where
   held : Held (hs ++ (p ∷ [])) (xs ++ (seen_of s ∷ [])) s.assembly
-  origin : (ps : List Piece) (ys : List Seen) (m : MessageHeader) (n : ℕ) (d : Bool) → s.answer ≡ Complete m n d → MadeOf (hs ++ (p ∷ ps)) (xs ++ (seen_of s ∷ ys)) (length hs) m n
+  origin : (ps : List Piece) (ys : List Seen) (m : MessageHeader) (n : ℕ) (d : Bool) → s.answer ≡ Ok (Complete m n d) → MadeOf (hs ++ (p ∷ ps)) (xs ++ (seen_of s ∷ ys)) (length hs) m n
 
 after_refused : (hs : List Piece) (xs : List Seen) (p : Piece) (s : Step) (r : Refusal) → s ≡ refused r → After hs xs p s
 unfolding refused
@@ -207,7 +208,7 @@ one_longer hs p xs y same = length-append xs (y ∷ []) ∙ ap (λ (k : ℕ). k 
 
 -- what comes out of a run that goes on from an assembly that holds the last of hs
 from_held : (ps : List Piece) (hs : List Piece) (xs : List Seen) (a : Assembly) → Clean a → Held hs xs a → length xs ≡ length hs → (i : ℕ) (m : MessageHeader) (n : ℕ) (d : Bool)
-    → (seen_at (run_of a ps).seen i).answer ≡ Complete m n d → MadeOf (hs ++ ps) (xs ++ (run_of a ps).seen) (length hs + i) m n
+    → (seen_at (run_of a ps).seen i).answer ≡ Ok (Complete m n d) → MadeOf (hs ++ ps) (xs ++ (run_of a ps).seen) (length hs + i) m n
 unfolding run_of
 from_held [] hs xs a C H same i m n d e = let z : ◌≡◌ {A = ℕ} 0 1 = cc in absurd (omega arith)
 from_held (p ∷ ps) hs xs a C H same zero m n d e =
@@ -243,9 +244,9 @@ quiet (p ∷ ps) a (suc i) c = quiet ps (step_of a p.bytes p.room).assembly i c
 pub invents_nothing : InventsNothing
 invents_nothing ps i = go (seen_at (run_of empty ps).seen i).answer refl
   where
-    go : (x : Answer) → (seen_at (run_of empty ps).seen i).answer ≡ x → ComesOut ps (run_of empty ps).seen i x
-    go (Complete m n d) e =
+    go : (x : (Result Answer Refusal)) → (seen_at (run_of empty ps).seen i).answer ≡ x → ComesOut ps (run_of empty ps).seen i x
+    go (Ok (Complete m n d)) e =
         let at : 0 + i ≡ i = omega arith in
         subst (λ (k : ℕ). MadeOf ps (run_of empty ps).seen k m n) at (from_held ps [] [] empty clean_empty (held_empty [] []) refl i m n d e)
-    go (Pending d) e = quiet ps empty i (ap completes e)
-    go (Refused r) e = quiet ps empty i (ap completes e)
+    go (Ok (Pending d)) e = quiet ps empty i (ap completes e)
+    go (Err r) e = quiet ps empty i (ap completes e)

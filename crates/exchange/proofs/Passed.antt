@@ -15,8 +15,10 @@ use Rattle.assembler.specs.declared.Answer.{Answer}
 use Rattle.exchange.specs.Messages.{pieces, last_seen, received}
 use Rattle.exchange.specs.Collected.{Collected, after, collected}
 use Rattle.exchange.specs.Delivery.{last_says}
+use Rattle.std.specs.Prelude.{Result}
+use Rattle.protocol.specs.declared.Refusal.{Refusal}
 
-abbrev gives : Assembly → Answer → List ℕ → Collected
+abbrev gives : Assembly → (Result Answer Refusal) → List ℕ → Collected
 gives a t out = record { assembly = a; answer = t; output = out }
 
 abbrev result : MessageHeader → List ℕ → ℕ → Bool → List ℕ → Collected
@@ -37,7 +39,7 @@ some_none : {x : Seen} {xs : List Seen} → x ∷ xs ≡ [] → ⊥
 some_none e = let z : ◌≡◌ {A = ℕ} 0 1 = cc in omega arith
 
 -- what a part gives where the caller's output has the room
-after_is : (a : Assembly) (t : Answer) (p out : List ℕ) (room : ℕ) → length out ≡ room
+after_is : (a : Assembly) (t : (Result Answer Refusal)) (p out : List ℕ) (room : ℕ) → length out ≡ room
     → after (gives a t out) p ≡ gives (step_of a p room).assembly (step_of a p room).answer (over (step_of a p room).information out)
 after_is a t p out room e = λ i. record {
   assembly = (step_of a p (e i)).assembly;
@@ -50,7 +52,7 @@ unfolding over
 over_nothing out = refl
 
 module _ (m : MessageHeader) (information : List ℕ) (room : ℕ) where
-  pub collected_run : (ps : List (List ℕ)) (n k : ℕ) (d : Bool) (a : Assembly) (t : Answer) (out : List ℕ) → length out ≡ room
+  pub collected_run : (ps : List (List ℕ)) (n k : ℕ) (d : Bool) (a : Assembly) (t : (Result Answer Refusal)) (out : List ℕ) → length out ≡ room
       → run_of a (pieces (λ _. room) k ps) ≡ received m information d room n → collected (gives a t out) ps ≡ result m information room (last_says n d) out
   unfolding run_of pieces received collected
   collected_run [] zero k d a t out e r = absurd (some_none (sym (ap (λ (x : Run). x.seen) r)))

@@ -10,15 +10,17 @@ use Rattle.assembler.specs.Run.{Piece, Seen, seen_of, run_of}
 use Rattle.assembler.specs.Door.{fed_shown, receive_of, receive_all}
 use Rattle.assembler.specs.declared.Assembly.{Assembly}
 use Rattle.assembler.specs.declared.Answer.{Answer}
-use Rattle.assembler.specs.declared.Answer.TheVariants.{Pending, Complete, Refused}
+use Rattle.assembler.specs.declared.Answer.TheVariants.{Pending, Complete}
 use Rattle.exchange.specs.Received.{fed, answered, answers, FedRun, ReceivedAsFed}
+use Rattle.std.specs.Prelude.{Ok, Err, Result}
+use Rattle.protocol.specs.declared.Refusal.{Refusal}
 
 -- what the door shows of a fed piece is what the assembler answered
-answered_fed : (s : List ℕ) (x : Answer) (information : List ℕ) → answered (fed_shown s x) information ≡ record { answer = x; information = information } ∷ []
+answered_fed : (s : List ℕ) (x : (Result Answer Refusal)) (information : List ℕ) → answered (fed_shown s x) information ≡ record { answer = x; information = information } ∷ []
 unfolding fed_shown
-answered_fed s (Pending d) information = refl
-answered_fed s (Complete m n d) information = refl
-answered_fed s (Refused r) information = refl
+answered_fed s (Ok (Pending d)) information = refl
+answered_fed s (Ok (Complete m n d)) information = refl
+answered_fed s (Err r) information = refl
 
 -- one piece, by whether it is a whole message
 one_more : (a : Assembly) (p : Piece) (ps : List Piece) → FedRun a ps → FedRun (step_of a p.bytes p.room).assembly ps → FedRun a (p ∷ ps)

@@ -11,8 +11,6 @@ use lib.ListN.{length, drop}
 use Rattle.protocol.specs.Refusal.{refusal, output_too_small}
 use Rattle.protocol.specs.Verdict.{judge}
 use Rattle.protocol.specs.declared.Refusal.{Refusal}
-use Rattle.protocol.specs.declared.Verdict.{Verdict}
-use Rattle.protocol.specs.declared.Verdict.TheVariants.{Fits, Fault}
 use Rattle.protocol.proofs.Verdicts.{fits_kept}
 use Rattle.message.specs.Message.{first_length, fragment_of}
 use Rattle.message.specs.declared.FragmentHeader.{FragmentHeader}
@@ -22,13 +20,16 @@ use Rattle.assembler.specs.Assembly.{Step, empty, assembly_of, is_pending, refus
 use Rattle.assembler.specs.Run.{Piece, Seen, seen_of, and_then, run_of, Clean}
 use Rattle.assembler.specs.declared.Assembly.{Assembly}
 use Rattle.assembler.specs.declared.Answer.{Answer}
-use Rattle.assembler.specs.declared.Answer.TheVariants.{Pending, Complete, Refused}
+use Rattle.assembler.specs.declared.Answer.TheVariants.{Pending, Complete}
 use Rattle.assembler.proofs.Laws.{Gathers, continues_says}
 use Rattle.assembler.proofs.View.{GatherView, refuses as refuses_it, waits as waits_on, completes as completes_it, StepView, bad, starts, joins, step_view}
 use Rattle.assembler.proofs.Clean.{clean_empty, begun_zeros, reached}
 use Rattle.exchange.specs.Delivery.{then_run}
 use Rattle.exchange.specs.Damage.{waits, completes, CompletesOne, with_note, first_noted, last_waits, Recovers}
 use Rattle.exchange.proofs.Delivered.{run_append}
+use Rattle.std.specs.Prelude.{Ok, Err}
+use Rattle.protocol.specs.Verdict.{Verdict}
+use Rattle.std.specs.Prelude.{Result}
 
 -- ---- a message is unfinished exactly where the last answer waits
 
@@ -72,32 +73,32 @@ noted_gather a xs d e room = go (eqb (a.progress.next + 1) a.progress.total) (lt
     go true false = refl
     go false small = refl
 
-abbrev is_refused : Answer → Bool
-is_refused (Pending d) = false
-is_refused (Complete m n d) = false
-is_refused (Refused r) = true
+abbrev is_refused : (Result Answer Refusal) → Bool
+is_refused (Ok (Pending d)) = false
+is_refused (Ok (Complete m n d)) = false
+is_refused (Err r) = true
 
 -- what can't be said of a refusal is said of an answer that is none
-accepted : (says : Answer → Bool) → ((r : Refusal) → says (Refused r) ≡ false) → (x : Answer) → says x ≡ true → is_refused x ≡ false
-accepted says never (Pending d) e = refl
-accepted says never (Complete m n d) e = refl
-accepted says never (Refused r) e = absurd (true≢false (sym e ∙ never r))
+accepted : (says : (Result Answer Refusal) → Bool) → ((r : Refusal) → says (Err r) ≡ false) → (x : (Result Answer Refusal)) → says x ≡ true → is_refused x ≡ false
+accepted says never (Ok (Pending d)) e = refl
+accepted says never (Ok (Complete m n d)) e = refl
+accepted says never (Err r) e = absurd (true≢false (sym e ∙ never r))
 
 -- an empty assembly takes no later piece
 stray : (s : List ℕ) (h : FragmentHeader) → Accepted s h → (v : Verdict) → judge (join_rules empty.progress h (length s)) ≡ v → (room : ℕ)
     → is_refused (step_by empty.bytes s room (join_of v empty.progress)).answer ≡ true
 unfolding step_by join_of refused empty
-stray s h A Fits e room =
+stray s h A (Ok _) e room =
     let c = continues_says empty.progress h (not-false (continues empty.progress h) (fits_kept (join_rules empty.progress h (length s)) e).0) in
     absurd (omega (arith, c.total, A.some))
-stray s h A (Fault r) e room = refl
+stray s h A (Err r) e room = refl
 
 -- what an empty assembly doesn't refuse begins a message, whatever the assembly is
 first_step : (a : Assembly) → Clean a → (s : List ℕ) (room : ℕ) → is_refused (step_of empty s room).answer ≡ false → step_of a s room ≡ noted (is_pending a.progress) (step_of empty s room)
 unfolding step_of step_by judged_of judged_by refused
 first_step a C s room = go (fragment_view s) refl
   where
-    go : {f : Fragment} → FragmentView s f → fragment_of s ≡ f → is_refused (step_of empty s room).answer ≡ false → step_of a s room ≡ noted (is_pending a.progress) (step_of empty s room)
+    go : {f : (Result Fragment Refusal)} → FragmentView s f → fragment_of s ≡ f → is_refused (step_of empty s room).answer ≡ false → step_of a s room ≡ noted (is_pending a.progress) (step_of empty s room)
     go (refuses r) e q = let z : ◌≡◌ {A = ℕ} 0 1 = cc in absurd (omega arith)
     go (opens h f A n O) e q =
         let zeroed = begun_zeros a C ∙ sym (begun_zeros empty clean_empty) in

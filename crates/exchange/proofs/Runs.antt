@@ -13,7 +13,6 @@ use lib.Seq.{sets, length-sets, take_all}
 use Rattle.wire.proofs.Laws.{take_sets}
 use Rattle.protocol.specs.MessageType.{is_fragmented}
 use Rattle.protocol.specs.Verdict.{judge}
-use Rattle.protocol.specs.declared.Verdict.TheVariants.{Fits}
 use Rattle.protocol.proofs.Verdicts.{kept_fits}
 use Rattle.message.specs.Message.{most_information, most_transfer, first_length, wrong_word, wrong_amount}
 use Rattle.message.specs.declared.MessageHeader.{MessageHeader}
@@ -21,12 +20,14 @@ use Rattle.message.proofs.Headers.{right_all, right_less}
 use Rattle.assembler.specs.Assembly.{Step, assembly_of, empty, is_pending, refused, waiting, completed, grown, gather_of, continues, join_rules, join_of, judged_by, judged_of, begun_bytes, step_by, step_of}
 use Rattle.assembler.specs.Run.{Seen, Run, seen_of, and_then, run_of}
 use Rattle.assembler.specs.declared.Assembly.{Assembly}
-use Rattle.assembler.specs.declared.Answer.TheVariants.{Pending, Complete, Refused}
+use Rattle.assembler.specs.declared.Answer.TheVariants.{Pending, Complete}
 use Rattle.protocol.specs.Refusal.{refusal, output_too_small}
 use Rattle.cutter.specs.Cut.{fragment_bytes, first_bytes, later_fragments, fragments_by}
 use Rattle.cutter.proofs.Stored.{length_fragment}
 use Rattle.exchange.specs.Messages.{OfWidth, header_seen, pieces, received}
 use Rattle.exchange.proofs.Fragments.{header_of, later_judged, drop_fragment, first_judged, drop_first}
+use Rattle.protocol.specs.Verdict.{no_fault}
+use Rattle.std.specs.Prelude.{Ok, Err}
 
 -- an assembly in the middle of m: `number` comes next, and the first `gathered` of `bytes` are there
 abbrev pub held : MessageHeader → ℕ → ℕ → ℕ → ℕ → List ℕ → Assembly
@@ -60,7 +61,7 @@ module _ (m : MessageHeader) (F : OfWidth m) (known : is_fragmented m.message_ty
       let p = fragment_bytes m total number body in
       let h = header_of m total number in
       let l : length p - 20 ≡ length body = omega (arith, length_fragment m total number body) in
-      let fits : judge (join_rules (held m total declared number gathered bytes).progress h (length p)) ≡ Fits =
+      let fits : judge (join_rules (held m total declared number gathered bytes).progress h (length p)) ≡ no_fault =
       kept_fits (join_rules (held m total declared number gathered bytes).progress h (length p))
       (rw (continues_own declared number gathered bytes small) refl, (ap (λ (k : ℕ). wrong_amount (eqb (number + 1) total) (gathered + k) declared) l ∙ amount, tt)) in
       rw (later_judged m F total number body (omega arith) (omega arith) (omega arith) known few less some short, fits, drop_fragment m total number body)
@@ -91,15 +92,15 @@ last_seen m total number gathered bytes xs information d room s e all = go (ltb 
   where
     go : (b : Bool) → s ≡ cond b (refused (refusal output_too_small (length information))) (completed (held m total (length information) number gathered bytes) xs d)
         → alone s
-        ≡ only (cond b (record { answer = Refused (refusal output_too_small (length information)); information = [] }) (record { answer = Complete (header_seen m) (length information) d; information = information }))
+        ≡ only (cond b (record { answer = Err (refusal output_too_small (length information)); information = [] }) (record { answer = Ok (Complete (header_seen m) (length information) d); information = information }))
     go true q = rw q refl
     go false q = rw (q, all) refl
 
 -- a step that waits, before what comes after it
 waits : (m : MessageHeader) (information : List ℕ) (d : Bool) (room left : ℕ) {r : Run} → r ≡ received m information false room left
-    → and_then (record { answer = Pending d; information = [] }) r ≡ received m information d room (suc left)
+    → and_then (record { answer = Ok (Pending d); information = [] }) r ≡ received m information d room (suc left)
 unfolding received
-waits m information d room left e = ap (and_then (record { answer = Pending d; information = [] })) e
+waits m information d room left e = ap (and_then (record { answer = Ok (Pending d); information = [] })) e
 
 -- ---- the fragments from `number` on, once `got` is gathered and xs is left
 

@@ -13,17 +13,17 @@ use lib.Seq.{take_at, drop_at, take_all}
 use Rattle.wire.proofs.Laws.{take_over}
 use Rattle.protocol.specs.MessageType.{is_fragmented}
 use Rattle.protocol.specs.Verdict.{judge, with_room}
-use Rattle.protocol.specs.declared.Verdict.{Verdict}
-use Rattle.protocol.specs.declared.Verdict.TheVariants.{Fits, Fault}
 use Rattle.protocol.proofs.Verdicts.{fits_kept, was_fit, has_room}
 use Rattle.message.specs.Message.{most_information, most_transfer, first_length, wrong_word}
 use Rattle.message.specs.declared.MessageHeader.{MessageHeader}
 use Rattle.message.proofs.Headers.{place_most}
 use Rattle.cutter.specs.Cut.{fragment_bytes, first_bytes, later_count, later_fragments, fragments_by, fragments_of, joined, message_rules, cut_by, cut_after, cut_of}
-use Rattle.cutter.specs.declared.Cutting.TheVariants.{Fragments}
+use Rattle.cutter.specs.declared.Fragments.{Fragments}
 use Rattle.cutter.proofs.Stored.{length_fragment, length_first}
 use Rattle.cutter.proofs.Whole.{size_right, count_holds, many}
 use Rattle.exchange.specs.Messages.{parts}
+use Rattle.std.specs.Prelude.{Ok, Err}
+use Rattle.protocol.specs.Verdict.{Verdict}
 
 -- ---- what the cutter's answer says
 
@@ -37,30 +37,31 @@ pub record Sent (m : MessageHeader) (size : ℕ) (information out : List ℕ) (c
   pub room : n ≤ length out
   pub front : take n (cut_of m size information out).output ≡ joined (fragments_of m size information)
 
-pub sent : (m : MessageHeader) (size : ℕ) (information out : List ℕ) (count n : ℕ) → (cut_of m size information out).answer ≡ Fragments count n → Sent m size information out count n
+pub sent : (m : MessageHeader) (size : ℕ) (information out : List ℕ) (count n : ℕ) → (cut_of m size information out).answer ≡ Ok (record { count = count; length = n }) → Sent m size information out count n
 unfolding cut_of cut_after cut_by
 sent m size information out count n = go (with_room (judge (message_rules m size (length information))) b out) refl
   where
     b : List ℕ
     b = joined (fragments_of m size information)
 
-    go : (v : Verdict) → with_room (judge (message_rules m size (length information))) b out ≡ v → (cut_by v (fragments_of m size information) out).answer ≡ Fragments count n
+    go : (v : Verdict) → with_room (judge (message_rules m size (length information))) b out ≡ v → (cut_by v (fragments_of m size information) out).answer ≡ Ok (record { count = count; length = n })
         → Sent m size information out count n
-    go Fits ev e =
+    go (Ok _) ev e =
         let k = fits_kept (message_rules m size (length information)) (was_fit _ b out ev) in
         let z = size_right size k.0 in
-        let l : length b ≡ n = cc in
+        let same : record { count = length (fragments_of m size information); length = length b } ≡ record { count = count; length = n } = cc in
+        let l : length b ≡ n = ap (λ (f : Fragments). f.length) same in
         record {
           known = not-false _ k.1.0;
           word = k.1.1.1.0;
           low = z.0;
           high = z.1;
           small = ltb-false _ _ k.1.1.1.1.0;
-          counted = let c : length (fragments_of m size information) ≡ count = cc in sym c ∙ many m size information;
+          counted = sym (ap (λ (f : Fragments). f.count) same) ∙ many m size information;
           room = rw (← l) (has_room _ b out ev);
           front = rw ev (take_over b out n l);
         }
-    go (Fault r) ev e = let z : ◌≡◌ {A = ℕ} 0 1 = cc in absurd (omega arith)
+    go (Err r) ev e = let z : ◌≡◌ {A = ℕ} 0 1 = cc in absurd (omega arith)
 
 -- ---- how fragments stand in the output: each but the last is as full as the size allows
 

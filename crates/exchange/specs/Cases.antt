@@ -6,6 +6,7 @@ use Rattle.cutter.specs.Cut.{fragment_bytes, first_bytes, fragments_of}
 use Rattle.assembler.specs.Assembly.{empty}
 use Rattle.assembler.specs.Run.{Piece, Seen, run_of}
 use Rattle.assembler.specs.declared.Answer.TheVariants.{Pending, Complete}
+use Rattle.std.specs.Prelude.{Ok}
 
 pub record Case : Type 0 where
   pub size : ℕ
@@ -52,7 +53,7 @@ thin =
     ∷ piece (fragment_bytes command 4 3 (8 ∷ 9 ∷ [])) ∷ []
 
 abbrev waiting : Seen
-waiting = record { answer = Pending false; information = [] }
+waiting = record { answer = Ok (Pending false); information = [] }
 
 abbrev pub ThinCompletes : Type 0
-ThinCompletes = (run_of empty thin).seen ≡ waiting ∷ waiting ∷ waiting ∷ record { answer = Complete command 3 false; information = 7 ∷ 8 ∷ 9 ∷ [] } ∷ []
+ThinCompletes = (run_of empty thin).seen ≡ waiting ∷ waiting ∷ waiting ∷ record { answer = Ok (Complete command 3 false); information = 7 ∷ 8 ∷ 9 ∷ [] } ∷ []

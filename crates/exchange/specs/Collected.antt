@@ -7,16 +7,18 @@ use Rattle.assembler.specs.declared.Assembly.{Assembly}
 use Rattle.assembler.specs.declared.FedInPlace.{FedInPlace}
 use Rattle.assembler.specs.declared.Answer.{Answer}
 use Rattle.assembler.specs.declared.Answer.TheVariants.{Pending}
+use Rattle.std.specs.Prelude.{Ok, Result}
+use Rattle.protocol.specs.declared.Refusal.{Refusal}
 
 -- the assembly, the last answer, and the output
 pub record Collected : Type 0 where
   pub assembly : Assembly
-  pub answer : Answer
+  pub answer : Result Answer Refusal
   pub output : List ℕ
 
 -- before any part
 abbrev pub before : Progress → List ℕ → List ℕ → Collected
-before p bytes out = record { assembly = assembly_of p bytes; answer = Pending false; output = out }
+before p bytes out = record { assembly = assembly_of p bytes; answer = Ok (Pending false); output = out }
 
 -- after the part p
 abbrev pub after : Collected → List ℕ → Collected

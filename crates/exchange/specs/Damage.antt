@@ -5,26 +5,28 @@
 use Rattle.std.specs.Prelude.{ℕ, ◌+◌, ◌≤◌, ◌<◌, ◌≡◌, Bool, true, false, cond, List, [], ◌∷◌, ◌++◌, map, eqb, length, get_or, take, drop}
 use Rattle.wire.specs.Numbers.{u32_at}
 use Rattle.protocol.specs.Verdict.{judge}
-use Rattle.protocol.specs.declared.Verdict.TheVariants.{Fits}
 use Rattle.message.specs.Message.{header_at, header_rules, first_length, message_at}
 use Rattle.message.specs.declared.MessageHeader.{MessageHeader}
 use Rattle.cutter.specs.Cut.{joined}
 use Rattle.assembler.specs.Assembly.{empty}
 use Rattle.assembler.specs.Run.{Piece, Seen, run_of}
 use Rattle.assembler.specs.declared.Answer.{Answer}
-use Rattle.assembler.specs.declared.Answer.TheVariants.{Pending, Complete, Refused}
+use Rattle.assembler.specs.declared.Answer.TheVariants.{Pending, Complete}
+use Rattle.protocol.specs.Verdict.{no_fault}
+use Rattle.std.specs.Prelude.{Ok, Err, Result}
+use Rattle.protocol.specs.declared.Refusal.{Refusal}
 
 -- ---- what an answer says: that more is to come, or that a message is complete
 
-abbrev pub waits : Answer → Bool
-waits (Pending dropped) = true
-waits (Complete m n dropped) = false
-waits (Refused r) = false
+abbrev pub waits : (Result Answer Refusal) → Bool
+waits (Ok (Pending dropped)) = true
+waits (Ok (Complete m n dropped)) = false
+waits (Err r) = false
 
-abbrev pub completes : Answer → Bool
-completes (Pending dropped) = false
-completes (Complete m n dropped) = true
-completes (Refused r) = false
+abbrev pub completes : (Result Answer Refusal) → Bool
+completes (Ok (Pending dropped)) = false
+completes (Ok (Complete m n dropped)) = true
+completes (Err r) = false
 
 -- ---- "After any sequence of pieces fed to the assembler from empty, refused or not, the next message that an empty one would complete, fed in order from its
 -- ---- first fragment, with room in the output, comes out as from an empty assembly, apart from the note that something was dropped."
@@ -36,10 +38,10 @@ CompletesOne (x ∷ []) = completes x.answer ≡ true
 CompletesOne (x ∷ (y ∷ ys)) = (waits x.answer ≡ true) × CompletesOne (y ∷ ys)
 
 -- the first of the answers with another note
-abbrev pub with_note : Bool → Answer → Answer
-with_note note (Pending dropped) = Pending note
-with_note note (Complete m n dropped) = Complete m n note
-with_note note (Refused r) = Refused r
+abbrev pub with_note : Bool → (Result Answer Refusal) → Result Answer Refusal
+with_note note (Ok (Pending dropped)) = Ok (Pending note)
+with_note note (Ok (Complete m n dropped)) = Ok (Complete m n note)
+with_note note (Err r) = Err r
 
 abbrev pub first_noted : Bool → List Seen → List Seen
 first_noted note [] = []
@@ -66,11 +68,11 @@ abbrev pub piece_at : List Piece → ℕ → List ℕ
 piece_at ps i = (get_or ps i (record { bytes = []; room = 0 })).bytes
 
 abbrev pub seen_at : List Seen → ℕ → Seen
-seen_at seen i = get_or seen i (record { answer = Pending false; information = [] })
+seen_at seen i = get_or seen i (record { answer = Ok (Pending false); information = [] })
 
 -- the piece s is fragment `number` of `total` of the message m: its header breaks no rule and says so
 pub record FragmentOf (m : MessageHeader) (total number : ℕ) (s : List ℕ) : Type 0 where
-  pub accepted : judge (header_rules s) ≡ Fits
+  pub accepted : judge (header_rules s) ≡ no_fault
   pub says : header_at s ≡ record { message_type = m.message_type; transaction = m.transaction; total = total; number = number }
 
 -- the information that a fragment carries: all behind its header, which is longer in the first one
@@ -95,10 +97,10 @@ pub record MadeOf (ps : List Piece) (seen : List Seen) (last : ℕ) (m : Message
   pub amount : length (seen_at seen last).information ≡ n
 
 -- what comes out at a position, by the answer there: a message that is made of fragments, or nothing
-abbrev pub ComesOut : List Piece → List Seen → ℕ → Answer → Type 0
-ComesOut ps seen i (Complete m n dropped) = MadeOf ps seen i m n
-ComesOut ps seen i (Pending dropped) = (seen_at seen i).information ≡ []
-ComesOut ps seen i (Refused r) = (seen_at seen i).information ≡ []
+abbrev pub ComesOut : List Piece → List Seen → ℕ → (Result Answer Refusal) → Type 0
+ComesOut ps seen i (Ok (Complete m n dropped)) = MadeOf ps seen i m n
+ComesOut ps seen i (Ok (Pending dropped)) = (seen_at seen i).information ≡ []
+ComesOut ps seen i (Err r) = (seen_at seen i).information ≡ []
 
 abbrev pub OnlyItsFragments : List Piece → List Seen → Type 0
 OnlyItsFragments ps seen = (i : ℕ) → ComesOut ps seen i (seen_at seen i).answer

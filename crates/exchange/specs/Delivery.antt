@@ -5,10 +5,10 @@ use Rattle.message.specs.declared.MessageHeader.{MessageHeader}
 use Rattle.assembler.specs.Assembly.{empty, is_pending}
 use Rattle.assembler.specs.Run.{Piece, Run, run_of}
 use Rattle.cutter.specs.Cut.{cut_of}
-use Rattle.cutter.specs.declared.Cutting.TheVariants.{Fragments}
 use Rattle.wire.specs.Output.{over}
 use Rattle.exchange.specs.Messages.{OfWidth, parts, pieces, last_seen, received}
 use Rattle.exchange.specs.Collected.{Collected, before, collected}
+use Rattle.std.specs.Prelude.{Ok}
 
 -- one run after another
 abbrev pub then_run : Run → Run → Run
@@ -17,7 +17,7 @@ then_run r t = record { seen = r.seen ++ t.seen; end = t.end }
 -- the cutter put `count` fragments into the first n bytes of its output
 pub record CutInto (m : MessageHeader) (size : ℕ) (information out : List ℕ) (count n : ℕ) : Type 0 where
   pub width : OfWidth m
-  pub accepted : (cut_of m size information out).answer ≡ Fragments count n
+  pub accepted : (cut_of m size information out).answer ≡ Ok (record { count = count; length = n })
 
 -- after any earlier pieces, fed from empty, the parts of the cutter's output complete the message at the last one, if that one has room for
 -- the information, and leave the empty assembly

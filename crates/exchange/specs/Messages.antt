@@ -6,7 +6,8 @@ use Rattle.protocol.specs.MessageType.{INDICATE_STATUS}
 use Rattle.message.specs.declared.MessageHeader.{MessageHeader}
 use Rattle.assembler.specs.Assembly.{empty}
 use Rattle.assembler.specs.Run.{Piece, Seen, Run, and_then}
-use Rattle.assembler.specs.declared.Answer.TheVariants.{Pending, Complete, Refused}
+use Rattle.assembler.specs.declared.Answer.TheVariants.{Pending, Complete}
+use Rattle.std.specs.Prelude.{Ok, Err}
 
 -- each field is a 32-bit number, as in every value of the code's type
 pub record OfWidth (m : MessageHeader) : Type 0 where
@@ -42,10 +43,10 @@ pieces room k (p ∷ ps) = record { bytes = p; room = room k } ∷ pieces room (
 -- what the last piece shows: the whole message, or 11 where the output has no room for the information
 abbrev pub last_seen : MessageHeader → List ℕ → Bool → ℕ → Seen
 last_seen m information dropped room =
-    cond (ltb room (length information)) (record { answer = Refused (refusal output_too_small (length information)); information = [] })
-    (record { answer = Complete (header_seen m) (length information) dropped; information = information })
+    cond (ltb room (length information)) (record { answer = Err (refusal output_too_small (length information)); information = [] })
+    (record { answer = Ok (Complete (header_seen m) (length information) dropped); information = information })
 
 -- n pieces that wait, and then the last one, which leaves the empty assembly; the first one says whether a message was dropped
 unfoldable pub received : MessageHeader → List ℕ → Bool → ℕ → ℕ → Run
 received m information dropped room zero = record { seen = last_seen m information dropped room ∷ []; end = empty }
-received m information dropped room (suc n) = and_then (record { answer = Pending dropped; information = [] }) (received m information false room n)
+received m information dropped room (suc n) = and_then (record { answer = Ok (Pending dropped); information = [] }) (received m information false room n)

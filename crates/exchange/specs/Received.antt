@@ -6,9 +6,11 @@ use Rattle.assembler.specs.Run.{Piece, Seen, run_of}
 use Rattle.assembler.specs.Door.{receive_all}
 use Rattle.assembler.specs.Door as door
 use Rattle.assembler.specs.declared.Assembly.{Assembly}
-use Rattle.assembler.specs.declared.Answer.TheVariants.{Pending, Complete, Refused}
+use Rattle.assembler.specs.declared.Answer.TheVariants.{Pending, Complete}
 use Rattle.assembler.specs.declared.door.Received.{Received}
 use Rattle.assembler.specs.declared.door.Received.TheVariants as received
+use Rattle.std.specs.Prelude.{Ok, Err, Result}
+use Rattle.protocol.specs.declared.Refusal.{Refusal}
 
 -- ---- the pieces that are fed
 
@@ -18,11 +20,11 @@ fed (p ∷ ps) = cond (is_whole_piece p.bytes) (fed ps) (p ∷ fed ps)
 
 -- ---- what the assembler answered
 
-abbrev pub answered : Received → List ℕ → List Seen
-answered (received.Pending type transaction dropped) information = record { answer = Pending dropped; information = information } ∷ []
-answered (received.Complete m n dropped) information = record { answer = Complete m n dropped; information = information } ∷ []
-answered (received.Refused r) information = record { answer = Refused r; information = information } ∷ []
-answered (received.Whole type transaction word) information = []
+abbrev pub answered : (Result Received Refusal) → List ℕ → List Seen
+answered (Ok (received.Pending type transaction dropped)) information = record { answer = Ok (Pending dropped); information = information } ∷ []
+answered (Ok (received.Complete m n dropped)) information = record { answer = Ok (Complete m n dropped); information = information } ∷ []
+answered (Err r) information = record { answer = Err r; information = information } ∷ []
+answered (Ok (received.Whole type transaction word)) information = []
 
 -- of what was seen of the pieces ps, one after the other
 unfoldable pub answers : List Piece → List door.Seen → List Seen

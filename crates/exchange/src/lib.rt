@@ -2,18 +2,20 @@
 // and proofs/.
 #![tactic(auto)]
 
-ghost use Rattle.std.specs.Prelude.{◌≡◌, ◌+◌, ◌-◌, ◌≤◌, min, length};
+ghost use Rattle.std.specs.Prelude.{◌≡◌};
 ghost use Rattle.exchange.specs.Messages.{parts};
 ghost use Rattle.cutter.specs.Cut.{cut_of};
 ghost use Rattle.exchange.specs.Pass.{pass_of};
 ghost use Rattle.exchange.specs.Collected.{before, collected, told};
 
 use assembler::{Answer, FedInPlace, Progress, feed_in_place};
-use cutter::{Cutting, cut};
+use cutter::cut;
 use message::MessageHeader;
+use protocol::Refusal;
 
 // Cuts a message into `stream` and feeds it from there, part by part, to an empty assembly whose
 // buffer is `bytes`: what comes out is what went in.
+#[tactic(auto, unfolding(crate::specs::Pass::pass_of, crate::specs::Pass::pass_by))]
 pub fn pass(
     message: MessageHeader,
     size: usize,
@@ -21,23 +23,18 @@ pub fn pass(
     stream: &mut [u8],
     bytes: &mut [u8; 4096],
     out: &mut [u8],
-) -> Answer
+) -> Result<Answer, Refusal>
     ensures value { result ≡ (pass_of message size information.now stream.old bytes.old out.old).answer }
     ensures stream_after { stream.new ≡ (cut_of message size information.now stream.old).output }
     ensures bytes_after { bytes.new ≡ (pass_of message size information.now stream.old bytes.old out.old).bytes }
     ensures out_after { out.new ≡ (pass_of message size information.now stream.old bytes.old out.old).output }
 {
-    match cut(message, size, information, stream) {
-        Cutting::Refused(refusal) => Answer::Refused(refusal),
-        Cutting::Fragments { count, length } => {
-            *bytes = [0; 4096];
-            let none = Progress::none();
-            let parts = count as usize;
-            let fed = feed_parts(none, bytes, &stream[..length], size, parts, out);
-            let answer = fed.answer;
-            answer
-        }
-    }
+    let fragments = cut(message, size, information, stream)?;
+    *bytes = [0; 4096];
+    let none = Progress::none();
+    let parts = fragments.count as usize;
+    let fed = feed_parts(none, bytes, &stream[..fragments.length], size, parts, out);
+    fed.answer
 }
 
 // Feeds a stream in `count` parts, each of `size` bytes but the last, which has what is left. What is
@@ -54,27 +51,15 @@ pub fn feed_parts(
     ensures bytes_after { bytes.new ≡ (collected (before progress bytes.old out.old) (parts count size stream.now)).assembly.bytes }
     ensures out_after { out.new ≡ (collected (before progress bytes.old out.old) (parts count size stream.now)).output }
 {
-    let answer = Answer::Pending { dropped: false };
-    let mut fed = FedInPlace { progress, answer };
-    let mut at: usize = 0;
-    let mut fed_parts: usize = 0;
-    while fed_parts < count {
-        let end = part_end(stream.len(), at, size);
-        let now = fed.progress;
-        fed = feed_in_place(now, bytes, &stream[at..end], out);
-        at = end;
-        fed_parts += 1;
+    let mut fed = FedInPlace {
+        progress,
+        answer: Ok(Answer::Pending { dropped: false }),
+    };
+    let mut rest = stream;
+    for k in 0..count {
+        let (part, left) = rest.split_at(rest.len().min(size));
+        fed = feed_in_place(fed.progress, bytes, part, out);
+        rest = left;
     }
     fed
-}
-
-// Where a part of a stream of n bytes ends that begins at `at`.
-fn part_end(n: usize, at: usize, size: usize) -> usize
-    requires { at ≤ n }
-    ensures { result ≡ at + min (n - at) size }
-{
-    if n - at < size {
-        return n;
-    }
-    at + size
 }

@@ -11,13 +11,12 @@ use native.Mathlib.Omega.{arith}
 use lib.ListN.{length, length-append, get_or, set, take}
 use lib.Seq.{sets, get_or-append-add, take-suc}
 use Rattle.wire.proofs.Laws.{sets_append}
-use Rattle.protocol.specs.Verdict.{first_of}
+use Rattle.protocol.specs.Verdict.{first_of, no_fault, Verdict}
 use Rattle.protocol.specs.declared.Refusal.{Refusal}
-use Rattle.protocol.specs.declared.Verdict.{Verdict}
-use Rattle.protocol.specs.declared.Verdict.TheVariants.{Fits, Fault}
 use Rattle.protocol.proofs.Tests.{or_cases, cases_or, or_none}
 use Rattle.protocol.proofs.Verdicts.{left_fits, right_fits}
 use Rattle.folds.specs.Folds.{first_fault, any_of, first_index, list_of, joined, sum_of}
+use Rattle.std.specs.Prelude.{Ok, Err}
 
 -- by the last number or one before it
 pub last : {A : Type 0} (i n : ℕ) → i < suc n → (i < n → A) → (i ≡ n → A) → A
@@ -31,34 +30,34 @@ unfolding first_fault
 fault_next f i p q = q ∙ rw (p, add-one i)
 
 -- one more that fits
-pub fits_next : (f : ℕ → Verdict) (i : ℕ) → first_fault f i ≡ Fits → f i ≡ Fits → first_fault f (i + 1) ≡ Fits
+pub fits_next : (f : ℕ → Verdict) (i : ℕ) → first_fault f i ≡ no_fault → f i ≡ no_fault → first_fault f (i + 1) ≡ no_fault
 unfolding first_fault first_of
 fits_next f i p q = rw (add-one i, p, q)
 
 -- a fault behind those that fit is the first
-pub fault_at : (f : ℕ → Verdict) (n i : ℕ) (r : Refusal) → first_fault f i ≡ Fits → i < n → f i ≡ Fault r → first_fault f n ≡ Fault r
+pub fault_at : (f : ℕ → Verdict) (n i : ℕ) (r : Refusal) → first_fault f i ≡ no_fault → i < n → f i ≡ Err r → first_fault f n ≡ Err r
 unfolding first_fault first_of
 fault_at f zero i r e h q = absurd (omega arith)
 fault_at f (suc n) i r e h q = last i n h (λ l. rw (fault_at f n i r e l q)) (λ l. rw (← l, e, q))
 
 -- all fit exactly where each does
 -- a fault found stands at one of them, behind those that fit
-pub fault_of : (f : ℕ → Verdict) (n : ℕ) (r : Refusal) → first_fault f n ≡ Fault r → (i : ℕ) × ((i < n) × ((first_fault f i ≡ Fits) × (f i ≡ Fault r)))
+pub fault_of : (f : ℕ → Verdict) (n : ℕ) (r : Refusal) → first_fault f n ≡ Err r → (i : ℕ) × ((i < n) × ((first_fault f i ≡ no_fault) × (f i ≡ Err r)))
 unfolding first_fault first_of
 fault_of f zero r e = let z : ◌≡◌ {A = ℕ} 0 1 = cc in absurd (omega arith)
 fault_of f (suc n) r e = by_first (fault_of f n r) (first_fault f n) refl e
   where
-    by_first : (first_fault f n ≡ Fault r → (i : ℕ) × ((i < n) × ((first_fault f i ≡ Fits) × (f i ≡ Fault r)))) → (v : Verdict) → first_fault f n ≡ v
-        → first_of v (f n) ≡ Fault r → (i : ℕ) × ((i < suc n) × ((first_fault f i ≡ Fits) × (f i ≡ Fault r)))
-    by_first before Fits q e = (n, (omega arith, (q, e)))
-    by_first before (Fault x) q e = let h = before (q ∙ e) in let l : h.0 < n = h.1.0 in (h.0, (omega arith, h.1.1))
+    by_first : (first_fault f n ≡ Err r → (i : ℕ) × ((i < n) × ((first_fault f i ≡ no_fault) × (f i ≡ Err r)))) → (v : Verdict) → first_fault f n ≡ v
+        → first_of v (f n) ≡ Err r → (i : ℕ) × ((i < suc n) × ((first_fault f i ≡ no_fault) × (f i ≡ Err r)))
+    by_first before (Ok _) q e = (n, (omega arith, (q, e)))
+    by_first before (Err x) q e = let h = before (q ∙ e) in let l : h.0 < n = h.1.0 in (h.0, (omega arith, h.1.1))
 
-pub fits_each : (f : ℕ → Verdict) (n : ℕ) → first_fault f n ≡ Fits → (i : ℕ) → i < n → f i ≡ Fits
+pub fits_each : (f : ℕ → Verdict) (n : ℕ) → first_fault f n ≡ no_fault → (i : ℕ) → i < n → f i ≡ no_fault
 unfolding first_fault
 fits_each f zero e i h = absurd (omega arith)
 fits_each f (suc n) e i h = last i n h (λ k. fits_each f n (left_fits _ _ e) i k) (λ k. rw k (right_fits _ _ e))
 
-pub each_fits : (f : ℕ → Verdict) (n : ℕ) → ((i : ℕ) → i < n → f i ≡ Fits) → first_fault f n ≡ Fits
+pub each_fits : (f : ℕ → Verdict) (n : ℕ) → ((i : ℕ) → i < n → f i ≡ no_fault) → first_fault f n ≡ no_fault
 unfolding first_fault first_of
 each_fits f zero h = refl
 each_fits f (suc n) h = rw (each_fits f n (λ i k. h i (omega arith)), h n (omega arith))

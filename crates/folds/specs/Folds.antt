@@ -1,12 +1,10 @@
 -- What is gathered over the numbers 0 to n - 1, in order: the first fault, whether any does, the first that does, a list, bytes, a sum.
 use Rattle.std.specs.Prelude.{ℕ, zero, suc, ◌+◌, Bool, false, cond, ◌||◌, List, [], ◌∷◌, ◌++◌}
-use Rattle.protocol.specs.Verdict.{first_of}
-use Rattle.protocol.specs.declared.Verdict.{Verdict}
-use Rattle.protocol.specs.declared.Verdict.TheVariants.{Fits}
+use Rattle.protocol.specs.Verdict.{first_of, no_fault, Verdict}
 
 -- the first fault of f 0, f 1, ..
 unfoldable pub first_fault : (ℕ → Verdict) → ℕ → Verdict
-first_fault f zero = Fits
+first_fault f zero = no_fault
 first_fault f (suc n) = first_of (first_fault f n) (f n)
 
 -- whether t holds of any

@@ -1,12 +1,9 @@
 -- The commands that the handshake knows (document 01, "Known services" and "The handshake"), and what a list of services says of VERSION.
-use Rattle.std.specs.Prelude.{ℕ, List}
-use Rattle.protocol.specs.Service.{id_at, extensions}
+use Rattle.std.specs.Prelude.{ℕ, List, Ok, Err}
+use Rattle.protocol.specs.Service.{id_at, extensions, Carried}
 use Rattle.protocol.specs.declared.service.Kind.{Kind}
 use Rattle.protocol.specs.declared.service.Kind.TheVariants as kind
-use Rattle.protocol.specs.declared.service.Carried.{Carried}
-use Rattle.protocol.specs.declared.service.Carried.TheVariants as carried
-use Rattle.services_query.specs.ServicesQuery.{listed_of}
-use Rattle.services_query.specs.declared.ListedAnswer.{ListedAnswer}
+use Rattle.services_query.specs.ServicesQuery.{listed_of, ListedAnswer}
 use Rattle.handshake.specs.declared.Role.{Role}
 use Rattle.handshake.specs.declared.Role.TheVariants as role
 
@@ -29,8 +26,8 @@ role_of_kind kind.SetPin = role.Other
 role_of_kind kind.PinInfo = role.Other
 
 unfoldable pub role_of : Carried → Role
-role_of (carried.Payload k) = role_of_kind k
-role_of (carried.Refused r) = role.Other
+role_of (Ok k) = role_of_kind k
+role_of (Err r) = role.Other
 
 -- whether the services list s holds VERSION
 abbrev pub version_listed : List ℕ → ListedAnswer

@@ -1,15 +1,15 @@
 -- Versions as the handshake meets them (document 01, "The handshake"): BCD numbers, and which of two is larger.
-use Rattle.std.specs.Prelude.{ℕ, Bool, true, false, not, cond, [], ◌∷◌, eqb}
+use Rattle.std.specs.Prelude.{ℕ, Bool, true, false, not, cond, [], ◌∷◌, eqb, Ok, Err, Result}
 use Rattle.protocol.specs.Refusal.{wrong_version}
-use Rattle.protocol.specs.Verdict.{rule, judge}
-use Rattle.protocol.specs.declared.Verdict.{Verdict}
-use Rattle.protocol.specs.declared.Verdict.TheVariants.{Fits, Fault}
+use Rattle.protocol.specs.Verdict.{rule, judge, Verdict}
 use Rattle.protocol.specs.declared.Version.{Version}
 use Rattle.protocol.specs.declared.Version.TheVariants.{V1, V2}
 use Rattle.version_info.specs.VersionInfo.{is_extension}
 use Rattle.version_info.specs.declared.VersionInfo.{VersionInfo}
-use Rattle.handshake.specs.declared.Numbered.{Numbered}
-use Rattle.handshake.specs.declared.Numbered.TheVariants.{At, Refused}
+use Rattle.protocol.specs.declared.Refusal.{Refusal}
+
+abbrev pub Numbered : Type 0
+Numbered = Result Version Refusal
 
 -- ---- numbers
 
@@ -36,8 +36,8 @@ version_of n = cond (eqb n extensions2) V2 V1
 
 -- a number judged, and then its version
 abbrev pub numbered_by : Verdict → Version → Numbered
-numbered_by Fits v = At v
-numbered_by (Fault r) v = Refused r
+numbered_by (Ok _) v = Ok v
+numbered_by (Err r) v = Err r
 
 unfoldable pub numbered : ℕ → Numbered
 numbered n = numbered_by (number_verdict n) (version_of n)

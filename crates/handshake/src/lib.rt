@@ -5,18 +5,12 @@
 
 ghost use Rattle.std.specs.Prelude.{◌≡◌};
 ghost use Rattle.handshake.specs.Versions.{number_of, number_verdict, version_of, numbered, info_of, larger, lower, above, is_later};
-ghost use Rattle.handshake.specs.Commands.{role_of_kind, role_of};
+ghost use Rattle.handshake.specs.Commands.{role_of};
 
-use protocol::service::{Carried, Kind};
-use protocol::{Refusal, Verdict, Version, WRONG_VERSION, also};
+use protocol::service::Kind;
+use protocol::{Reason, Refusal, Verdict, Version, refuse_if};
+use std::cmp::{max, min};
 use version_info::{EXTENSIONS_1_0, EXTENSIONS_2_0, MBIM_1_0, VersionInfo, is_extension};
-
-// What a BCD number stands for.
-#[derive(Clone, Copy)]
-pub enum Numbered {
-    At(Version),
-    Refused(Refusal),
-}
 
 // What a command is to the handshake.
 #[derive(Clone, Copy)]
@@ -26,44 +20,33 @@ pub enum Role {
     Other,
 }
 
-// The version of a number, which is judged.
-pub fn version_at(number: u16) -> Numbered
+// The version of a number, which is judged. Version and its numbers belong to crates below, so that no
+// From or TryFrom of it can stand here.
+#[tactic(auto, unfolding(crate::specs::Versions::numbered))]
+pub fn version_at(number: u16) -> Result<Version, Refusal>
     ensures { result ≡ numbered number }
 {
-    match judge_number(number) {
-        Verdict::Fits => Numbered::At(version_of(number)),
-        Verdict::Fault(refusal) => Numbered::Refused(refusal),
-    }
+    judge_number(number)?;
+    Ok(version_of(number))
 }
 
-pub fn role_of(carried: Carried) -> Role
+#[tactic(auto, unfolding(crate::specs::Commands::role_of, crate::specs::Commands::role_of_kind))]
+pub fn role_of(carried: Result<Kind, Refusal>) -> Role
     ensures { result ≡ role_of carried }
 {
     match carried {
-        Carried::Payload(kind) => role_of_kind(kind),
-        Carried::Refused(_) => Role::Other,
-    }
-}
-
-fn role_of_kind(kind: Kind) -> Role
-    ensures { result ≡ role_of_kind kind }
-{
-    match kind {
-        Kind::RegisterState => Role::Other,
-        Kind::PacketService => Role::Other,
-        Kind::SignalState => Role::Other,
-        Kind::DeviceServices => Role::Services,
-        Kind::VersionInfo => Role::Version,
-        Kind::SetPin => Role::Other,
-        Kind::PinInfo => Role::Other,
+        Ok(Kind::DeviceServices) => Role::Services,
+        Ok(Kind::VersionInfo) => Role::Version,
+        _ => Role::Other,
     }
 }
 
 // The verdict on a number that is to be a version's.
+#[tactic(auto, unfolding(crate::specs::Versions::number_verdict, protocol::specs::Verdict::judge_from, protocol::specs::Verdict::first_of))]
 pub fn judge_number(number: u16) -> Verdict
     ensures { result ≡ number_verdict number }
 {
-    also(Verdict::Fits, !is_extension(number), WRONG_VERSION, 0)
+    refuse_if(!is_extension(number), Reason::WrongVersion, 0)
 }
 
 // The version of one of the two numbers.
@@ -71,9 +54,10 @@ pub fn version_of(number: u16) -> Version
     ensures { result ≡ version_of number }
 {
     if number == EXTENSIONS_2_0 {
-        return Version::V2;
+        Version::V2
+    } else {
+        Version::V1
     }
-    Version::V1
 }
 
 pub fn number_of(version: Version) -> u16
@@ -86,6 +70,7 @@ pub fn number_of(version: Version) -> u16
 }
 
 // The VERSION payload that carries a version.
+#[tactic(auto, unfolding(crate::specs::Versions::info_of))]
 pub fn info_of(version: Version) -> VersionInfo
     ensures { result ≡ info_of version }
 {
@@ -98,37 +83,25 @@ pub fn info_of(version: Version) -> VersionInfo
 pub fn larger(a: Version, b: Version) -> Version
     ensures { result ≡ larger a b }
 {
-    match a {
-        Version::V1 => b,
-        Version::V2 => Version::V2,
-    }
+    max(a, b)
 }
 
 pub fn lower(a: Version, b: Version) -> Version
     ensures { result ≡ lower a b }
 {
-    match a {
-        Version::V1 => Version::V1,
-        Version::V2 => b,
-    }
+    min(a, b)
 }
 
 // Whether a is above b.
 pub fn is_above(a: Version, b: Version) -> bool
     ensures { result ≡ above a b }
 {
-    match a {
-        Version::V1 => false,
-        Version::V2 => !is_later(b),
-    }
+    b < a
 }
 
 // Whether the version is 2.00.
 pub fn is_later(version: Version) -> bool
     ensures { result ≡ is_later version }
 {
-    match version {
-        Version::V1 => false,
-        Version::V2 => true,
-    }
+    matches!(version, Version::V2)
 }

@@ -8,23 +8,14 @@ use mathlib.Core.List.{List, [], ◌∷◌}
 use native.Mathlib.Omega.{arith}
 use borrow.Author.Tests.{eqb-true, ltb-false}
 use lib.Dec.{eqb}
-use Rattle.protocol.specs.Service.{kind_of}
-use Rattle.protocol.specs.Verdict.{judge}
-use Rattle.protocol.specs.declared.Verdict.{Verdict}
-use Rattle.protocol.specs.declared.Verdict.TheVariants.{Fits, Fault}
+use Rattle.protocol.specs.Service.{kind_of, Carried}
+use Rattle.protocol.specs.Verdict.{judge, no_fault, Verdict, Written}
 use Rattle.protocol.specs.declared.Version.{Version}
 use Rattle.protocol.specs.declared.Version.TheVariants.{V1, V2}
-use Rattle.protocol.specs.declared.Written.{Written}
-use Rattle.protocol.specs.declared.Written.TheVariants as written
-use Rattle.protocol.specs.declared.service.Carried.{Carried}
 use Rattle.protocol.proofs.Tests.{and_both, or_cases, not_kept}
 use Rattle.protocol.proofs.Verdicts.{fits_kept}
 use Rattle.message.specs.declared.MessageHeader.{MessageHeader}
-use Rattle.version_info.specs.VersionInfo.{is_extension, read_of, write_of}
-use Rattle.version_info.specs.declared.VersionInfoRead.{VersionInfoRead}
-use Rattle.version_info.specs.declared.VersionInfoRead.TheVariants as read
-use Rattle.services_query.specs.declared.ListedAnswer.{ListedAnswer}
-use Rattle.services_query.specs.declared.ListedAnswer.TheVariants as list
+use Rattle.version_info.specs.VersionInfo.{is_extension, read_of, write_of, VersionInfoRead}
 use Rattle.handshake.specs.Versions.{number_verdict, version_of, info_of, larger, lower, above, is_later}
 use Rattle.handshake.specs.Commands.{role_of, version_listed}
 use Rattle.host.specs.Host.{end, opened_by, opened_of, list_rules, accepted_list, judged_list, list_at, list_reply, version_asked, services_reply_of, answered_at, failed_at, answered_by, version_reply_of, reply_role, receive_by, receive_of, made_by, made_of}
@@ -33,15 +24,15 @@ use Rattle.handshake_claims.specs.Calls.{HostCall, host_opens, host_closes, host
 use Rattle.host.specs.declared.HostStage.{HostStage}
 use Rattle.host.specs.declared.HostStage.TheVariants as host
 use Rattle.host.specs.declared.Host.{Host}
-use Rattle.host.specs.declared.HostMade.TheVariants as host_made
 use Rattle.host.specs.declared.HostStep.{HostStep}
 use Rattle.modem.specs.declared.ModemStage.{ModemStage}
 use Rattle.modem.specs.declared.ModemStage.TheVariants as modem
 use Rattle.modem.specs.declared.Modem.{Modem}
-use Rattle.modem.specs.declared.ModemMade.TheVariants as modem_made
 use Rattle.handshake.specs.declared.Role.{Role}
 use Rattle.handshake.specs.declared.Role.TheVariants as role
 use Rattle.handshake_claims.specs.Claims.{HostNeverAbove, ModemNeverAbove}
+use Rattle.std.specs.Prelude.{Ok, Err}
+use Rattle.services_query.specs.ServicesQuery.{ListedAnswer}
 
 -- ---- the host
 
@@ -58,8 +49,8 @@ either n true x y p q = p
 either n false x y p q = q
 
 opened_kept : (d : Verdict) (h : Host) (v : Version) → HostSound h.native h.stage → HostKept h.native (opened_by d h v).host
-opened_kept Fits h v k = (refl, tt)
-opened_kept (Fault r) h v k = (refl, k)
+opened_kept (Ok _) h v k = (refl, tt)
+opened_kept (Err r) h v k = (refl, k)
 
 accepted_kept : (n : Version) (g : HostStage) (a : Version) (listed : Bool) → HostKept n (accepted_list (end n g) a listed).host
 accepted_kept V1 g a listed = (refl, refl)
@@ -67,8 +58,8 @@ accepted_kept V2 g a true = (refl, refl)
 accepted_kept V2 g a false = (refl, refl)
 
 judged_kept : (d : Verdict) (h : Host) (a : Version) (listed : Bool) → HostSound h.native h.stage → HostKept h.native (judged_list d h a listed).host
-judged_kept Fits h a listed k = accepted_kept h.native h.stage a listed
-judged_kept (Fault r) h a listed k = (refl, k)
+judged_kept (Ok _) h a listed k = accepted_kept h.native h.stage a listed
+judged_kept (Err r) h a listed k = (refl, k)
 
 list_kept : (g : HostStage) (h : Host) (listed : Bool) → HostSound h.native h.stage → HostKept h.native (list_at g h listed).host
 unfolding list_at
@@ -79,9 +70,8 @@ list_kept (host.Settled v) h listed k = (refl, k)
 
 reply_kept : (l : ListedAnswer) (h : Host) → HostSound h.native h.stage → HostKept h.native (list_reply h l).host
 unfolding list_reply
-reply_kept list.Listed h k = list_kept h.stage h true k
-reply_kept list.NotListed h k = list_kept h.stage h false k
-reply_kept (list.Refused r) h k = (refl, k)
+reply_kept (Ok listed) h k = list_kept h.stage h listed k
+reply_kept (Err r) h k = (refl, k)
 
 answered_kept : (g : HostStage) (h : Host) (v : Version) → HostSound h.native g → HostSound h.native h.stage → HostKept h.native (answered_at g h v).host
 unfolding answered_at
@@ -99,8 +89,8 @@ failed_kept (host.Settled w) h k s = (refl, s)
 
 payload_kept : (r : VersionInfoRead) (h : Host) → HostSound h.native h.stage → HostKept h.native (answered_by h r).host
 unfolding answered_by
-payload_kept (read.Info i) h k = answered_kept h.stage h (version_of i.bcd_mbim_extended_version) k k
-payload_kept (read.Refused r) h k = (refl, k)
+payload_kept (Ok i) h k = answered_kept h.stage h (version_of i.bcd_mbim_extended_version) k k
+payload_kept (Err r) h k = (refl, k)
 
 message_kept : (x : Role) (h : Host) (status : ℕ) (s : List ℕ) → HostSound h.native h.stage → HostKept h.native (receive_by x h status s).host
 unfolding receive_by services_reply_of version_reply_of
@@ -165,15 +155,15 @@ stage_sound n a l modem.Listed k = tt
 stage_sound n a l (modem.Settled v) k = k
 
 gave_kept : (w : Written) (m : Modem) (v : Version) → MaySettle m v → ModemSound m → ModemKept m (gave_by w m v).modem
-gave_kept (written.Length n) m v b k = (refl, (k.0, b))
-gave_kept (written.Refused r) m v b k = (refl, k)
+gave_kept (Ok n) m v b k = (refl, (k.0, b))
+gave_kept (Err r) m v b k = (refl, k)
 
 answer_kept : (r : VersionInfoRead) (m : Modem) (out : List ℕ) → m.lists_version ≡ true → ModemSound m → ModemKept m (answer_by m r out).step.modem
 unfolding answer_by give_of gave
-answer_kept (read.Info i) m out e k =
+answer_kept (Ok i) m out e k =
     let v = version_of i.bcd_mbim_extended_version in
     gave_kept (write_of (info_of (answer_of m v)) out).answer m (answer_of m v) (may_answer m v k.0 e) k
-answer_kept (read.Refused r) m out e k = (refl, k)
+answer_kept (Err r) m out e k = (refl, k)
 
 -- only a modem that lists VERSION answers it
 answers_listed : (m : Modem) (type : ℕ) → can_answer m type ≡ true → m.lists_version ≡ true
@@ -203,8 +193,8 @@ role_kept role.Other m c type s out k = other_kept m.stage m c k
 
 verdict_kept : (d : Verdict) (m : Modem) (h : MessageHeader) (s out : List ℕ) → ModemSound m → ModemKept m (commanded_by d m h s out).step.modem
 unfolding commanded_by command_of
-verdict_kept Fits m h s out k = role_kept (role_of (kind_of h.service h.cid)) m (kind_of h.service h.cid) h.word s out k
-verdict_kept (Fault r) m h s out k = (refl, k)
+verdict_kept (Ok _) m h s out k = role_kept (role_of (kind_of h.service h.cid)) m (kind_of h.service h.cid) h.word s out k
+verdict_kept (Err r) m h s out k = (refl, k)
 
 pub modem_kept : (m : Modem) (c : ModemCall) → ModemSound m → ModemKept m (modem_after m c)
 unfolding modem_after modem_receive_of
@@ -222,11 +212,11 @@ modem_bounded m (c ∷ cs) k =
 
 -- ---- from ends that are made
 
-made_host : (d : Verdict) (v : Version) (h : Host) → made_by d v ≡ host_made.Made h → h ≡ end v host.Closed
-made_host Fits v h e = cc
-made_host (Fault r) v h e = let z : ◌≡◌ {A = ℕ} 0 1 = cc in absurd (omega arith)
+made_host : (d : Verdict) (v : Version) (h : Host) → made_by d v ≡ Ok h → h ≡ end v host.Closed
+made_host (Ok _) v h e = cc
+made_host (Err r) v h e = cc
 
-pub host_made_sound : (native : ℕ) (h : Host) → made_of native ≡ host_made.Made h → HostSound h.native h.stage
+pub host_made_sound : (native : ℕ) (h : Host) → made_of native ≡ Ok h → HostSound h.native h.stage
 unfolding made_of
 host_made_sound native h e = rw (made_host (number_verdict native) (version_of native) h e) tt
 
@@ -245,14 +235,13 @@ host_never_above native h e cs v q =
 abbrev Started : ℕ → ℕ → Modem → Type 0
 Started native advertised m = (listed : Bool) × (m ≡ modem_end (version_of native) (version_of advertised) listed modem.Start)
 
-listed_modem : (l : ListedAnswer) (n a : ℕ) (m : Modem) → listed_by l (version_of n) (version_of a) ≡ modem_made.Made m → Started n a m
-listed_modem list.Listed n a m e = (true, cc)
-listed_modem list.NotListed n a m e = (false, cc)
-listed_modem (list.Refused r) n a m e = let z : ◌≡◌ {A = ℕ} 0 1 = cc in absurd (omega arith)
+listed_modem : (l : ListedAnswer) (n a : ℕ) (m : Modem) → listed_by l (version_of n) (version_of a) ≡ Ok m → Started n a m
+listed_modem (Ok listed) n a m e = (listed, cc)
+listed_modem (Err r) n a m e = cc
 
-made_modem : (d : Verdict) (n a : ℕ) (s : List ℕ) (m : Modem) → modem_made_by d n a s ≡ modem_made.Made m → (d ≡ Fits) × Started n a m
-made_modem Fits n a s m e = (refl, listed_modem (version_listed s) n a m e)
-made_modem (Fault r) n a s m e = let z : ◌≡◌ {A = ℕ} 0 1 = cc in absurd (omega arith)
+made_modem : (d : Verdict) (n a : ℕ) (s : List ℕ) (m : Modem) → modem_made_by d n a s ≡ Ok m → (d ≡ no_fault) × Started n a m
+made_modem (Ok _) n a s m e = (refl, listed_modem (version_listed s) n a m e)
+made_modem (Err r) n a s m e = cc
 
 -- a number of the table
 pub extension_cases : (n : ℕ) → is_extension n ≡ true → (n ≡ 0x0100) ⊎ (n ≡ 0x0200)
@@ -265,7 +254,7 @@ advertised_below native advertised (inl p) (inr q) h = absurd (omega arith)
 advertised_below native advertised (inr p) (inl q) h = rw (p, q)
 advertised_below native advertised (inr p) (inr q) h = rw (p, q)
 
-made_sound : (native advertised : ℕ) (listed : Bool) → judge (made_rules native advertised) ≡ Fits
+made_sound : (native advertised : ℕ) (listed : Bool) → judge (made_rules native advertised) ≡ no_fault
     → ModemSound (modem_end (version_of native) (version_of advertised) listed modem.Start)
 unfolding made_rules
 made_sound native advertised listed e =
@@ -275,7 +264,7 @@ made_sound native advertised listed e =
       tt,
     )
 
-pub modem_made_sound : (native advertised : ℕ) (s : List ℕ) (m : Modem) → modem_made_of native advertised s ≡ modem_made.Made m → ModemSound m
+pub modem_made_sound : (native advertised : ℕ) (s : List ℕ) (m : Modem) → modem_made_of native advertised s ≡ Ok m → ModemSound m
 unfolding modem_made_of
 modem_made_sound native advertised s m e =
     let p = made_modem (judge (made_rules native advertised)) native advertised s m e in

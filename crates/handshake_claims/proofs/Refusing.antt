@@ -17,7 +17,7 @@ use Rattle.handshake.specs.Commands.{version_cid, version_listed}
 use Rattle.host.specs.declared.Host.{Host}
 use Rattle.host.specs.Host.{end, list_rules, list_at, list_reply, version_asked, services_reply_of, refused_with}
 use Rattle.handshake_claims.specs.Run.{listed_as, expected}
-use Rattle.handshake_claims.specs.Claims.{AcceptedList, FaultBehind, FaultBefore, number_refused, RefusesExactly}
+use Rattle.handshake_claims.specs.Claims.{AcceptedList, FaultBehind, FaultBefore, expected_reason, RefusesExactly}
 use Rattle.host.specs.declared.HostStage.TheVariants.{Open}
 
 -- what the full question says of an accepted list the question says
@@ -30,8 +30,7 @@ asked_listed false s e =
 -- a list that the question answers is judged by the versions and by whether VERSION is listed
 list_judged : (h : Host) (listed : Bool) (s : List ℕ) → version_asked s ≡ listed_as listed → services_reply_of h 0 s ≡ list_at h.stage h listed
 unfolding services_reply_of list_reply
-list_judged h true s e = rw e
-list_judged h false s e = rw e
+list_judged h listed s e = rw e
 
 pub accepted_list : AcceptedList
 accepted_list h listed s e = list_judged h listed s (asked_listed listed s e)
@@ -47,7 +46,7 @@ pub refuses_exactly : RefusesExactly
 unfolding list_at list_rules judge_from first_of fault_if
 refuses_exactly n k a listed s e = rw (list_judged (end n (Open a)) listed s e) (by_rule n a listed)
   where
-    by_rule : (n a : Version) (listed : Bool) → refused_with (list_at (Open a) (end n (Open a)) listed).answer ≡ number_refused (expected n k a listed)
+    by_rule : (n a : Version) (listed : Bool) → refused_with (list_at (Open a) (end n (Open a)) listed).answer ≡ expected_reason (expected n k a listed)
     by_rule V1 V1 listed = refl
     by_rule V1 V2 listed = refl
     by_rule V2 V1 true = refl

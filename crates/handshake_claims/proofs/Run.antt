@@ -8,19 +8,14 @@ use native.Mathlib.Omega.{arith}
 use borrow.Author.Tests.{ne_eqb}
 use lib.ListN.{length, take}
 use Rattle.wire.specs.Numbers.{u32_at}
-use Rattle.protocol.specs.Service.{basic_connect, extensions, id_at, same_id, among, kind_of}
-use Rattle.protocol.specs.Verdict.{judge, judge_from, first_of, fault_if}
-use Rattle.protocol.specs.declared.Verdict.TheVariants.{Fits}
+use Rattle.protocol.specs.Service.{basic_connect, extensions, id_at, same_id, among, kind_of, Carried}
+use Rattle.protocol.specs.Verdict.{judge, judge_from, first_of, fault_if, no_fault}
 use Rattle.protocol.specs.declared.Version.{Version}
 use Rattle.protocol.specs.declared.Version.TheVariants.{V1, V2}
-use Rattle.protocol.specs.declared.Written.TheVariants.{Length}
 use Rattle.protocol.specs.declared.service.Kind.TheVariants.{DeviceServices, VersionInfo}
-use Rattle.protocol.specs.declared.service.Carried.{Carried}
-use Rattle.protocol.specs.declared.service.Carried.TheVariants.{Payload, Refused}
 use Rattle.protocol.specs.MessageType.{COMMAND, COMMAND_DONE}
 use Rattle.protocol.proofs.Verdicts.{both_written, written_front, kept_fits}
 use Rattle.version_info.specs.VersionInfo.{rules, verdict_of, read_of, bytes_of, write_of}
-use Rattle.version_info.specs.declared.VersionInfoRead.TheVariants.{Info}
 use Rattle.version_info.proofs.RoundTrip.{bytes_read}
 use Rattle.handshake.specs.Versions.{number_of, number_verdict, version_of, info_of, larger, lower}
 use Rattle.message.specs.declared.MessageHeader.{MessageHeader}
@@ -32,20 +27,20 @@ use Rattle.handshake_claims.specs.Run.{Message, headed, asks_services, asks_vers
 use Rattle.host.specs.declared.HostStage.{HostStage}
 use Rattle.host.specs.declared.HostStage.TheVariants as host
 use Rattle.host.specs.declared.Host.{Host}
-use Rattle.host.specs.declared.HostMade.TheVariants as host_made
 use Rattle.host.specs.declared.HostAnswer.TheVariants as answer
 use Rattle.modem.specs.declared.ModemStage.TheVariants as modem
 use Rattle.handshake.specs.declared.Role.TheVariants as role
 use Rattle.handshake_claims.proofs.Refusing.{accepted_list}
 use Rattle.handshake_claims.specs.Claims.{MadeByList, EndsSettle}
+use Rattle.std.specs.Prelude.{Ok, Err}
 
 -- ---- the two commands of the handshake
 
-kind_services : kind_of (id_at basic_connect 0) services_cid ≡ Payload DeviceServices
+kind_services : kind_of (id_at basic_connect 0) services_cid ≡ Ok DeviceServices
 unfolding kind_of among same_id id_at u32_at basic_connect extensions
 kind_services = refl
 
-kind_version : kind_of (id_at extensions 0) version_cid ≡ Payload VersionInfo
+kind_version : kind_of (id_at extensions 0) version_cid ≡ Ok VersionInfo
 unfolding kind_of among same_id id_at u32_at basic_connect extensions
 kind_version = refl
 
@@ -55,13 +50,13 @@ pub version_back : (v : Version) → version_of (number_of v) ≡ v
 version_back V1 = refl
 version_back V2 = refl
 
-fits : (v : Version) → verdict_of (info_of v) ≡ Fits
+fits : (v : Version) → verdict_of (info_of v) ≡ no_fault
 unfolding verdict_of rules judge_from first_of fault_if info_of
 fits V1 = refl
 fits V2 = refl
 
 -- with room, a version is written in four bytes, and is read from them
-written : (v : Version) (out : List ℕ) → 4 ≤ length out → (write_of (info_of v) out).answer ≡ Length 4
+written : (v : Version) (out : List ℕ) → 4 ≤ length out → (write_of (info_of v) out).answer ≡ Ok 4
 unfolding write_of bytes_of
 written v out h = both_written (verdict_of (info_of v)) (bytes_of (info_of v)) out (fits v) h
 
@@ -70,7 +65,7 @@ number_in : (v : Version) → version_of (info_of v).bcd_mbim_extended_version �
 unfolding info_of
 number_in v = version_back v
 
-bytes_back : (v : Version) → read_of (bytes_of (info_of v)) ≡ Info (info_of v)
+bytes_back : (v : Version) → read_of (bytes_of (info_of v)) ≡ Ok (info_of v)
 bytes_back v = bytes_read (info_of v) (fits v)
 
 front : (v : Version) (out : List ℕ) → 4 ≤ length out → take 4 (write_of (info_of v) out).output ≡ bytes_of (info_of v)
@@ -84,7 +79,7 @@ unfolding opened_of number_verdict judge_from first_of fault_if
 just_opened n g V1 = refl
 just_opened n g V2 = refl
 
-pub host_made_lem : (n : Version) → made_of (number_of n) ≡ host_made.Made (end n host.Closed)
+pub host_made_lem : (n : Version) → made_of (number_of n) ≡ Ok (end n host.Closed)
 unfolding made_of number_verdict judge_from first_of fault_if
 host_made_lem V1 = refl
 host_made_lem V2 = refl
@@ -92,18 +87,15 @@ host_made_lem V2 = refl
 -- a modem lists VERSION exactly where its list does
 pub made_by_list : MadeByList
 unfolding modem_made_of made_rules judge_from first_of fault_if
-made_by_list V1 V1 true s e l = rw l
-made_by_list V1 V1 false s e l = rw l
-made_by_list V1 V2 listed s e l = let z : ◌≡◌ {A = ℕ} 0 1 = cc in absurd (omega arith)
-made_by_list V2 V1 true s e l = rw l
-made_by_list V2 V1 false s e l = rw l
-made_by_list V2 V2 true s e l = rw l
-made_by_list V2 V2 false s e l = rw l
+made_by_list V1 V1 listed s e l = rw l
+made_by_list V1 V2 listed s e l = cc
+made_by_list V2 V1 listed s e l = rw l
+made_by_list V2 V2 listed s e l = rw l
 
 -- ---- each turn
 
 -- a COMMAND of a transaction is taken
-commanded : (h : MessageHeader) → h.message_type ≡ COMMAND → 0 < h.transaction → judge (command_rules h) ≡ Fits
+commanded : (h : MessageHeader) → h.message_type ≡ COMMAND → 0 < h.transaction → judge (command_rules h) ≡ no_fault
 commanded h e n = let z : h.transaction ≡ 0 → ⊥ = λ q. omega arith in kept_fits (command_rules h) (rw e refl, (ne_eqb _ _ z, tt))
 
 -- a reply is taken for what its service and CID say
@@ -118,8 +110,8 @@ version_heard h t status s = rw kind_version
 other_after : (l : Line) (h : Host) (c : Carried) (x : Message) (out services : List ℕ) → role_of (kind_of x.header.service x.header.cid) ≡ role.Other
     → Passes l x 0 services → Passes l x no_device_support [] → after_reply h (reaches l.back (reply_by (served_as c) x.header out services)) ≡ unchanged h
 unfolding after_reply receive_of receive_by reply_role
-other_after l h (Payload k) x out services o p q = rw (p.1, o)
-other_after l h (Refused r) x out services o p q = rw (q.1, o)
+other_after l h (Ok k) x out services o p q = rw (p.1, o)
+other_after l h (Err r) x out services o p q = rw (q.1, o)
 
 module _ (l : Line) (w : Rooms) (t : ℕ) (numbered : 0 < t) (given : Message) (s : List ℕ) where
   -- DEVICE_SERVICES and its reply
@@ -143,7 +135,7 @@ module _ (l : Line) (w : Rooms) (t : ℕ) (numbered : 0 < t) (given : Message) (
   -- another command, to ends that run 1.00
   other_turn : (n k : Version) (listed : Bool) → OtherCommand given → Passes l given 0 s → Passes l given no_device_support []
       → turn l w t given s (end n (host.Settled V1)) (modem_end k V1 listed modem.Listed)
-      ≡ record { host = end n (host.Settled V1); modem = modem_end k V1 listed (modem.Settled V1); answer = answer.Unchanged; sent = sends given }
+      ≡ record { host = end n (host.Settled V1); modem = modem_end k V1 listed (modem.Settled V1); answer = (Ok answer.Unchanged); sent = sends given }
   unfolding turn ask_of command_over taken answered modem_receive_of commanded_by command_of command_by other_at
   other_turn n k listed o p q =
       let x = given.header in
@@ -157,7 +149,7 @@ module _ (l₁ l₂ : Line) (w₁ w₂ : Rooms) (t₁ t₂ : ℕ) (given : Messa
   first_turn = list_turn l₁ w₁ t₁ r.first_numbered given s n k a listed r.services_passes r.list
 
   last_other : turn l₂ w₂ t₂ given s (end n (host.Settled V1)) (modem_end k V1 listed modem.Listed)
-      ≡ record { host = end n (host.Settled V1); modem = modem_end k V1 listed (modem.Settled V1); answer = answer.Unchanged; sent = sends given }
+      ≡ record { host = end n (host.Settled V1); modem = modem_end k V1 listed (modem.Settled V1); answer = (Ok answer.Unchanged); sent = sends given }
   last_other = other_turn l₂ w₂ t₂ r.second_numbered given s n k listed r.other r.served_passes r.unknown_passes
 
   last_version : turn l₂ w₂ t₂ given s (end n (host.AwaitsVersion a)) (modem_end k a true modem.Listed)
@@ -182,7 +174,7 @@ module _ (l₁ l₂ : Line) (w₁ w₂ : Rooms) (t₁ t₂ : ℕ) (given : Messa
       rw (first_turn l₁ l₂ w₁ w₂ t₁ t₂ given s V2 V2 V1 true r, last_version l₁ l₂ w₁ w₂ t₁ t₂ given s V2 V2 V1 true r)
       (record { sent = refl; host = refl; modem = refl; below_host = refl; below_modem = refl })
   from_start V2 k V2 false r = rw (first_turn l₁ l₂ w₁ w₂ t₁ t₂ given s V2 k V2 false r) (record { sent = refl; answer = refl; host = refl; modem = refl })
-  from_start V2 V1 V2 true r = let z : ◌≡◌ {A = ℕ} 0 1 = cc r.below in absurd (omega arith)
+  from_start V2 V1 V2 true r = absurd (cc r.below)
   from_start V2 V2 V2 true r =
       rw (first_turn l₁ l₂ w₁ w₂ t₁ t₂ given s V2 V2 V2 true r, last_version l₁ l₂ w₁ w₂ t₁ t₂ given s V2 V2 V2 true r)
       (record { sent = refl; host = refl; modem = refl; below_host = refl; below_modem = refl })

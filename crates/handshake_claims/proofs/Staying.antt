@@ -5,18 +5,11 @@ use mathlib.Core.Path.{◌≡◌, refl, ap}
 use mathlib.Core.Bool.{Bool, true, false, cond}
 use mathlib.Core.List.{List, [], ◌∷◌}
 use lib.Dec.{eqb}
-use Rattle.protocol.specs.Service.{kind_of}
-use Rattle.protocol.specs.Verdict.{judge}
-use Rattle.protocol.specs.declared.Verdict.{Verdict}
-use Rattle.protocol.specs.declared.Verdict.TheVariants.{Fits, Fault}
+use Rattle.protocol.specs.Service.{kind_of, Carried}
+use Rattle.protocol.specs.Verdict.{judge, Verdict}
 use Rattle.protocol.specs.declared.Version.{Version}
-use Rattle.protocol.specs.declared.service.Carried.{Carried}
 use Rattle.message.specs.declared.MessageHeader.{MessageHeader}
-use Rattle.version_info.specs.VersionInfo.{read_of}
-use Rattle.version_info.specs.declared.VersionInfoRead.{VersionInfoRead}
-use Rattle.version_info.specs.declared.VersionInfoRead.TheVariants as read
-use Rattle.services_query.specs.declared.ListedAnswer.{ListedAnswer}
-use Rattle.services_query.specs.declared.ListedAnswer.TheVariants as list
+use Rattle.version_info.specs.VersionInfo.{read_of, VersionInfoRead}
 use Rattle.handshake.specs.Commands.{role_of}
 use Rattle.host.specs.Host.{list_at, list_reply, version_asked, services_reply_of, answered_at, failed_at, answered_by, version_reply_of, reply_role, receive_by, receive_of}
 use Rattle.modem.specs.Modem.{at, listed_stage, services_of, can_answer, version_of_command, other_at, command_by, command_of, command_rules, receive_by as commanded_by, receive_of as modem_receive_of}
@@ -29,6 +22,8 @@ use Rattle.modem.specs.declared.Modem.{Modem}
 use Rattle.handshake.specs.declared.Role.{Role}
 use Rattle.handshake.specs.declared.Role.TheVariants as role
 use Rattle.handshake_claims.specs.Claims.{HostStays, ModemStays}
+use Rattle.std.specs.Prelude.{Ok, Err}
+use Rattle.services_query.specs.ServicesQuery.{ListedAnswer}
 
 -- ---- the host
 
@@ -39,14 +34,13 @@ either h false x y p q = q
 module _ (h : Host) (v : Version) (e : h.stage ≡ host.Settled v) where
   by_list : (a : ListedAnswer) → (list_reply h a).host ≡ h
   unfolding list_reply list_at
-  by_list list.Listed = rw e
-  by_list list.NotListed = rw e
-  by_list (list.Refused r) = refl
+  by_list (Ok listed) = rw e
+  by_list (Err r) = refl
 
   by_payload : (a : VersionInfoRead) → (answered_by h a).host ≡ h
   unfolding answered_by answered_at
-  by_payload (read.Info i) = rw e
-  by_payload (read.Refused r) = refl
+  by_payload (Ok i) = rw e
+  by_payload (Err r) = refl
 
   by_failure : (failed_at h.stage h).host ≡ h
   unfolding failed_at
@@ -93,8 +87,8 @@ module _ (m : Modem) (v : Version) (e : m.stage ≡ modem.Settled v) where
 
   by_verdict : (d : Verdict) (h : MessageHeader) (s out : List ℕ) → (commanded_by d m h s out).step.modem ≡ m
   unfolding commanded_by command_of
-  by_verdict Fits h s out = by_role (role_of (kind_of h.service h.cid)) (kind_of h.service h.cid) h.word s out
-  by_verdict (Fault r) h s out = refl
+  by_verdict (Ok _) h s out = by_role (role_of (kind_of h.service h.cid)) (kind_of h.service h.cid) h.word s out
+  by_verdict (Err r) h s out = refl
 
 pub modem_stays : ModemStays
 unfolding modem_after_all modem_after modem_receive_of

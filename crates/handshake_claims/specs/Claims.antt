@@ -1,11 +1,11 @@
 -- What is claimed of the ends beside the promises.
 -- In this order: how a modem is made; a list received; when a host refuses; what settled ends do; what a run comes to.
-use Rattle.std.specs.Prelude.{ℕ, ◌≡◌, Bool, true, false, List}
+use Rattle.std.specs.Prelude.{ℕ, ◌≡◌, Bool, true, false, List, Ok, Err, Option, Some, None}
 use Rattle.protocol.specs.declared.Version.{Version}
 use Rattle.handshake.specs.Versions.{above, version_of, number_of}
 use Rattle.protocol.specs.Service.{id_at, extensions}
 use Rattle.protocol.specs.declared.Refusal.{Refusal}
-use Rattle.protocol.specs.declared.Verdict.TheVariants.{Fault}
+use Rattle.protocol.specs.declared.Reason.{Reason}
 use Rattle.device_services.specs.DeviceServices.{verdict_of}
 use Rattle.services_ask.specs.Claims.{Reached}
 use Rattle.handshake.specs.Commands.{version_cid, version_listed}
@@ -16,16 +16,14 @@ use Rattle.handshake_claims.specs.Run.{Message, Line, Rooms, Expected, refuses, 
 use Rattle.host.specs.declared.Host.{Host}
 use Rattle.host.specs.declared.HostStage.{HostStage}
 use Rattle.host.specs.declared.HostStage.TheVariants as host
-use Rattle.host.specs.declared.HostMade.TheVariants as host_made
 use Rattle.modem.specs.declared.Modem.{Modem}
 use Rattle.modem.specs.declared.ModemStage.{ModemStage}
 use Rattle.modem.specs.declared.ModemStage.TheVariants as modem
-use Rattle.modem.specs.declared.ModemMade.TheVariants as modem_made
 
 -- a modem lists VERSION exactly where its list does
 abbrev pub MadeByList : Type 0
 MadeByList = (k a : Version) (listed : Bool) (s : List ℕ) → above a k ≡ false → version_listed s ≡ listed_as listed
-    → modem_made_of (number_of k) (number_of a) s ≡ modem_made.Made (modem_end k a listed modem.Start)
+    → modem_made_of (number_of k) (number_of a) s ≡ Ok (modem_end k a listed modem.Start)
 
 -- 02, order 7: what a host makes of a list received, in any stage. By an accepted one it goes as before
 abbrev pub AcceptedList : Type 0
@@ -41,17 +39,17 @@ FaultBehind = (h : Host) (s : List ℕ) (i k : ℕ) → VersionReached s i k →
 
 -- else it refuses a faulty list as the full reader does
 abbrev pub FaultBefore : Type 0
-FaultBefore = (h : Host) (s : List ℕ) (r : Refusal) → verdict_of s ≡ Fault r → ((i k : ℕ) → VersionReached s i k → ⊥) → services_reply_of h 0 s ≡ refused h r
+FaultBefore = (h : Host) (s : List ℕ) (r : Refusal) → verdict_of s ≡ Err r → ((i k : ℕ) → VersionReached s i k → ⊥) → services_reply_of h 0 s ≡ refused h r
 
--- the number that the rule refuses with, 0 where it settles
-abbrev pub number_refused : Expected → ℕ
-number_refused (refuses n) = n
-number_refused (settles v) = 0
+-- the reason that the rule refuses for, none where it settles
+abbrev pub expected_reason : Expected → Option Reason
+expected_reason (refuses r) = Some r
+expected_reason (settles v) = None
 
--- at a list that the question answers an opened host refuses exactly where the rule does, with the rule's number
+-- at a list that the question answers an opened host refuses exactly where the rule does, for the rule's reason
 abbrev pub RefusesExactly : Type 0
 RefusesExactly = (n k a : Version) (listed : Bool) (s : List ℕ) → version_asked s ≡ listed_as listed
-    → refused_with (services_reply_of (end n (host.Open a)) 0 s).answer ≡ number_refused (expected n k a listed)
+    → refused_with (services_reply_of (end n (host.Open a)) 0 s).answer ≡ expected_reason (expected n k a listed)
 
 -- a settled end stays as it is in any calls but OPEN and CLOSE
 abbrev pub HostStays : Type 0
@@ -62,11 +60,11 @@ ModemStays = (m : Modem) (v : Version) → m.stage ≡ modem.Settled v → (cs :
 
 -- and none is settled above its native version
 abbrev pub HostNeverAbove : Type 0
-HostNeverAbove = (native : ℕ) (h : Host) → made_of native ≡ host_made.Made h → (cs : List HostCall) (v : Version)
+HostNeverAbove = (native : ℕ) (h : Host) → made_of native ≡ Ok h → (cs : List HostCall) (v : Version)
     → (host_after_all h cs).stage ≡ host.Settled v → above v (version_of native) ≡ false
 
 abbrev pub ModemNeverAbove : Type 0
-ModemNeverAbove = (native advertised : ℕ) (s : List ℕ) (m : Modem) → modem_made_of native advertised s ≡ modem_made.Made m
+ModemNeverAbove = (native advertised : ℕ) (s : List ℕ) (m : Modem) → modem_made_of native advertised s ≡ Ok m
     → (cs : List ModemCall) (v : Version) → (modem_after_all m cs).stage ≡ modem.Settled v → above v m.native ≡ false
 
 -- from ends just opened, whatever they were before, a run comes to what the rule says

@@ -2,7 +2,7 @@
 -- then, unless the host refuses, its first command of another known CID (VERSION exactly where the rule below says so) and the reply".
 -- In this order: messages; what is sent; how messages go; one command and its reply; the run; what it comes to.
 -- Each call is given its end as the one before left it.
-use Rattle.std.specs.Prelude.{ℕ, ◌≤◌, ◌<◌, ◌≡◌, Bool, false, not, cond, ◌&&◌, List, [], length, take}
+use Rattle.std.specs.Prelude.{ℕ, ◌≤◌, ◌<◌, ◌≡◌, Bool, false, not, cond, ◌&&◌, List, [], length, take, Ok, Err, Result}
 use Rattle.protocol.specs.Refusal.{refusal, above_host, version_not_listed}
 use Rattle.protocol.specs.MessageType.{COMMAND, COMMAND_DONE, QUERY}
 use Rattle.protocol.specs.Service.{id_at, basic_connect, extensions, kind_of}
@@ -10,8 +10,6 @@ use Rattle.protocol.specs.declared.Version.{Version}
 use Rattle.protocol.specs.declared.Version.TheVariants.{V1}
 use Rattle.protocol.specs.declared.service.ServiceId.{ServiceId}
 use Rattle.version_info.specs.VersionInfo.{bytes_of}
-use Rattle.services_query.specs.declared.ListedAnswer.{ListedAnswer}
-use Rattle.services_query.specs.declared.ListedAnswer.TheVariants as list
 use Rattle.message.specs.declared.MessageHeader.{MessageHeader}
 use Rattle.handshake.specs.Versions.{info_of, larger, lower, above, is_later}
 use Rattle.handshake.specs.Commands.{services_cid, version_cid, role_of, version_listed}
@@ -22,7 +20,6 @@ use Rattle.handshake.specs.declared.Role.TheVariants as role
 use Rattle.host.specs.declared.HostStage.TheVariants as stage
 use Rattle.host.specs.declared.Host.{Host}
 use Rattle.host.specs.declared.HostAnswer.{HostAnswer}
-use Rattle.host.specs.declared.HostAnswer.TheVariants as answer
 use Rattle.host.specs.declared.HostStep.{HostStep}
 use Rattle.host.specs.declared.Ask.{Ask}
 use Rattle.host.specs.declared.Ask.TheVariants as ask
@@ -30,6 +27,9 @@ use Rattle.modem.specs.declared.ModemStage.TheVariants as modem_stage
 use Rattle.modem.specs.declared.Modem.{Modem}
 use Rattle.modem.specs.declared.ModemAnswer.{ModemAnswer}
 use Rattle.modem.specs.declared.ModemAnswer.TheVariants as modem_answer
+use Rattle.services_query.specs.ServicesQuery.{ListedAnswer}
+use Rattle.protocol.specs.declared.Refusal.{Refusal}
+use Rattle.protocol.specs.declared.Reason.{Reason}
 
 -- ---- messages: a header and its information
 
@@ -62,23 +62,23 @@ pub data Sent : Type 0 where
   sends : Message → Sent
 
 -- the command that the host asks for, in a transaction, VERSION with the bytes that it wrote; where it is free, the given one
-abbrev pub sent_by : Ask → List ℕ → ℕ → Message → Sent
-sent_by ask.Nothing out transaction given = nothing
-sent_by ask.Services out transaction given = sends (asks_services transaction)
-sent_by (ask.Version n) out transaction given = sends (asks_version transaction (take n out))
-sent_by (ask.Free v) out transaction given = sends given
-sent_by (ask.Refused r) out transaction given = nothing
+abbrev pub sent_by : (Result Ask Refusal) → List ℕ → ℕ → Message → Sent
+sent_by (Ok ask.Nothing) out transaction given = nothing
+sent_by (Ok ask.Services) out transaction given = sends (asks_services transaction)
+sent_by (Ok (ask.Version n)) out transaction given = sends (asks_version transaction (take n out))
+sent_by (Ok (ask.Free v)) out transaction given = sends given
+sent_by (Err r) out transaction given = nothing
 
 abbrev pub sent_of : Asking → ℕ → Message → Sent
 sent_of a transaction given = sent_by a.answer a.output transaction given
 
 -- what the modem serves here is its list; of other replies the handshake reads no payload. A refused command, for want of room or of a transaction, has no reply
-abbrev pub reply_by : ModemAnswer → MessageHeader → List ℕ → List ℕ → Sent
-reply_by (modem_answer.Serve k) c out services = sends (reply_to c 0 services)
-reply_by (modem_answer.Version n) c out services = sends (reply_to c 0 (take n out))
-reply_by (modem_answer.Unknown place) c out services = sends (reply_to c no_device_support [])
-reply_by (modem_answer.Failed status) c out services = sends (reply_to c status [])
-reply_by (modem_answer.Refused r) c out services = nothing
+abbrev pub reply_by : (Result ModemAnswer Refusal) → MessageHeader → List ℕ → List ℕ → Sent
+reply_by (Ok (modem_answer.Serve k)) c out services = sends (reply_to c 0 services)
+reply_by (Ok (modem_answer.Version n)) c out services = sends (reply_to c 0 (take n out))
+reply_by (Ok (modem_answer.Unknown place)) c out services = sends (reply_to c no_device_support [])
+reply_by (Ok (modem_answer.Failed status)) c out services = sends (reply_to c status [])
+reply_by (Err r) c out services = nothing
 
 abbrev pub reply_of : Commanding → MessageHeader → List ℕ → Sent
 reply_of d c services = reply_by d.step.answer c d.output services
@@ -103,7 +103,7 @@ Passes l c status s = (l.to c ≡ sends c) × (l.back (reply_to c.header status 
 pub record Both : Type 0 where
   pub host : Host
   pub modem : Modem
-  pub answer : HostAnswer
+  pub answer : Result HostAnswer Refusal
   pub sent : Sent
 
 abbrev pub both : HostStep → Modem → Sent → Both
@@ -137,12 +137,9 @@ turn l w transaction given services h m = command_over l (sent_of (ask_of h w.ho
 -- ---- the run
 
 -- unless the host refuses
-abbrev pub unless_refused : HostAnswer → Both → Both → Both
-unless_refused answer.Unchanged before after = after
-unless_refused answer.Opened before after = after
-unless_refused answer.AsksVersion before after = after
-unless_refused (answer.Settled v) before after = after
-unless_refused (answer.Refused r) before after = before
+abbrev pub unless_refused : (Result HostAnswer Refusal) → Both → Both → Both
+unless_refused (Ok a) before after = after
+unless_refused (Err r) before after = before
 
 abbrev pub and_then : Both → Line → Rooms → ℕ → Message → List ℕ → Both
 and_then b l w transaction given services = unless_refused b.answer b (turn l w transaction given services b.host b.modem)
@@ -154,7 +151,7 @@ run l₁ l₂ w₁ w₂ t₁ t₂ given services h m = and_then (turn l₁ w₁ 
 -- ---- what it comes to
 
 pub data Expected : Type 0 where
-  refuses : ℕ → Expected
+  refuses : Reason → Expected
   settles : Version → Expected
 
 -- "advertised above the host's native: 13; if not, advertised 2.00 with CID 15 not listed: 14. If the host is 2.00 and CID 15 is listed, .. the larger of
@@ -178,20 +175,20 @@ pub record Settles (native_host native_modem version : Version) (command : Messa
   pub below_modem : above version native_modem ≡ false
 
 -- a host that refuses is as it was opened, the modem still waits, and DEVICE_SERVICES was the last command
-pub record Refuses (native advertised : Version) (number transaction : ℕ) (b : Both) : Type 0 where
+pub record Refuses (native advertised : Version) (reason : Reason) (transaction : ℕ) (b : Both) : Type 0 where
   pub sent : b.sent ≡ sends (asks_services transaction)
-  pub answer : b.answer ≡ answer.Refused (refusal number 0)
+  pub answer : b.answer ≡ Err (refusal reason 0)
   pub host : b.host ≡ end native (stage.Open advertised)
   pub modem : b.modem.stage ≡ modem_stage.Listed
 
 -- of a run in the transactions t₁ and t₂
 abbrev pub Outcome : Expected → Version → Version → Version → Bool → ℕ → ℕ → Message → Both → Type 0
-Outcome (refuses n) host modem advertised listed t₁ t₂ given b = Refuses host advertised n t₁ b
+Outcome (refuses r) host modem advertised listed t₁ t₂ given b = Refuses host advertised r t₁ b
 Outcome (settles v) host modem advertised listed t₁ t₂ given b = Settles host modem v (first_command host listed t₂ given) b
 
 -- what a list says of VERSION
 abbrev pub listed_as : Bool → ListedAnswer
-listed_as listed = cond listed list.Listed list.NotListed
+listed_as listed = Ok listed
 
 -- another first command: a COMMAND of a transaction, neither DEVICE_SERVICES nor VERSION
 pub record OtherCommand (given : Message) : Type 0 where

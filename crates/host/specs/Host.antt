@@ -1,23 +1,16 @@
 -- The host's end of the handshake (document 01, "The handshake").
 -- In this order: the end made, opened and closed; what it asks; a reply to DEVICE_SERVICES; a reply to VERSION; any message.
 -- One value gives the answer and the next end, or the answer and the output.
-use Rattle.std.specs.Prelude.{ℕ, Bool, true, false, not, cond, ◌&&◌, List, [], ◌∷◌, eqb}
+use Rattle.std.specs.Prelude.{ℕ, Bool, not, cond, ◌&&◌, List, [], ◌∷◌, eqb, Ok, Err, Result, Option, Some, None}
 use Rattle.protocol.specs.Refusal.{above_host, version_not_listed}
-use Rattle.protocol.specs.Verdict.{Rule, rule, judge, Writing}
+use Rattle.protocol.specs.Verdict.{Rule, rule, judge, Writing, Verdict, Written}
 use Rattle.protocol.specs.MessageType.{COMMAND_DONE}
 use Rattle.protocol.specs.Service.{id_at, extensions, kind_of}
+use Rattle.protocol.specs.declared.Reason.{Reason}
 use Rattle.protocol.specs.declared.Refusal.{Refusal}
-use Rattle.protocol.specs.declared.Verdict.{Verdict}
-use Rattle.protocol.specs.declared.Verdict.TheVariants.{Fits, Fault}
 use Rattle.protocol.specs.declared.Version.{Version}
 use Rattle.protocol.specs.declared.Version.TheVariants.{V1}
-use Rattle.protocol.specs.declared.Written.{Written}
-use Rattle.protocol.specs.declared.Written.TheVariants as written
-use Rattle.version_info.specs.VersionInfo.{read_of, write_of}
-use Rattle.version_info.specs.declared.VersionInfoRead.{VersionInfoRead}
-use Rattle.version_info.specs.declared.VersionInfoRead.TheVariants as read
-use Rattle.services_query.specs.declared.ListedAnswer.{ListedAnswer}
-use Rattle.services_query.specs.declared.ListedAnswer.TheVariants as list
+use Rattle.version_info.specs.VersionInfo.{read_of, write_of, VersionInfoRead}
 use Rattle.message.specs.declared.MessageHeader.{MessageHeader}
 use Rattle.handshake.specs.Versions.{number_verdict, version_of, info_of, larger, above, is_later}
 use Rattle.services_ask.specs.ServicesAsk.{without_position, position_of}
@@ -27,13 +20,12 @@ use Rattle.handshake.specs.declared.Role.TheVariants as role
 use Rattle.host.specs.declared.HostStage.{HostStage}
 use Rattle.host.specs.declared.HostStage.TheVariants.{Closed, Open, AwaitsVersion, Settled}
 use Rattle.host.specs.declared.Host.{Host}
-use Rattle.host.specs.declared.HostMade.{HostMade}
-use Rattle.host.specs.declared.HostMade.TheVariants as made
 use Rattle.host.specs.declared.HostAnswer.{HostAnswer}
 use Rattle.host.specs.declared.HostAnswer.TheVariants as answer
 use Rattle.host.specs.declared.HostStep.{HostStep}
 use Rattle.host.specs.declared.Ask.{Ask}
 use Rattle.host.specs.declared.Ask.TheVariants as ask
+use Rattle.services_query.specs.ServicesQuery.{ListedAnswer}
 
 abbrev pub end : Version → HostStage → Host
 end native stage = record { native = native; stage = stage }
@@ -41,32 +33,40 @@ end native stage = record { native = native; stage = stage }
 abbrev pub at : Host → HostStage → Host
 at h stage = end h.native stage
 
-abbrev pub step : Host → HostAnswer → HostStep
+abbrev pub step : Host → (Result HostAnswer Refusal) → HostStep
 step h a = record { host = h; answer = a }
 
 abbrev pub unchanged : Host → HostStep
-unchanged h = step h answer.Unchanged
+unchanged h = step h (Ok answer.Unchanged)
 
 -- a refusal leaves the end as it was
 abbrev pub refused : Host → Refusal → HostStep
-refused h r = step h (answer.Refused r)
+refused h r = step h (Err r)
+
+-- the step of a reply that is taken; else the refusal
+abbrev pub unless_refused : Host → Result HostStep Refusal → HostStep
+unless_refused h (Ok s) = s
+unless_refused h (Err r) = refused h r
 
 abbrev pub settled_at : Host → Version → HostStep
-settled_at h v = step (at h (Settled v)) (answer.Settled v)
+settled_at h v = step (at h (Settled v)) (Ok (answer.Settled v))
+
+abbrev pub HostMade : Type 0
+HostMade = Result Host Refusal
 
 -- ---- made, opened, closed
 
 abbrev pub made_by : Verdict → Version → HostMade
-made_by Fits v = made.Made (end v Closed)
-made_by (Fault r) v = made.Refused r
+made_by (Ok _) v = Ok (end v Closed)
+made_by (Err r) v = Err r
 
 -- 12, when the end is made
 unfoldable pub made_of : ℕ → HostMade
 made_of native = made_by (number_verdict native) (version_of native)
 
 abbrev pub opened_by : Verdict → Host → Version → HostStep
-opened_by Fits h v = step (at h (Open v)) answer.Opened
-opened_by (Fault r) h v = refused h r
+opened_by (Ok _) h v = step (at h (Open v)) (Ok answer.Opened)
+opened_by (Err r) h v = refused h r
 
 -- "OPEN or CLOSE puts either end's handshake back to its start"; the advertised version is a given number
 unfoldable pub opened_of : Host → ℕ → HostStep
@@ -78,25 +78,25 @@ closed_of h = at h Closed
 -- ---- what it asks
 
 pub record Asking : Type 0 where
-  pub answer : Ask
+  pub answer : Result Ask Refusal
   pub output : List ℕ
 
-abbrev pub plain : Ask → List ℕ → Asking
+abbrev pub plain : (Result Ask Refusal) → List ℕ → Asking
 plain a out = record { answer = a; output = out }
 
-abbrev pub query_by : Written → Ask
-query_by (written.Length n) = ask.Version n
-query_by (written.Refused r) = ask.Refused r
+abbrev pub query_by : Written → Result Ask Refusal
+query_by (Ok n) = Ok (ask.Version n)
+query_by (Err r) = Err r
 
 abbrev pub query : Writing → Asking
 query w = record { answer = query_by w.answer; output = w.output }
 
 -- "the host reads DEVICE_SERVICES first"; "VERSION, a query that carries its native version, is its first command"; a settled host is free
 abbrev pub ask_at : HostStage → Version → List ℕ → Asking
-ask_at Closed native out = plain ask.Nothing out
-ask_at (Open a) native out = plain ask.Services out
+ask_at Closed native out = plain (Ok ask.Nothing) out
+ask_at (Open a) native out = plain (Ok ask.Services) out
 ask_at (AwaitsVersion a) native out = query (write_of (info_of native) out)
-ask_at (Settled v) native out = plain (ask.Free v) out
+ask_at (Settled v) native out = plain (Ok (ask.Free v)) out
 
 unfoldable pub ask_of : Host → List ℕ → Asking
 ask_of h out = ask_at h.stage h.native out
@@ -114,12 +114,12 @@ list_rules native advertised listed =
 abbrev pub accepted_list : Host → Version → Bool → HostStep
 accepted_list h advertised listed =
     cond (is_later h.native && listed)
-    (step (at h (AwaitsVersion advertised)) answer.AsksVersion)
+    (step (at h (AwaitsVersion advertised)) (Ok answer.AsksVersion))
     (settled_at h V1)
 
 abbrev pub judged_list : Verdict → Host → Version → Bool → HostStep
-judged_list Fits h advertised listed = accepted_list h advertised listed
-judged_list (Fault r) h advertised listed = refused h r
+judged_list (Ok _) h advertised listed = accepted_list h advertised listed
+judged_list (Err r) h advertised listed = refused h r
 
 -- only a host that waits for its list goes by it
 unfoldable pub list_at : HostStage → Host → Bool → HostStep
@@ -130,9 +130,8 @@ list_at (Settled v) h listed = unchanged h
 
 -- "a refused reply payload gives that refusal and changes nothing"
 unfoldable pub list_reply : Host → ListedAnswer → HostStep
-list_reply h list.Listed = list_at h.stage h true
-list_reply h list.NotListed = list_at h.stage h false
-list_reply h (list.Refused r) = refused h r
+list_reply h (Ok listed) = list_at h.stage h listed
+list_reply h (Err r) = refused h r
 
 -- 02, order 7: whether the question says that a list received holds VERSION; "the handshake uses the question from now on"
 abbrev pub version_asked : List ℕ → ListedAnswer
@@ -159,8 +158,8 @@ failed_at (AwaitsVersion a) h = settled_at h a
 failed_at (Settled v) h = unchanged h
 
 unfoldable pub answered_by : Host → VersionInfoRead → HostStep
-answered_by h (read.Info i) = answered_at h.stage h (version_of i.bcd_mbim_extended_version)
-answered_by h (read.Refused r) = refused h r
+answered_by h (Ok i) = answered_at h.stage h (version_of i.bcd_mbim_extended_version)
+answered_by h (Err r) = refused h r
 
 unfoldable pub version_reply_of : Host → ℕ → List ℕ → HostStep
 version_reply_of h status s = cond (eqb status 0) (answered_by h (read_of s)) (failed_at h.stage h)
@@ -182,10 +181,7 @@ receive_of h m s = receive_by (reply_role m) h m.word s
 
 -- ---- when it refuses
 
--- the number of a refusal, and 0, which is none of the table's, where nothing is refused
-abbrev pub refused_with : HostAnswer → ℕ
-refused_with answer.Unchanged = 0
-refused_with answer.Opened = 0
-refused_with answer.AsksVersion = 0
-refused_with (answer.Settled v) = 0
-refused_with (answer.Refused r) = r.number
+-- the reason of a refusal, none where nothing is refused
+abbrev pub refused_with : Result HostAnswer Refusal → Option Reason
+refused_with (Ok a) = None
+refused_with (Err r) = Some r.reason

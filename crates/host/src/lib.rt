@@ -2,18 +2,16 @@
 // and then keeps the version that it settled on until it is opened or closed again.
 #![tactic(auto)]
 
-ghost use Rattle.std.specs.Prelude.{◌≡◌, ◌&&◌, not};
+ghost use Rattle.std.specs.Prelude.{◌≡◌, Ok};
 ghost use Rattle.protocol.specs.Verdict.{judge};
-ghost use Rattle.handshake.specs.Versions.{is_later};
-ghost use Rattle.host.specs.Host.{at, unchanged, refused, settled_at, made_of, opened_of, closed_of, ask_of, list_rules, accepted_list, judged_list, list_at, services_reply_of, answered_at, failed_at, version_reply_of, reply_role, receive_of};
+ghost use Rattle.host.specs.Host.{at, step, unless_refused, unchanged, refused, settled_at, made_of, opened_of, closed_of, ask_of, list_rules, judged_list, services_reply_of, answered_at, failed_at, version_reply_of, reply_role, receive_of};
 
-use handshake::{Role, info_of, is_above, is_later, judge_number, larger, role_of, version_of};
+use handshake::{Role, info_of, is_above, is_later, larger, role_of, version_at, version_of};
 use message::MessageHeader;
 use protocol::message_type::COMMAND_DONE;
 use protocol::service::{VERSION, extensions_id, kind_of};
-use protocol::{ABOVE_HOST, Refusal, VERSION_NOT_LISTED, Verdict, Version, Written, also};
-use services_ask::{PositionAnswer, ask};
-use version_info::VersionInfoRead;
+use protocol::{Reason, Refusal, Version, refuse_if};
+use services_ask::ask;
 
 // How far the handshake is.
 #[derive(Clone, Copy)]
@@ -33,12 +31,6 @@ pub struct Host {
     pub stage: HostStage,
 }
 
-#[derive(Clone, Copy)]
-pub enum HostMade {
-    Made(Host),
-    Refused(Refusal),
-}
-
 // What a call did to the handshake.
 #[derive(Clone, Copy)]
 pub enum HostAnswer {
@@ -46,20 +38,19 @@ pub enum HostAnswer {
     Opened,
     AsksVersion,
     Settled(Version),
-    Refused(Refusal),
 }
 
 // The end after a call, and the call's answer.
 #[derive(Clone, Copy)]
 pub struct HostStep {
     pub host: Host,
-    pub answer: HostAnswer,
+    pub answer: Result<HostAnswer, Refusal>,
 }
 
 // The next command.
 #[derive(Clone, Copy)]
 pub enum Ask {
-    // None before the host is open.
+    // No command before the host is open (C interface: each of the four has its number there).
     Nothing,
     // DEVICE_SERVICES.
     Services,
@@ -67,213 +58,157 @@ pub enum Ask {
     Version(usize),
     // Any, at the version settled on.
     Free(Version),
-    Refused(Refusal),
 }
 
 // A host that is not open yet, from the number of its native version.
-pub fn make(native: u16) -> HostMade
+#[tactic(auto, unfolding(crate::specs::Host::made_of, handshake::specs::Versions::numbered))]
+pub fn make(native: u16) -> Result<Host, Refusal>
     ensures { result ≡ made_of native }
 {
-    match judge_number(native) {
-        Verdict::Fits => HostMade::Made(Host {
-            native: version_of(native),
-            stage: HostStage::Closed,
-        }),
-        Verdict::Fault(refusal) => HostMade::Refused(refusal),
-    }
+    let native = version_at(native)?;
+    Ok(Host {
+        native,
+        stage: HostStage::Closed,
+    })
 }
 
 // OPEN to a modem that advertises the version of a number.
+#[tactic(auto, unfolding(crate::specs::Host::opened_of, handshake::specs::Versions::numbered))]
 pub fn open(host: Host, advertised: u16) -> HostStep
     ensures { result ≡ opened_of host advertised }
 {
-    match judge_number(advertised) {
-        Verdict::Fits => HostStep {
-            host: at_stage(
-                host,
-                HostStage::Open {
-                    advertised: version_of(advertised),
-                },
-            ),
-            answer: HostAnswer::Opened,
-        },
-        Verdict::Fault(refusal) => refuse(host, refusal),
+    match version_at(advertised) {
+        Ok(advertised) => go_to(host, HostStage::Open { advertised }, HostAnswer::Opened),
+        Err(refusal) => refuse(host, refusal),
     }
 }
 
 pub fn close(host: Host) -> Host
     ensures { result ≡ closed_of host }
 {
-    at_stage(host, HostStage::Closed)
+    Host {
+        stage: HostStage::Closed,
+        ..host
+    }
 }
 
 // The next command; a VERSION query's payload is written into the output.
-pub fn next_command(host: Host, out: &mut [u8]) -> Ask
+#[tactic(auto, unfolding(crate::specs::Host::ask_of))]
+pub fn next_command(host: Host, out: &mut [u8]) -> Result<Ask, Refusal>
     ensures value { result ≡ (ask_of host out.old).answer }
     ensures out_after { out.new ≡ (ask_of host out.old).output }
 {
-    let stage = host.stage;
-    match stage {
-        HostStage::Closed => Ask::Nothing,
-        HostStage::Open { advertised: _ } => Ask::Services,
-        HostStage::AwaitsVersion { advertised: _ } => {
-            let native = host.native;
-            match version_info::write(info_of(native), out) {
-                Written::Length(n) => Ask::Version(n),
-                Written::Refused(refusal) => Ask::Refused(refusal),
-            }
+    match host.stage {
+        HostStage::Closed => Ok(Ask::Nothing),
+        HostStage::Open { .. } => Ok(Ask::Services),
+        HostStage::AwaitsVersion { .. } => {
+            let n = version_info::write(info_of(host.native), out)?;
+            Ok(Ask::Version(n))
         }
-        HostStage::Settled { version } => Ask::Free(version),
+        HostStage::Settled { version } => Ok(Ask::Free(version)),
     }
 }
 
 // A received message. What is not a reply to DEVICE_SERVICES or VERSION changes nothing.
+#[tactic(auto, unfolding(crate::specs::Host::receive_of, crate::specs::Host::receive_by))]
 pub fn receive(host: Host, message: MessageHeader, information: &[u8]) -> HostStep
     ensures { result ≡ receive_of host message information.now }
 {
-    match reply_role(message) {
+    let heard = match reply_role(message) {
         Role::Services => services_reply(host, message.word, information),
         Role::Version => version_reply(host, message.word, information),
-        Role::Other => keep(host),
+        Role::Other => Ok(keep(host)),
+    };
+    match heard {
+        Ok(step) => step,
+        Err(refusal) => refuse(host, refusal),
     }
 }
 
 // What a message is a reply to.
+#[tactic(auto, unfolding(crate::specs::Host::reply_role))]
 fn reply_role(message: MessageHeader) -> Role
     ensures { result ≡ reply_role message }
 {
     if message.message_type != COMMAND_DONE {
         return Role::Other;
     }
-    let service = message.service;
-    role_of(kind_of(service, message.cid))
+    role_of(kind_of(message.service, message.cid))
 }
 
-// The reply to DEVICE_SERVICES: its status and payload.
-fn services_reply(host: Host, status: u32, payload: &[u8]) -> HostStep
-    ensures { result ≡ services_reply_of host status payload.now }
+// The reply to DEVICE_SERVICES: its status and payload. Only a host that waits for its list goes by it.
+#[tactic(auto, unfolding(crate::specs::Host::services_reply_of, crate::specs::Host::list_reply, crate::specs::Host::list_at))]
+fn services_reply(host: Host, status: u32, payload: &[u8]) -> Result<HostStep, Refusal>
+    ensures { unless_refused host result ≡ services_reply_of host status payload.now }
 {
     if status != 0 {
-        return keep(host);
+        return Ok(keep(host));
     }
-    match ask(payload, extensions_id(), VERSION) {
-        PositionAnswer::Listed {
-            element_number: _,
-            cid_number: _,
-        } => take_list(host, true),
-        PositionAnswer::NotListed => take_list(host, false),
-        PositionAnswer::Refused(refusal) => refuse(host, refusal),
+    let position = ask(payload, extensions_id(), VERSION)?;
+    match host.stage {
+        HostStage::Open { advertised } => judge_list(host, advertised, position.is_some()),
+        _ => Ok(keep(host)),
     }
+}
+
+#[tactic(auto, unfolding(crate::specs::Host::list_rules, protocol::specs::Verdict::judge_from, protocol::specs::Verdict::first_of, protocol::specs::Verdict::fault_if))]
+fn judge_list(host: Host, advertised: Version, listed: bool) -> Result<HostStep, Refusal>
+    ensures { unless_refused host result ≡ judged_list (judge (list_rules host.native advertised listed)) host advertised listed }
+{
+    refuse_if(is_above(advertised, host.native), Reason::AboveHost, 0)?;
+    refuse_if(is_later(advertised) && !listed, Reason::VersionNotListed, 0)?;
+    if is_later(host.native) && listed {
+        let stage = HostStage::AwaitsVersion { advertised };
+        return Ok(go_to(host, stage, HostAnswer::AsksVersion));
+    }
+    Ok(settle(host, Version::V1))
 }
 
 // The reply to VERSION: its status and payload.
-fn version_reply(host: Host, status: u32, payload: &[u8]) -> HostStep
-    ensures { result ≡ version_reply_of host status payload.now }
+#[tactic(auto, unfolding(crate::specs::Host::version_reply_of, crate::specs::Host::answered_by))]
+fn version_reply(host: Host, status: u32, payload: &[u8]) -> Result<HostStep, Refusal>
+    ensures { unless_refused host result ≡ version_reply_of host status payload.now }
 {
     if status != 0 {
-        return take_failure(host);
+        return Ok(take_failure(host));
     }
-    match version_info::read(payload) {
-        VersionInfoRead::Info(info) => take_answer(
-            host,
-            version_of(info.bcd_mbim_extended_version),
-        ),
-        VersionInfoRead::Refused(refusal) => refuse(host, refusal),
-    }
+    let info = version_info::read(payload)?;
+    Ok(take_answer(host, version_of(info.bcd_mbim_extended_version)))
 }
 
-// An accepted list, with or without VERSION.
-fn take_list(host: Host, listed: bool) -> HostStep
-    ensures { result ≡ list_at host.stage host listed }
-{
-    let stage = host.stage;
-    match stage {
-        HostStage::Closed => keep(host),
-        HostStage::Open { advertised } => judge_list(host, advertised, listed),
-        HostStage::AwaitsVersion { advertised: _ } => keep(host),
-        HostStage::Settled { version: _ } => keep(host),
-    }
-}
-
-fn judge_list(host: Host, advertised: Version, listed: bool) -> HostStep
-    ensures { result ≡ judged_list (judge (list_rules host.native advertised listed)) host advertised listed }
-{
-    let native = host.native;
-    let below = also(Verdict::Fits, is_above(advertised, native), ABOVE_HOST, 0);
-    match also(
-        below,
-        is_unlisted(advertised, listed),
-        VERSION_NOT_LISTED,
-        0,
-    ) {
-        Verdict::Fits => accept_list(host, advertised, listed),
-        Verdict::Fault(refusal) => refuse(host, refusal),
-    }
-}
-
-fn accept_list(host: Host, advertised: Version, listed: bool) -> HostStep
-    ensures { result ≡ accepted_list host advertised listed }
-{
-    let native = host.native;
-    if is_asked(native, listed) {
-        return HostStep {
-            host: at_stage(host, HostStage::AwaitsVersion { advertised }),
-            answer: HostAnswer::AsksVersion,
-        };
-    }
-    settle(host, Version::V1)
-}
-
-// Whether 2.00 is advertised without VERSION.
-fn is_unlisted(advertised: Version, listed: bool) -> bool
-    ensures { result ≡ (is_later advertised && not listed) }
-{
-    match advertised {
-        Version::V1 => false,
-        Version::V2 => !listed,
-    }
-}
-
-// Whether VERSION is the host's first command.
-fn is_asked(native: Version, listed: bool) -> bool
-    ensures { result ≡ (is_later native && listed) }
-{
-    match native {
-        Version::V1 => false,
-        Version::V2 => listed,
-    }
-}
-
+#[tactic(auto, unfolding(crate::specs::Host::answered_at))]
 fn take_answer(host: Host, answered: Version) -> HostStep
     ensures { result ≡ answered_at host.stage host answered }
 {
-    let stage = host.stage;
-    match stage {
-        HostStage::Closed => keep(host),
-        HostStage::Open { advertised: _ } => keep(host),
+    match host.stage {
         HostStage::AwaitsVersion { advertised } => settle(host, larger(advertised, answered)),
-        HostStage::Settled { version: _ } => keep(host),
+        _ => keep(host),
     }
 }
 
+#[tactic(auto, unfolding(crate::specs::Host::failed_at))]
 fn take_failure(host: Host) -> HostStep
     ensures { result ≡ failed_at host.stage host }
 {
-    let stage = host.stage;
-    match stage {
-        HostStage::Closed => keep(host),
-        HostStage::Open { advertised: _ } => keep(host),
+    match host.stage {
         HostStage::AwaitsVersion { advertised } => settle(host, advertised),
-        HostStage::Settled { version: _ } => keep(host),
+        _ => keep(host),
     }
 }
 
 fn settle(host: Host, version: Version) -> HostStep
     ensures { result ≡ settled_at host version }
 {
+    let stage = HostStage::Settled { version };
+    go_to(host, stage, HostAnswer::Settled(version))
+}
+
+fn go_to(host: Host, stage: HostStage, answer: HostAnswer) -> HostStep
+    ensures { result ≡ step (at host stage) (Ok answer) }
+{
     HostStep {
-        host: at_stage(host, HostStage::Settled { version }),
-        answer: HostAnswer::Settled(version),
+        host: Host { stage, ..host },
+        answer: Ok(answer),
     }
 }
 
@@ -282,7 +217,7 @@ fn keep(host: Host) -> HostStep
 {
     HostStep {
         host,
-        answer: HostAnswer::Unchanged,
+        answer: Ok(HostAnswer::Unchanged),
     }
 }
 
@@ -291,13 +226,6 @@ fn refuse(host: Host, refusal: Refusal) -> HostStep
 {
     HostStep {
         host,
-        answer: HostAnswer::Refused(refusal),
+        answer: Err(refusal),
     }
-}
-
-fn at_stage(host: Host, stage: HostStage) -> Host
-    ensures { result ≡ at host stage }
-{
-    let native = host.native;
-    Host { native, stage }
 }

@@ -3,18 +3,17 @@
 use mathlib.Core.Path.{◌≡◌, refl, sym, ap, ◌∙◌}
 use mathlib.Core.Logic.{inl, inr, ⊎_elim}
 use mathlib.Core.Bool.{Bool, true, false, not}
-use mathlib.Core.List.{List, ◌++◌}
+use mathlib.Core.List.{List, [], ◌++◌}
 use Prim.Native.Nat.{ℕ, ◌+◌, ◌-◌, ◌≤◌, ◌<◌}
 use native.Mathlib.Omega.{arith}
-use borrow.Author.Tests.{eqb-true, eq-eqb, ne_eqb, le-ltb, lt-leb, le-leb}
+use borrow.Author.Tests.{eqb-true, eq-eqb, ne_eqb, lt-ltb, le-ltb, lt-leb, le-leb}
 use lib.Dec.{ltb, eqb}
 use lib.ListN.{length, take, drop, length-drop}
 use lib.Seq.{sets, length-sets}
 use Rattle.wire.specs.Numbers.{u32_at}
 use Rattle.wire.specs.Output.{over}
 use Rattle.wire.proofs.Laws.{take_rest}
-use Rattle.protocol.specs.Verdict.{judge}
-use Rattle.protocol.specs.declared.Verdict.TheVariants.{Fits}
+use Rattle.protocol.specs.Verdict.{judge, no_fault}
 use Rattle.protocol.proofs.Tests.{or_cases, cases_and}
 use Rattle.protocol.proofs.Verdicts.{kept_fits}
 use Rattle.protocol.specs.MessageType.{is_whole, is_fragmented}
@@ -22,17 +21,20 @@ use Rattle.message.specs.Message.{is_whole_piece, header_at, fragment_of}
 use Rattle.message.specs.declared.Fragment.TheVariants as fragment
 use Rattle.message.proofs.Headers.{accepted_later, right_less}
 use Rattle.assembler.specs.Assembly.{assembly_of, waiting, grown_progress, grown, gather_of, continues, join_rules, join_of, judged_by, judged_of, begun_bytes, step_by, step_of}
+use Rattle.assembler.specs.Door.{fed_shown}
 use Rattle.assembler.specs.declared.Progress.{Progress}
+use Rattle.assembler.specs.declared.door.Received.TheVariants as received
 use Rattle.lent_progress.specs.LentProgress.{above_carried, pending_rules, progress_verdict}
-use Rattle.lent.specs.LentAssembly.{assembly_size, buffer_in, message_bytes, count_bytes, progress_bytes, changed_in, held, GoesOn}
+use Rattle.lent.specs.LentAssembly.{assembly_size, progress_in, buffer_in, assembly_in, message_bytes, count_bytes, progress_bytes, changed_in, held, too_small, kept_of, feed_in, untouched, receive_in, GoesOn}
 use Rattle.lent.proofs.Memory.{length_progress, length_buffer, put_back, changed_all}
+use Rattle.std.specs.Prelude.{Ok, Err}
 
 -- what is false is not true
 pub never : {A : Type 0} → ◌≡◌ {A = Bool} false true → A
 never e = let z : ◌≡◌ {A = ℕ} 0 1 = cc in absurd (omega arith)
 
 -- the memory is taken
-pub amid_fits : (p : Progress) (s : List ℕ) → GoesOn p s → progress_verdict p ≡ Fits
+pub amid_fits : (p : Progress) (s : List ℕ) → GoesOn p s → progress_verdict p ≡ no_fault
 unfolding progress_verdict above_carried
 amid_fits p s G =
     let A = G.message in
@@ -48,7 +50,7 @@ amid_fits p s G =
     ))
 
 -- the piece is a later fragment
-later : (p : Progress) (s : List ℕ) → GoesOn p s → fragment_of s ≡ fragment.Later (header_at s)
+later : (p : Progress) (s : List ℕ) → GoesOn p s → fragment_of s ≡ Ok (fragment.Later (header_at s))
 later p s G =
     let N = G.piece in
     let A = G.message in
@@ -56,7 +58,7 @@ later p s G =
     (omega (arith, N.total, N.number, A.more)) (omega (arith, N.number, A.later))
 
 -- and joins
-joins : (p : Progress) (s : List ℕ) → GoesOn p s → judge (join_rules p (header_at s) (length s)) ≡ Fits
+joins : (p : Progress) (s : List ℕ) → GoesOn p s → judge (join_rules p (header_at s) (length s)) ≡ no_fault
 unfolding continues
 joins p s G =
     let N = G.piece in
@@ -82,6 +84,19 @@ unfolding step_of step_by judged_of judged_by join_of begun_bytes gather_of
 goes_on p bytes s room G =
     let more : p.next + 1 ≡ p.total → ⊥ = λ e. omega (arith, G.message.more, e) in
     rw (later p s G, joins p s G, ne_eqb (p.next + 1) p.total more)
+
+-- memory without the room is refused, whatever the piece is
+pub no_room : (m s : List ℕ) (room : ℕ) → length m < assembly_size → receive_in m s room ≡ untouched m (Err too_small)
+unfolding receive_in
+no_room m s room l = rw (lt-ltb (length m) assembly_size l)
+
+-- so the door's answer is known at once
+pub received_on : (m s : List ℕ) (room : ℕ) → assembly_size ≤ length m → GoesOn (progress_in m) s
+    → receive_in m s room ≡ record { memory = held (grown (assembly_in m) (drop 20 s)) m; received = Ok (received.Pending (u32_at s 0) (u32_at s 8) false); information = [] }
+unfolding receive_in feed_in kept_of waiting fed_shown
+received_on m s room l G =
+    let p = progress_in m in
+    rw (le-ltb (length m) assembly_size l, not_whole p s G, amid_fits p s G, goes_on p (buffer_in m) s room G)
 
 -- ---- the memory after it
 

@@ -8,18 +8,18 @@ use Prim.Native.Nat.{ℕ, suc, ◌+◌, ◌*◌, ◌/◌, ◌%◌, ◌≤◌, �
 use native.Mathlib.Omega.{arith}
 use borrow.Author.Tests.{lt-ltb, le-ltb}
 use lib.Dec.{ltb}
-use lib.ListN.{length, get_or, set, take, drop, replicate, take-append-drop, length-append, length-take, length-drop}
+use lib.ListN.{length, get_or, set, take, drop, replicate, take-append-drop, length-append, length-take, length-drop, length-replicate}
 use lib.Seq.{sets, set-get_or, take_all, take_at, take-append-le, drop_at, drop-drop, drop-length}
-use Rattle.wire.specs.Numbers.{digits}
+use Rattle.wire.specs.Numbers.{u32_at, digits}
 use Rattle.wire.specs.Output.{over}
-use Rattle.wire.proofs.Laws.{sets_over, sets_then, four_to}
-use Rattle.protocol.specs.Service.{id_bytes}
+use Rattle.wire.proofs.Laws.{sets_over, sets_then, four, four_to}
+use Rattle.protocol.specs.Service.{id_at, id_bytes}
 use Rattle.message.specs.declared.MessageHeader.{MessageHeader}
 use Rattle.assembler.specs.Assembly.{assembly_of, empty, step_of, lent_step_of}
 use Rattle.assembler.specs.declared.Progress.{Progress}
 use Rattle.assembler.specs.declared.Assembly.{Assembly}
 use Rattle.assembler.proofs.Left.{begun, joined, Left, nothing, pending}
-use Rattle.lent.specs.LentAssembly.{assembly_size, buffer_in, message_bytes, count_bytes, progress_bytes, changed_in, cleared}
+use Rattle.lent.specs.LentAssembly.{assembly_size, message_in, buffer_in, message_bytes, count_bytes, progress_bytes, changed_in, cleared}
 
 pub length_message : (h : MessageHeader) → length (message_bytes h) ≡ 32
 unfolding message_bytes id_bytes
@@ -30,11 +30,15 @@ unfolding progress_bytes message_bytes count_bytes id_bytes
 length_progress p = refl
 
 -- the front filled with zeros
-pub front_cleared : (m : List ℕ) → assembly_size ≤ length m → replicate (length (take assembly_size m)) 0 ++ drop assembly_size m ≡ cleared m
-unfolding cleared over
-front_cleared m room =
-    let e : length (take assembly_size m) ≡ assembly_size = length-take assembly_size m ∙ omega (arith, room) in
-    ap (λ (k : ℕ). replicate k 0 ++ drop assembly_size m) e
+pub front_cleared : (n : ℕ) (m : List ℕ) → n ≤ length m → replicate (length (take n m)) 0 ++ drop n m ≡ over (replicate n 0) m
+unfolding over
+front_cleared n m room =
+    let e : length (take n m) ≡ n = length-take n m ∙ omega (arith, room) in
+    ap (λ (k : ℕ). replicate k 0 ++ drop n m) e ∙ ap (λ (k : ℕ). replicate n 0 ++ drop k m) (sym (length-replicate {A = ℕ} n 0))
+
+pub cleared_zeros : (m : List ℕ) → cleared m ≡ over (replicate assembly_size 0) m
+unfolding cleared
+cleared_zeros m = refl
 
 -- what stands behind the numbers of an assembly
 drop_front : (n : ℕ) (m r : List ℕ) → n ≤ length m → drop n (take n m ++ r) ≡ r
@@ -86,9 +90,30 @@ word_kept m at {a} {b} {c} {d} ea eb ec ed la lb lc ld =
     ap (sets m at) (four_digits a b c d la lb lc ld)
     ∙ sym (four_to m at a b c d (same at a ea) (same (at + 1) b eb) (same (at + 2) c ec) (same (at + 3) d ed))
 
+-- each byte of the memory fits
+abbrev pub Bytes : List ℕ → Type 0
+Bytes m = (k : ℕ) → get_or m k 0 < 256
+
+number_kept : (m : List ℕ) (at : ℕ) → Bytes m → sets m at (digits 4 (u32_at m at)) ≡ m
+unfolding u32_at
+number_kept m at fits =
+    ap (λ (k : ℕ). sets m at (digits 4 k)) (sym (four m at refl refl refl refl))
+    ∙ word_kept m at refl refl refl refl (fits at) (fits (at + 1)) (fits (at + 2)) (fits (at + 3))
+
 -- what the memory holds already is put back behind what it holds already
 pub kept_then : (xs ys : List ℕ) (at k : ℕ) (m : List ℕ) → length xs ≡ k → sets m at xs ≡ m → sets m (at + k) ys ≡ m → sets m at (xs ++ ys) ≡ m
 kept_then xs ys at k m e p q = sym (sets_then xs ys at k m e (sym p) (sym q))
+
+-- the message put back where it was read
+pub message_kept : (m : List ℕ) → Bytes m → sets m 0 (message_bytes (message_in m)) ≡ m
+unfolding message_in message_bytes id_at id_bytes
+message_kept m fits =
+    let d : ℕ → List ℕ = λ at. digits 4 (u32_at m at) in
+    let k : (at : ℕ) → sets m at (d at) ≡ m = λ at. number_kept m at fits in
+    let words = d 8 ++ (d 12 ++ (d 16 ++ d 20)) in
+    let id : sets m 8 words ≡ m = kept_then (d 8) (d 12 ++ (d 16 ++ d 20)) 8 4 m refl (k 8) (kept_then (d 12) (d 16 ++ d 20) 12 4 m refl (k 12) (kept_then (d 16) (d 20) 16 4 m refl (k 16) (k 20))) in
+    let rest : sets m 8 (words ++ (d 24 ++ d 28)) ≡ m = kept_then words (d 24 ++ d 28) 8 16 m refl id (kept_then (d 24) (d 28) 24 4 m refl (k 24) (k 28)) in
+    kept_then (d 0) (d 4 ++ (words ++ (d 24 ++ d 28))) 0 4 m refl (k 0) (kept_then (d 4) (words ++ (d 24 ++ d 28)) 4 4 m refl (k 4) rest)
 
 -- ---- the numbers after a feed
 

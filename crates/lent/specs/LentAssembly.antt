@@ -1,6 +1,6 @@
 -- The assembly in lent memory (document 01: "the assembly holds 4,096 bytes, all zero when empty"): 48 bytes of numbers, then the 4,096.
 -- In this order: places; emptying; feeding; any received piece. Which numbers feeding from empty can have left stands in crate lent_progress.
-use Rattle.std.specs.Prelude.{ℕ, ◌+◌, ◌-◌, ◌≤◌, ◌≡◌, true, false, cond, List, [], ◌++◌, ltb, length, take, drop, replicate}
+use Rattle.std.specs.Prelude.{ℕ, ◌+◌, ◌-◌, ◌≤◌, ◌≡◌, true, false, cond, List, [], ◌++◌, ltb, length, take, drop, replicate, Ok, Err, Result}
 use Rattle.std.proofs.lemmas.List.Edits.{sets}
 use Rattle.wire.specs.Numbers.{u32_at, digits}
 use Rattle.wire.specs.Output.{over}
@@ -8,20 +8,17 @@ use Rattle.protocol.specs.Refusal.{refusal, output_too_small}
 use Rattle.protocol.specs.Service.{id_at, id_bytes}
 use Rattle.protocol.specs.MessageType.{is_fragmented}
 use Rattle.protocol.specs.declared.Refusal.{Refusal}
-use Rattle.protocol.specs.declared.Verdict.{Verdict}
-use Rattle.protocol.specs.declared.Verdict.TheVariants.{Fits, Fault}
 use Rattle.message.specs.Message.{most_information, most_transfer, most_fragments, is_whole_piece}
 use Rattle.message.specs.declared.MessageHeader.{MessageHeader}
 use Rattle.assembler.specs.Assembly.{assembly_of, Step, step_of}
 use Rattle.assembler.specs.declared.Progress.{Progress}
 use Rattle.assembler.specs.declared.Assembly.{Assembly}
 use Rattle.assembler.specs.declared.Answer.{Answer}
-use Rattle.assembler.specs.declared.Answer.TheVariants.{Refused}
 use Rattle.assembler.specs.Door.{whole_shown, fed_shown}
 use Rattle.assembler.specs.declared.door.Received.{Received}
-use Rattle.assembler.specs.declared.door.Received.TheVariants as received
 use Rattle.lent_progress.specs.LentProgress.{stray_word, progress_verdict}
 use Rattle.lent.specs.Stored.{Stored, unstored}
+use Rattle.protocol.specs.Verdict.{no_fault, Verdict}
 
 -- ---- places
 
@@ -84,13 +81,13 @@ unfoldable pub cleared : List ℕ → List ℕ
 cleared m = over (replicate assembly_size 0) m
 
 unfoldable pub emptied : List ℕ → Stored
-emptied m = cond (ltb (length m) assembly_size) (unstored too_small m) record { verdict = Fits; memory = cleared m }
+emptied m = cond (ltb (length m) assembly_size) (unstored too_small m) record { verdict = no_fault; memory = cleared m }
 
 -- ---- feeding the piece s, with room for so many bytes in the output, in memory that has the room for an assembly
 
 pub record Feeding : Type 0 where
   pub memory : List ℕ
-  pub answer : Answer
+  pub answer : Result Answer Refusal
   pub information : List ℕ
 
 abbrev pub kept : Step → List ℕ → Feeding
@@ -101,8 +98,8 @@ kept_of p m s room = kept (step_of (assembly_of p (buffer_in m)) s room) m
 
 -- "a refused fragment leaves an empty assembly"
 abbrev pub judged_in : Verdict → Progress → List ℕ → List ℕ → ℕ → Feeding
-judged_in Fits p m s room = kept_of p m s room
-judged_in (Fault r) p m s room = record { memory = cleared m; answer = Refused r; information = [] }
+judged_in (Ok _) p m s room = kept_of p m s room
+judged_in (Err r) p m s room = record { memory = cleared m; answer = Err r; information = [] }
 
 unfoldable pub feed_in : List ℕ → List ℕ → ℕ → Feeding
 feed_in m s room = judged_in (progress_verdict (progress_in m)) (progress_in m) m s room
@@ -137,10 +134,10 @@ pub record GoesOn (p : Progress) (s : List ℕ) : Type 0 where
 
 pub record Receiving : Type 0 where
   pub memory : List ℕ
-  pub received : Received
+  pub received : Result Received Refusal
   pub information : List ℕ
 
-abbrev pub untouched : List ℕ → Received → Receiving
+abbrev pub untouched : List ℕ → (Result Received Refusal) → Receiving
 untouched m x = record { memory = m; received = x; information = [] }
 
 abbrev pub fed_in : List ℕ → Feeding → Receiving
@@ -148,5 +145,5 @@ fed_in s f = record { memory = f.memory; received = fed_shown s f.answer; inform
 
 unfoldable pub receive_in : List ℕ → List ℕ → ℕ → Receiving
 receive_in m s room =
-    cond (ltb (length m) assembly_size) (untouched m (received.Refused too_small))
+    cond (ltb (length m) assembly_size) (untouched m (Err too_small))
     (cond (is_whole_piece s) (untouched m (whole_shown s)) (fed_in s (feed_in m s room)))

@@ -14,7 +14,6 @@ use Rattle.wire.specs.Output.{over}
 use Rattle.wire.proofs.Laws.{num_digits, num_skip}
 use Rattle.protocol.specs.MessageType.{INDICATE_STATUS}
 use Rattle.protocol.specs.Service.{id_at, id_bytes}
-use Rattle.protocol.specs.declared.Verdict.TheVariants.{Fits}
 use Rattle.message.specs.Message.{word_at, message_at, is_whole_piece}
 use Rattle.assembler.specs.Assembly.{assembly_of, empty, step_of}
 use Rattle.assembler.specs.Run.{Piece}
@@ -28,6 +27,7 @@ use Rattle.lent_claims.specs.Given.{WordsOfWidth, Bytes, message_words}
 use Rattle.lent_claims.proofs.NumbersLeft.{none_fits, left_fits}
 use Rattle.lent_claims.specs.AssemblyMemory.{words_of, Holds, run_in, AllBytes, MemoryServes}
 use Rattle.lent.proofs.Memory.{length_progress, length_buffer}
+use Rattle.protocol.specs.Verdict.{no_fault}
 
 -- ---- words one after another
 
@@ -77,7 +77,7 @@ unfolding held over
 held_parts a m whole =
     ap (λ (k : ℕ). (progress_bytes a.progress ++ a.bytes) ++ drop k m) (length_held a m whole) ∙ append_assoc (progress_bytes a.progress) a.bytes (drop assembly_size m)
 
-held_holds : (a : Assembly) (m : List ℕ) → assembly_size ≤ length m → length a.bytes ≡ 4096 → progress_verdict a.progress ≡ Fits → WordsOfWidth (words_of a.progress) → Holds (held a m) a
+held_holds : (a : Assembly) (m : List ℕ) → assembly_size ≤ length m → length a.bytes ≡ 4096 → progress_verdict a.progress ≡ no_fault → WordsOfWidth (words_of a.progress) → Holds (held a m) a
 held_holds a m room whole fits small =
     let e = held_parts a m whole in
     let b = progress_bytes a.progress in

@@ -14,7 +14,6 @@ use Rattle.host.specs.Host.{end, made_of, opened_of, list_rules, judged_list, li
 use Rattle.handshake_claims.specs.Calls.{host_opens, host_receives, HostSound}
 use Rattle.handshake_claims.proofs.Refusing.{accepted_list}
 use Rattle.host.specs.declared.Host.{Host}
-use Rattle.host.specs.declared.HostMade.TheVariants as made
 use Rattle.host.specs.declared.HostStage.{HostStage}
 use Rattle.host.specs.declared.HostStage.TheVariants.{Closed, Open, AwaitsVersion, Settled}
 use Rattle.lent_claims.specs.Given.{Bytes}
@@ -22,10 +21,11 @@ use Rattle.lent_claims.specs.Turns.{run}
 use Rattle.lent_claims.specs.HostMemory.{HostGiven, host_call, HostMadeFrom, HostReached}
 use Rattle.lent_claims.proofs.Fields.{small}
 use Rattle.lent_claims.proofs.Messages.{listing, listing_says, listing_bytes, services, version, services_small, version_small, services_role, version_role}
+use Rattle.std.specs.Prelude.{Ok}
 
 -- ---- one call
 
-made_of_lem : (n : Version) → made_of (number_of n) ≡ made.Made (end n Closed)
+made_of_lem : (n : Version) → made_of (number_of n) ≡ Ok (end n Closed)
 unfolding made_of number_verdict judge_from fault_if first_of
 made_of_lem V1 = refl
 made_of_lem V2 = refl

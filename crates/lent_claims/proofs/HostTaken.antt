@@ -11,8 +11,7 @@ use lib.Dec.{ltb, eqb}
 use lib.ListN.{length, take, drop, take-append-drop, length-append}
 use lib.Seq.{sets, length-sets}
 use Rattle.wire.specs.Numbers.{u16_at, digits}
-use Rattle.protocol.specs.Verdict.{judge}
-use Rattle.protocol.specs.declared.Verdict.TheVariants.{Fits}
+use Rattle.protocol.specs.Verdict.{judge, no_fault}
 use Rattle.protocol.specs.declared.Version.{Version}
 use Rattle.protocol.specs.declared.Version.TheVariants.{V2}
 use Rattle.protocol.proofs.Tests.{not_kept, equal_kept}
@@ -25,7 +24,6 @@ use Rattle.host.specs.declared.Host.{Host}
 use Rattle.host.specs.declared.HostStep.{HostStep}
 use Rattle.host.specs.declared.HostAnswer.{HostAnswer}
 use Rattle.host.specs.declared.HostAnswer.TheVariants.{Unchanged}
-use Rattle.host.specs.declared.HostMade.TheVariants as made
 use Rattle.host.specs.declared.HostStage.{HostStage}
 use Rattle.host.specs.declared.HostStage.TheVariants.{Closed, Open, AwaitsVersion, Settled}
 use Rattle.handshake_claims.proofs.Bounded.{host_kept, sound_again, host_made_sound, extension_cases, advertised_below}
@@ -37,6 +35,8 @@ use Rattle.lent_claims.proofs.Serves.{run_holds, run_sound}
 use Rattle.handshake_claims.proofs.Run.{version_back}
 use Rattle.lent_claims.proofs.Fields.{first, behind, stored, front_of, small, known, number_back, ordered}
 use Rattle.lent_claims.proofs.HostReached.{host_reached}
+use Rattle.std.specs.Prelude.{Ok, Result}
+use Rattle.protocol.specs.declared.Refusal.{Refusal}
 
 abbrev Sound : Host → Type 0
 Sound h = HostSound h.native h.stage
@@ -127,7 +127,7 @@ numbered a (suc (suc (suc zero))) w e l asks stray above =
     }
 numbered a (suc (suc (suc (suc s)))) w e l asks stray above = absurd (omega (arith, ltb-false 3 (suc (suc (suc (suc s)))) l))
 
-taken_numbered : (m : List ℕ) → judge (host_rules m) ≡ Fits → Numbered (u16_at m 0) (u16_at m 2) (u16_at m 4) (host_at m)
+taken_numbered : (m : List ℕ) → judge (host_rules m) ≡ no_fault → Numbered (u16_at m 0) (u16_at m 2) (u16_at m 4) (host_at m)
 unfolding host_at
 taken_numbered m e =
     let k = fits_kept (host_rules m) e in
@@ -173,16 +173,16 @@ one_holds : (m : List ℕ) (h : Host) (c : HostCall) → Holds m h → ((host_ca
 unfolding host_call host_call_in open_in close_in receive_in ask_in host_in host_after
 one_holds m h (host_opens a) H =
     let r = call_holds m h (λ (x : Host). opened_of x a) H (one_sound h (host_opens a) H.1) in
-    (ap (λ (x : HostAnswer). answers x) r.0, r.1)
+    (ap (λ (x : (Result HostAnswer Refusal)). answers x) r.0, r.1)
 one_holds m h host_closes H =
-    let r = call_holds m h (λ (x : Host). step (closed_of x) Unchanged) H tt in
-    (ap (λ (x : HostAnswer). answers x) r.0, r.1)
+    let r = call_holds m h (λ (x : Host). step (closed_of x) (Ok Unchanged)) H tt in
+    (ap (λ (x : (Result HostAnswer Refusal)). answers x) r.0, r.1)
 one_holds m h (host_receives g s) H =
     let r = call_holds m h (λ (x : Host). receive_of x g s) H (one_sound h (host_receives g s) H.1) in
-    (ap (λ (x : HostAnswer). answers x) r.0, r.1)
+    (ap (λ (x : (Result HostAnswer Refusal)). answers x) r.0, r.1)
 one_holds m h (host_asks out) H = (rw (H.2.0, H.2.1) refl, H)
 
-made_holds : (m : List ℕ) → host_size ≤ length m → (native : ℕ) (h : Host) → made_of native ≡ made.Made h → Holds (make_in m native).memory h
+made_holds : (m : List ℕ) → host_size ≤ length m → (native : ℕ) (h : Host) → made_of native ≡ Ok h → Holds (make_in m native).memory h
 unfolding make_in
 made_holds m room native h e =
     let k = host_made_sound native h e in

@@ -17,7 +17,6 @@ use Rattle.handshake_claims.proofs.Bounded.{none_above}
 use Rattle.modem.specs.Modem.{end, made_rules, made_of, services_of, gave, give_of, answer_by, can_answer, version_of_command, other_at, command_by, command_of, receive_by, receive_of}
 use Rattle.handshake_claims.specs.Calls.{ModemCall, modem_receives, ModemSound, ModemSoundAt}
 use Rattle.modem.specs.declared.Modem.{Modem}
-use Rattle.modem.specs.declared.ModemMade.TheVariants as made
 use Rattle.modem.specs.declared.ModemStage.{ModemStage}
 use Rattle.modem.specs.declared.ModemStage.TheVariants.{Start, Listed, Settled}
 use Rattle.lent_claims.specs.Given.{Bytes}
@@ -25,10 +24,11 @@ use Rattle.lent_claims.specs.Turns.{run}
 use Rattle.lent_claims.specs.ModemMemory.{ModemGiven, modem_call, ModemMadeFrom, ModemReached}
 use Rattle.lent_claims.proofs.Fields.{small, bytes_of_lem}
 use Rattle.lent_claims.proofs.Messages.{listing, listing_says, listing_bytes, services, version, other, services_small, version_small, other_small, services_role, version_role, other_role}
+use Rattle.std.specs.Prelude.{Ok}
 
 -- ---- one call
 
-made_of_lem : (n a : Version) (b : Bool) → above a n ≡ false → made_of (number_of n) (number_of a) (listing b) ≡ made.Made (end n a b Start)
+made_of_lem : (n a : Version) (b : Bool) → above a n ≡ false → made_of (number_of n) (number_of a) (listing b) ≡ Ok (end n a b Start)
 unfolding made_of made_rules judge_from fault_if first_of
 made_of_lem V1 V1 true k = rw (listing_says true)
 made_of_lem V1 V1 false k = rw (listing_says false)

@@ -11,8 +11,7 @@ use lib.Dec.{ltb, eqb}
 use lib.ListN.{length, take, drop, take-append-drop, length-append}
 use lib.Seq.{sets, length-sets}
 use Rattle.wire.specs.Numbers.{u16_at, digits}
-use Rattle.protocol.specs.Verdict.{judge, Kept}
-use Rattle.protocol.specs.declared.Verdict.TheVariants.{Fits}
+use Rattle.protocol.specs.Verdict.{judge, Kept, no_fault}
 use Rattle.protocol.specs.declared.Version.{Version}
 use Rattle.protocol.specs.declared.Version.TheVariants.{V1, V2}
 use Rattle.protocol.proofs.Tests.{not_kept, equal_kept, and_cases}
@@ -22,7 +21,6 @@ use Rattle.handshake.specs.Versions.{number_of, version_of, is_later}
 use Rattle.modem.specs.Modem.{settled_number, made_of, start_of, receive_of}
 use Rattle.handshake_claims.specs.Calls.{ModemCall, modem_opens, modem_closes, modem_receives, modem_after, ModemSound, ModemSoundAt}
 use Rattle.modem.specs.declared.Modem.{Modem}
-use Rattle.modem.specs.declared.ModemMade.TheVariants as made
 use Rattle.modem.specs.declared.ModemStage.{ModemStage}
 use Rattle.modem.specs.declared.ModemStage.TheVariants.{Start, Listed, Settled}
 use Rattle.handshake_claims.proofs.Bounded.{modem_kept, modem_made_sound, extension_cases, advertised_below}
@@ -33,6 +31,7 @@ use Rattle.lent_claims.proofs.Serves.{run_holds, run_sound}
 use Rattle.handshake_claims.proofs.Run.{version_back}
 use Rattle.lent_claims.proofs.Fields.{first, behind, stored, front_of, small, known, number_back, ordered}
 use Rattle.lent_claims.proofs.ModemReached.{modem_reached}
+use Rattle.std.specs.Prelude.{Ok}
 
 -- ---- the memory of an end that is sound is taken
 
@@ -162,7 +161,7 @@ record Numbered (m : List ℕ) (x : Modem) : Type 0 where
   stage : stage_number x.stage ≡ u16_at m 6
   version : settled_number x.stage ≡ u16_at m 8
 
-taken_numbered : (m : List ℕ) → judge (modem_rules m) ≡ Fits → Numbered m (modem_at m)
+taken_numbered : (m : List ℕ) → judge (modem_rules m) ≡ no_fault → Numbered m (modem_at m)
 unfolding modem_at
 taken_numbered m e =
     let k = fits_kept (modem_rules m) e in
@@ -218,7 +217,7 @@ one_holds m x modem_opens H = rw (H.2.0, H.2.1) (refl, kept_holds m (start_of x)
 one_holds m x modem_closes H = rw (H.2.0, H.2.1) (refl, kept_holds m (start_of x) H.0 (H.1.0, tt))
 one_holds m x (modem_receives h s out) H = rw (H.2.0, H.2.1) (refl, kept_holds m (receive_of x h s out).step.modem H.0 (one_sound x (modem_receives h s out) H.1))
 
-pub made_holds : (m : List ℕ) → modem_size ≤ length m → (native advertised : ℕ) (services : List ℕ) (x : Modem) → made_of native advertised services ≡ made.Made x
+pub made_holds : (m : List ℕ) → modem_size ≤ length m → (native advertised : ℕ) (services : List ℕ) (x : Modem) → made_of native advertised services ≡ Ok x
     → Holds (make_in m native advertised services).memory x
 unfolding make_in
 made_holds m room native advertised services x e =

@@ -11,8 +11,7 @@ use lib.Dec.{eqb}
 use Rattle.wire.specs.Numbers.{u32_at}
 use Rattle.protocol.specs.Refusal.{contradiction}
 use Rattle.protocol.specs.MessageType.{INDICATE_STATUS, is_fragmented}
-use Rattle.protocol.specs.Verdict.{judge_from, fault_if, first_of, rule, judge}
-use Rattle.protocol.specs.declared.Verdict.TheVariants.{Fits}
+use Rattle.protocol.specs.Verdict.{judge_from, fault_if, first_of, rule, judge, no_fault}
 use Rattle.protocol.proofs.Tests.{and_both, cases_and, not_kept}
 use Rattle.protocol.proofs.Verdicts.{fits_kept, kept_fits}
 use Rattle.message.specs.Message.{most_transfer, first_length, word_at, message_at, wrong_word}
@@ -25,7 +24,7 @@ use Rattle.lent_progress.specs.LentProgress.{is_none, stray_word, above_carried,
 
 -- ---- no message
 
-pub none_fits : progress_verdict empty.progress ≡ Fits
+pub none_fits : progress_verdict empty.progress ≡ no_fault
 unfolding progress_verdict is_none empty judge_from fault_if first_of
 none_fits = refl
 
@@ -71,13 +70,13 @@ none_says p t e =
 
 pub data Taken (p : Progress) : Type 0 where
   none : p ≡ empty.progress → Taken p
-  waiting : (p.total ≡ 0 → ⊥) → judge (pending_rules p) ≡ Fits → Taken p
+  waiting : (p.total ≡ 0 → ⊥) → judge (pending_rules p) ≡ no_fault → Taken p
 
-pub taken : (p : Progress) → progress_verdict p ≡ Fits → Taken p
+pub taken : (p : Progress) → progress_verdict p ≡ no_fault → Taken p
 unfolding progress_verdict
 taken p = go (eqb p.total 0) refl
   where
-    go : (b : Bool) → eqb p.total 0 ≡ b → cond b (judge (rule (not (is_none p)) contradiction 32 ∷ [])) (judge (pending_rules p)) ≡ Fits → Taken p
+    go : (b : Bool) → eqb p.total 0 ≡ b → cond b (judge (rule (not (is_none p)) contradiction 32 ∷ [])) (judge (pending_rules p)) ≡ no_fault → Taken p
     go true t e = none (none_says p (eqb-true p.total 0 t) (not_kept (is_none p) (fits_kept (rule (not (is_none p)) contradiction 32 ∷ []) e).0))
     go false t e = waiting (eqb-false p.total 0 t) e
 
@@ -96,7 +95,7 @@ unfolding is_fragmented
 no_type e = let z : ◌≡◌ {A = ℕ} 0 1 = cc in absurd (omega arith)
 
 -- a message that was pending has the word of a first fragment
-kept_word : (p : Progress) → progress_verdict p ≡ Fits → is_fragmented p.message.message_type ≡ true → stray_word p.message ≡ false
+kept_word : (p : Progress) → progress_verdict p ≡ no_fault → is_fragmented p.message.message_type ≡ true → stray_word p.message ≡ false
 unfolding empty
 kept_word p e known = go (taken p e)
   where
@@ -106,7 +105,7 @@ kept_word p e known = go (taken p e)
 
 -- ---- one feed
 
-waits_fits : (p : Progress) → Waits p → stray_word p.message ≡ false → above_carried p ≡ false → progress_verdict p ≡ Fits
+waits_fits : (p : Progress) → Waits p → stray_word p.message ≡ false → above_carried p ≡ false → progress_verdict p ≡ no_fault
 unfolding progress_verdict
 waits_fits p w word header_seen =
     let some : p.total ≡ 0 → ⊥ = λ e. omega (arith, w.unfinished, e) in
@@ -117,7 +116,7 @@ waits_fits p w word header_seen =
       (word, (le-ltb _ _ w.few, (ne_eqb _ _ begun, (lt-leb _ _ w.unfinished, (le-ltb _ _ w.declared, (le-ltb _ _ w.within, (header_seen, tt))))))),
     ))
 
-pub left_fits : (a : Assembly) (s : List ℕ) (p : Progress) → progress_verdict a.progress ≡ Fits → Left a s p → progress_verdict p ≡ Fits
+pub left_fits : (a : Assembly) (s : List ℕ) (p : Progress) → progress_verdict a.progress ≡ no_fault → Left a s p → progress_verdict p ≡ no_fault
 unfolding above_carried
 left_fits a s p e (nothing q) = rw q none_fits
 left_fits a s p e (pending w (begun q v n c)) =
@@ -128,10 +127,10 @@ left_fits a s p e (pending w (joined q n)) =
 
 -- ---- a run
 
-run_fits : (a : Assembly) (ps : List Piece) → progress_verdict a.progress ≡ Fits → progress_verdict (run_of a ps).end.progress ≡ Fits
+run_fits : (a : Assembly) (ps : List Piece) → progress_verdict a.progress ≡ no_fault → progress_verdict (run_of a ps).end.progress ≡ no_fault
 unfolding run_of
 run_fits a [] e = e
 run_fits a (p ∷ ps) e = run_fits (step_of a p.bytes p.room).assembly ps (left_fits a p.bytes _ e (left a p.bytes p.room))
 
-pub reached_fits : (ps : List Piece) → progress_verdict (run_of empty ps).end.progress ≡ Fits
+pub reached_fits : (ps : List Piece) → progress_verdict (run_of empty ps).end.progress ≡ no_fault
 reached_fits ps = run_fits empty ps none_fits

@@ -13,8 +13,7 @@ use lib.Seq.{sets}
 use Rattle.wire.specs.Numbers.{digits}
 use Rattle.protocol.specs.MessageType.{COMMAND, INDICATE_STATUS, is_fragmented}
 use Rattle.protocol.specs.Service.{id_bytes}
-use Rattle.protocol.specs.Verdict.{Kept}
-use Rattle.protocol.specs.declared.Verdict.TheVariants.{Fits}
+use Rattle.protocol.specs.Verdict.{Kept, no_fault}
 use Rattle.protocol.proofs.Tests.{and_cases, cases_and, not_kept, equal_kept}
 use Rattle.protocol.proofs.Verdicts.{fits_kept}
 use Rattle.message.specs.Message.{most_information, most_transfer, first_length, wrong_word}
@@ -210,7 +209,7 @@ carried_fits p n k = go (and_cases (eqb p.next 1) _ k)
     go (inl e) = absurd (eqb-false p.next 1 e n)
     go (inr e) = ltb-false _ _ e
 
-pub numbers_reached : (p : Progress) → WordsOfWidth (words_of p) → progress_verdict p ≡ Fits → NumbersReached p
+pub numbers_reached : (p : Progress) → WordsOfWidth (words_of p) → progress_verdict p ≡ no_fault → NumbersReached p
 unfolding run_of
 numbers_reached p x e = go (taken p e)
   where

@@ -5,9 +5,6 @@ use mathlib.Core.Bool.{Bool, true, false}
 use mathlib.Core.List.{List}
 use Prim.Native.Nat.{ℕ}
 use lib.Seq.{sets}
-use Rattle.protocol.specs.declared.Verdict.TheVariants.{Fits}
-use Rattle.protocol.specs.declared.Written.{Written}
-use Rattle.protocol.specs.declared.Written.TheVariants as written
 use Rattle.message.specs.declared.MessageHeader.{MessageHeader}
 use Rattle.handshake_claims.specs.Calls.{ModemCall, modem_opens, modem_closes, modem_receives}
 use Rattle.modem.specs.Modem as modem
@@ -28,6 +25,9 @@ use Rattle.lent_claims.specs.PinMemory.{PinModem, PinModemMemory, pin_modem, pin
 use Rattle.lent_claims.proofs.Serves.{run_holds}
 use Rattle.lent_claims.proofs.ModemTaken as end
 use Rattle.lent_claims.proofs.PinsTaken as pins
+use Rattle.std.specs.Prelude.{Ok, Err, Result}
+use Rattle.protocol.specs.Verdict.{no_fault, Written}
+use Rattle.protocol.specs.declared.Refusal.{Refusal}
 
 -- the memory holds both
 record Holds (m : PinModemMemory) (e : PinModem) : Type 0 where
@@ -49,14 +49,14 @@ module _ (m p : List ℕ) (x y : Modem) (t : Table) (H : end.Holds m x) (K : end
   after = pins.kept_holds p (enter_of t s).table P.long (pins.entry_fits t s P.fits)
 
   by_written : (w : Written) (out : List ℕ) (status : ℕ) → Kept (record { serving = reply_by w x t y (enter_of t s).table status; output = out })
-  by_written (written.Length n) out status = record { modem = K; pins = after }
-  by_written (written.Refused r) out status = record { modem = H; pins = P }
+  by_written (Ok n) out status = record { modem = K; pins = after }
+  by_written (Err r) out status = record { modem = H; pins = P }
 
-  by_answer : (a : PinAnswer) (out : List ℕ) → (enter_of t s).answer ≡ a → Kept (serve_by a x t y (enter_of t s).table out)
+  by_answer : (a : (Result PinAnswer Refusal)) (out : List ℕ) → (enter_of t s).answer ≡ a → Kept (serve_by a x t y (enter_of t s).table out)
   unfolding serve_by reply_of
-  by_answer (pin.Info status i) out e = by_written (write_of i out).answer (write_of i out).output status
-  by_answer (pin.Failed status) out e = record { modem = K; pins = pins.hidden_holds p t s P (λ h. rw e at h) }
-  by_answer (pin.Refused r) out e = record { modem = K; pins = pins.hidden_holds p t s P (λ h. rw e at h) }
+  by_answer (Ok (pin.Info status i)) out e = by_written (write_of i out).answer (write_of i out).output status
+  by_answer (Ok (pin.Failed status)) out e = record { modem = K; pins = pins.hidden_holds p t s P (λ h. rw e at h) }
+  by_answer (Err r) out e = record { modem = K; pins = pins.hidden_holds p t s P (λ h. rw e at h) }
 
   entry_alike : (out : List ℕ) → Alike (replied (served_in m p x y s out)) (served (serve_of x y t s out))
   unfolding served_in serve_of
@@ -79,7 +79,7 @@ message_alike m p x t h s out H P = rw (H.2.0, H.2.1) (go (is_entry h c.step.ans
     go true = entry_alike m p x c.step.modem t H K P s c.output
     go false = (refl, record { modem = K; pins = P })
 
-restart_alike : (m p : List ℕ) (x : Modem) (t : Table) → end.Holds m x → pins.PinsHold p t → Alike (restarted (restart_in m) p) (turn (restarts Fits) (pin_modem (start_of x) t))
+restart_alike : (m p : List ℕ) (x : Modem) (t : Table) → end.Holds m x → pins.PinsHold p t → Alike (restarted (restart_in m) p) (turn (restarts no_fault) (pin_modem (start_of x) t))
 unfolding restart_in modem_in
 restart_alike m p x t H P = rw (H.2.0, H.2.1) (refl, record { modem = end.kept_holds m (start_of x) H.0 (H.1.0, tt); pins = P })
 

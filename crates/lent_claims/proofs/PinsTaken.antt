@@ -3,11 +3,10 @@
 use mathlib.Core.Path.{◌≡◌, refl, sym, ap, ◌∙◌}
 use mathlib.Core.Logic.{◌⊎◌, inl, inr}
 use mathlib.Core.Bool.{Bool, true, false, not, cond}
-use mathlib.Core.List.{List, [], ◌∷◌, ◌++◌}
+use mathlib.Core.List.{List, [], ◌∷◌, ◌++◌, append_assoc}
 use Prim.Native.Nat.{ℕ, zero, suc, ◌+◌, ◌-◌, ◌*◌, ◌≤◌, ◌<◌, ◌^◌}
 use native.Mathlib.Omega.{arith}
 use native.Mathlib.Nat.{add-zero}
-use mathlib.Core.List.{append_assoc}
 use borrow.Author.Tests.{le-ltb, ltb-false, eq-eqb, ne_eqb, leb-true, leb-false}
 use lib.Dec.{leb, eqb}
 use lib.ListN.{length, get_or, take, drop, length-append, length-drop}
@@ -15,17 +14,14 @@ use lib.Seq.{sets, length-sets, length-take-le, get_or-append-add, drop-append-a
 use Rattle.wire.specs.Numbers.{num, u32_at, digits}
 use Rattle.wire.specs.Output.{fitted}
 use Rattle.wire.proofs.Laws.{num_digits, num_skip, text_at}
-use Rattle.protocol.specs.Verdict.{Kept}
-use Rattle.protocol.specs.declared.Verdict.TheVariants.{Fits}
+use Rattle.protocol.specs.Verdict.{Kept, no_fault}
 use Rattle.protocol.proofs.Verdicts.{fits_kept, kept_fits}
 use Rattle.folds.specs.Folds.{joined}
 use Rattle.folds.proofs.Laws.{fits_each, each_fits, split, length_joined}
 use Rattle.pairs.specs.Claims.{SizeFits}
 use Rattle.pairs.specs.declared.PairKind.TheVariants.{Text}
 use Rattle.pairs.proofs.Laws.{size_said, said_size}
-use Rattle.pin.specs.SetPin.{read_with}
-use Rattle.pin.specs.declared.set_pin.SetPinRead.{SetPinRead}
-use Rattle.pin.specs.declared.set_pin.SetPinRead.TheVariants as read
+use Rattle.pin.specs.SetPin.{read_with, SetPinRead}
 use Rattle.pairs.specs.declared.ZeroSize.TheVariants.{Strict}
 use Rattle.pin_entry.specs.PinTable.{Row, Table, absent, new_row, put, filled, pin_of, Call, expected, lacks_tries, entered, step, table_after, answers_of}
 use Rattle.pin_entry.specs.Meaning.{asked_by, asked_of, enter_of, no_start, start_rules, start_verdict, starts_verdict, start_row, start_row_at, started, made_of}
@@ -46,6 +42,8 @@ use Rattle.lent_claims.specs.PinMemory.{PinsTake, ServesAsPlain, StartsOfWidth, 
 use Rattle.lent_claims.proofs.AssemblyServes.{word_small}
 use Rattle.lent_claims.proofs.Fields.{stored}
 use Rattle.lent_claims.proofs.ModemTaken.{flag_kept}
+use Rattle.std.specs.Prelude.{Ok, Err, Result}
+use Rattle.protocol.specs.declared.Refusal.{Refusal}
 
 -- ---- the tables that memory can hold
 
@@ -196,13 +194,13 @@ pins_held m t l f =
 
 -- ---- which tables memory can hold: one that is taken, one that is made, and one that an entry leaves
 
-taken_rules : (m : List ℕ) (i : ℕ) → i < 17 → pins_verdict m ≡ Fits → Kept (row_rules m (i * 44))
+taken_rules : (m : List ℕ) (i : ℕ) → i < 17 → pins_verdict m ≡ no_fault → Kept (row_rules m (i * 44))
 unfolding pins_verdict rows_verdict
 taken_rules m i h e =
-    let v : rows_verdict m ≡ Fits = rw (le-ltb (length m) pins_size (room m e)) at e in
+    let v : rows_verdict m ≡ no_fault = rw (le-ltb (length m) pins_size (room m e)) at e in
     fits_kept (row_rules m (i * 44)) (fits_each (row_verdict m) 17 v i h)
 
-taken_row : (m : List ℕ) (i : ℕ) → i < 17 → Bytes m → pins_verdict m ≡ Fits → RowFits (row_at m (i * 44))
+taken_row : (m : List ℕ) (i : ℕ) → i < 17 → Bytes m → pins_verdict m ≡ no_fault → RowFits (row_at m (i * 44))
 unfolding row_at u32_at
 taken_row m i h b e =
     let l = room m e in
@@ -215,7 +213,7 @@ taken_row m i h b e =
     length-take-le (get_or m (at + 3) 0) (take 32 (drop (at + 12) m)) (omega (arith, all, n.small)) in
     record { secret = rw long n; tries = ltb-false (num 4 m (at + 8)) (num 4 m (at + 4)) k.1.1.1.1.0; small = word_small m (at + 8) b }
 
-taken_fits : (m : List ℕ) → Bytes m → pins_verdict m ≡ Fits → TableFits (table_in m)
+taken_fits : (m : List ℕ) → Bytes m → pins_verdict m ≡ no_fault → TableFits (table_in m)
 taken_fits m b e =
     record { rows = filled_each RowFits (row_in m) 17 absent_fits (λ i h. taken_row m i h b e); none = filled_none (row_in m) 17; past = filled_past (row_in m) 17 }
 
@@ -226,7 +224,7 @@ start_fits s long small n = go (eqb s.present 0)
     go true = absent_fits
     go false = record { secret = rw (length-take-le s.secret_length s.secret (omega (arith, long, n.small))) n; tries = omega arith; small = small }
 
-started_fits : (rows : List PinStart) → StartsOfWidth rows → starts_verdict rows ≡ Fits → TableFits (started rows)
+started_fits : (rows : List PinStart) → StartsOfWidth rows → starts_verdict rows ≡ no_fault → TableFits (started rows)
 unfolding starts_verdict
 started_fits rows w e =
     record {
@@ -272,8 +270,8 @@ unfolding enter_of asked_of step
 entry_fits t s f = go (read_with Strict s) refl
   where
     go : (r : SetPinRead) → read_with Strict s ≡ r → TableFits (step t (asked_by s r)).table
-    go (read.Info p x) e = entered_fits t _ (new_fits s p x e) f
-    go (read.Refused r) e = f
+    go (Ok (p, x)) e = entered_fits t _ (new_fits s p x e) f
+    go (Err r) e = f
 
 -- ---- memory serves
 
@@ -286,7 +284,7 @@ pub record PinsHold (m : List ℕ) (t : Table) : Type 0 where
 pub kept_holds : (m : List ℕ) (t : Table) → pins_size ≤ length m → TableFits t → PinsHold (sets m 0 (table_bytes t)) t
 kept_holds m t l f = record { long = rw (length-sets m 0 (table_bytes t)) l; fits = f; takes = pins_held m t l f }
 
-pub made_holds : (m : List ℕ) → pins_size ≤ length m → (rows : List PinStart) → StartsOfWidth rows → starts_verdict rows ≡ Fits → PinsHold (make_in m rows).memory (made_of rows).table
+pub made_holds : (m : List ℕ) → pins_size ≤ length m → (rows : List PinStart) → StartsOfWidth rows → starts_verdict rows ≡ no_fault → PinsHold (make_in m rows).memory (made_of rows).table
 unfolding make_in made_of
 made_holds m l rows w e = rw (e, le-ltb (length m) pins_size l) (kept_holds m (started rows) l (started_fits rows w e))
 
@@ -298,10 +296,10 @@ one_serves : (m : List ℕ) (t : Table) (s : List ℕ) → PinsHold m t → ((en
 unfolding enter_in
 one_serves m t s H = rw (H.takes.0, H.takes.1) (refl, go (enter_of t s).answer refl)
   where
-    go : (a : PinAnswer) → (enter_of t s).answer ≡ a → PinsHold (kept_by a (enter_of t s).table m) (enter_of t s).table
-    go (answer.Info status i) e = kept_holds m (enter_of t s).table H.long (entry_fits t s H.fits)
-    go (answer.Failed status) e = hidden_holds m t s H (λ h. rw e at h)
-    go (answer.Refused r) e = hidden_holds m t s H (λ h. rw e at h)
+    go : (a : (Result PinAnswer Refusal)) → (enter_of t s).answer ≡ a → PinsHold (kept_by a (enter_of t s).table m) (enter_of t s).table
+    go (Ok (answer.Info status i)) e = kept_holds m (enter_of t s).table H.long (entry_fits t s H.fits)
+    go (Ok (answer.Failed status)) e = hidden_holds m t s H (λ h. rw e at h)
+    go (Err r) e = hidden_holds m t s H (λ h. rw e at h)
 
 pub serves : (m : List ℕ) (t : Table) (ss : List (List ℕ)) → PinsHold m t → ServesAsPlain t m ss
 unfolding run answers_of table_after enter_of

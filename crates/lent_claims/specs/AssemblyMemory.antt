@@ -1,18 +1,17 @@
 -- When lent memory holds an assembly (document 01: "each feed gets the assembly .. as the one before left it, changed by nothing else").
 -- In this order: the numbers of an assembly, and which are taken; the memory that holds an assembly; a run in memory, and what is claimed of it.
-use Rattle.std.specs.Prelude.{ℕ, ◌≤◌, ◌≡◌, List, [], ◌∷◌, length}
-use Rattle.protocol.specs.Refusal.{contradiction}
+use Rattle.std.specs.Prelude.{ℕ, ◌≤◌, ◌≡◌, List, [], ◌∷◌, length, Err}
+use Rattle.protocol.specs.Refusal.{number_of, contradiction}
 use Rattle.protocol.specs.declared.Refusal.{Refusal}
-use Rattle.protocol.specs.declared.Verdict.TheVariants.{Fits, Fault}
 use Rattle.assembler.specs.Assembly.{empty, step_of}
 use Rattle.assembler.specs.Run.{Piece, run_of}
 use Rattle.assembler.specs.Door.{Seen, receive_all}
 use Rattle.assembler.specs.declared.Progress.{Progress}
 use Rattle.assembler.specs.declared.Assembly.{Assembly}
-use Rattle.assembler.specs.declared.Answer.TheVariants.{Refused}
 use Rattle.lent_progress.specs.LentProgress.{progress_verdict}
 use Rattle.lent.specs.LentAssembly.{assembly_size, progress_in, buffer_in, emptied, Receiving, receive_in}
 use Rattle.lent_claims.specs.Given.{WordsOfWidth, Bytes}
+use Rattle.protocol.specs.Verdict.{no_fault}
 
 -- the numbers of an assembly
 abbrev pub words_of : Progress → List ℕ
@@ -33,12 +32,12 @@ pub record NumbersReached (p : Progress) : Type 0 where
 
 -- they are the numbers that are taken; the bytes of the buffer are not looked at
 abbrev pub NumbersTakenExactly : Type 0
-NumbersTakenExactly = (p : Progress) → WordsOfWidth (words_of p) → (progress_verdict p ≡ Fits → NumbersReached p) × (NumbersReached p → progress_verdict p ≡ Fits)
+NumbersTakenExactly = (p : Progress) → WordsOfWidth (words_of p) → (progress_verdict p ≡ no_fault → NumbersReached p) × (NumbersReached p → progress_verdict p ≡ no_fault)
 
 -- a fault of the memory is told from one of the piece by its number: 10 is the memory's, and no piece meets it
 pub record ToldApart : Type 0 where
-  pub memory : (p : Progress) (r : Refusal) → progress_verdict p ≡ Fault r → r.number ≡ contradiction
-  pub piece : (a : Assembly) (s : List ℕ) (room : ℕ) (r : Refusal) → (step_of a s room).answer ≡ Refused r → r.number ≡ contradiction → ⊥
+  pub memory : (p : Progress) (r : Refusal) → progress_verdict p ≡ Err r → number_of r.reason ≡ number_of contradiction
+  pub piece : (a : Assembly) (s : List ℕ) (room : ℕ) (r : Refusal) → (step_of a s room).answer ≡ Err r → number_of r.reason ≡ number_of contradiction → ⊥
 
 -- ---- the memory m holds the assembly a, one that the next call takes
 
@@ -46,7 +45,7 @@ pub record Holds (m : List ℕ) (a : Assembly) : Type 0 where
   pub room : assembly_size ≤ length m
   pub numbers : progress_in m ≡ a.progress
   pub buffer : buffer_in m ≡ a.bytes
-  pub fits : progress_verdict a.progress ≡ Fits
+  pub fits : progress_verdict a.progress ≡ no_fault
   pub small : WordsOfWidth (words_of a.progress)
 
 -- ---- a run in memory

@@ -1,12 +1,9 @@
 -- The modem's end in lent memory beside the end by value: its calls, which memory is taken, and how memory serves.
-use Rattle.std.specs.Prelude.{ℕ, ◌≤◌, ◌<◌, ◌^◌, ◌≡◌, List, length}
-use Rattle.protocol.specs.Verdict.{judge}
-use Rattle.protocol.specs.declared.Verdict.{Verdict}
-use Rattle.protocol.specs.declared.Verdict.TheVariants.{Fits}
+use Rattle.std.specs.Prelude.{ℕ, ◌≤◌, ◌<◌, ◌^◌, ◌≡◌, List, length, Ok}
+use Rattle.protocol.specs.Verdict.{judge, no_fault, Verdict}
 use Rattle.handshake_claims.specs.Calls.{ModemCall, modem_opens, modem_closes, modem_receives}
 use Rattle.modem.specs.Modem.{made_of, start_of, Commanding, receive_of}
 use Rattle.modem.specs.declared.Modem.{Modem}
-use Rattle.modem.specs.declared.ModemMade.TheVariants as made
 use Rattle.lent.specs.Stored.{Stored}
 use Rattle.lent_modem.specs.LentModem.{modem_size, modem_bytes, modem_rules, modem_at, make_in, restart_in, ModemCalled, receive_in}
 use Rattle.lent_modem.specs.declared.ModemReply.{ModemReply}
@@ -29,8 +26,8 @@ abbrev pub commanded : Commanding → Turn Modem ModemSaid
 commanded c = turn (replies record { answer = c.step.answer; stage = c.step.modem.stage } c.output) c.step.modem
 
 unfoldable pub modem_call : Modem → ModemCall → Turn Modem ModemSaid
-modem_call x modem_opens = turn (restarts Fits) (start_of x)
-modem_call x modem_closes = turn (restarts Fits) (start_of x)
+modem_call x modem_opens = turn (restarts no_fault) (start_of x)
+modem_call x modem_closes = turn (restarts no_fault) (start_of x)
 modem_call x (modem_receives h s out) = commanded (receive_of x h s out)
 
 abbrev pub restarted : Stored → Turn (List ℕ) ModemSaid
@@ -48,7 +45,7 @@ modem_call_in m (modem_receives h s out) = replied (receive_in m h s out)
 
 -- no rule is broken, and the fields are those of the end
 abbrev pub ModemTakes : List ℕ → Modem → Type 0
-ModemTakes m x = (judge (modem_rules m) ≡ Fits) × (modem_at m ≡ x)
+ModemTakes m x = (judge (modem_rules m) ≡ no_fault) × (modem_at m ≡ x)
 
 -- from the numbers of its versions and a list of services
 pub record ModemMadeFrom (x : Modem) : Type 0 where
@@ -58,7 +55,7 @@ pub record ModemMadeFrom (x : Modem) : Type 0 where
   pub native_small : native < 2 ^ 16
   pub advertised_small : advertised < 2 ^ 16
   pub services_bytes : Bytes services
-  pub made : made_of native advertised services ≡ made.Made x
+  pub made : made_of native advertised services ≡ Ok x
 
 abbrev pub ModemReached : Modem → Type 0
 ModemReached x = Reached modem_call ModemMadeFrom ModemGiven x
@@ -69,5 +66,5 @@ ModemTakenExactly = TakenExactly ModemTakes ModemReached modem_size modem_bytes
 -- ---- memory with the room in which a modem was made serves any calls
 
 abbrev pub ModemMemoryServes : Type 0
-ModemMemoryServes = (m : List ℕ) → modem_size ≤ length m → (native advertised : ℕ) (services : List ℕ) (x : Modem) → made_of native advertised services ≡ made.Made x
+ModemMemoryServes = (m : List ℕ) → modem_size ≤ length m → (native advertised : ℕ) (services : List ℕ) (x : Modem) → made_of native advertised services ≡ Ok x
     → (cs : List ModemCall) → Serves modem_call modem_call_in ModemTakes x (make_in m native advertised services).memory cs

@@ -2,11 +2,11 @@
 // is too small, or whose numbers no calls can have left, is refused and stays as it was.
 #![tactic(auto)]
 
-ghost use Rattle.std.specs.Prelude.{◌≡◌, ◌&&◌};
+ghost use Rattle.std.specs.Prelude.{◌≡◌};
 ghost use Rattle.protocol.specs.Verdict.{judge};
 ghost use Rattle.lent_ends.specs.Stages.{native_rules, stray_version};
 
-use protocol::{CONTRADICTION, OUTPUT_TOO_SMALL, Verdict, also};
+use protocol::{Reason, Verdict, refuse_if};
 use version_info::is_extension;
 use wire::u16_at;
 
@@ -14,14 +14,14 @@ use wire::u16_at;
 pub const NATIVE: usize = 0;
 
 // The verdict on the room for an end, and on its native version.
+#[tactic(auto, unfolding(protocol::specs::Verdict::judge_from, protocol::specs::Verdict::first_of, protocol::specs::Verdict::fault_if))]
 pub fn judge_native(memory: &[u8], size: usize) -> Verdict
     ensures { result ≡ judge (native_rules size memory.now) }
 {
-    let room = also(Verdict::Fits, memory.len() < size, OUTPUT_TOO_SMALL, size);
-    also(
-        room,
+    refuse_if(memory.len() < size, Reason::OutputTooSmall, size)?;
+    refuse_if(
         !is_extension(u16_at(memory, NATIVE)),
-        CONTRADICTION,
+        Reason::Contradiction,
         NATIVE,
     )
 }
@@ -31,16 +31,8 @@ pub fn is_stray_version(versioned: bool, number: u16) -> bool
     ensures { result ≡ stray_version versioned number }
 {
     if versioned {
-        return !is_extension(number);
+        !is_extension(number)
+    } else {
+        number != 0
     }
-    number != 0
-}
-
-pub fn both(a: bool, b: bool) -> bool
-    ensures { result ≡ (a && b) }
-{
-    if a {
-        return b;
-    }
-    false
 }

@@ -1,29 +1,26 @@
 -- The modem's end in lent memory: native version at 0, advertised at 2, whether it lists VERSION at 4, stage at 6, the version settled on at 8, 16 bits each.
 -- In this order: stages as numbers; what the memory holds; the bytes of an end; an end made; an end put back to its start; a message.
 -- Memory that holds no end which calls can have left is refused, 10 at the field's place, and stays as it was.
-use Rattle.std.specs.Prelude.{ℕ, Bool, not, cond, ◌&&◌, List, [], ◌∷◌, ◌++◌, ltb, eqb}
+use Rattle.std.specs.Prelude.{ℕ, Bool, not, cond, ◌&&◌, List, [], ◌∷◌, ◌++◌, ltb, eqb, Ok, Err, Result}
 use Rattle.std.proofs.lemmas.List.Edits.{sets}
 use Rattle.wire.specs.Numbers.{u16_at, digits}
 use Rattle.protocol.specs.Refusal.{contradiction}
-use Rattle.protocol.specs.Verdict.{Rule, rule, judge}
-use Rattle.protocol.specs.declared.Verdict.{Verdict}
-use Rattle.protocol.specs.declared.Verdict.TheVariants.{Fits, Fault}
+use Rattle.protocol.specs.Verdict.{Rule, rule, judge, no_fault, Verdict}
 use Rattle.protocol.specs.declared.Version.{Version}
 use Rattle.version_info.specs.VersionInfo.{is_extension}
 use Rattle.handshake.specs.Versions.{extensions2, number_of, version_of}
 use Rattle.message.specs.declared.MessageHeader.{MessageHeader}
-use Rattle.modem.specs.Modem.{settled_number, made_of, start_of, Commanding, receive_of}
+use Rattle.modem.specs.Modem.{settled_number, made_of, start_of, Commanding, receive_of, ModemMade}
 use Rattle.modem.specs.declared.Modem.{Modem}
-use Rattle.modem.specs.declared.ModemMade.{ModemMade}
-use Rattle.modem.specs.declared.ModemMade.TheVariants as made
-use Rattle.modem.specs.declared.ModemAnswer.TheVariants as answer
 use Rattle.modem.specs.declared.ModemStage.{ModemStage}
 use Rattle.modem.specs.declared.ModemStage.TheVariants.{Start, Listed, Settled}
 use Rattle.lent.specs.Stored.{Stored, unstored, stored}
 use Rattle.lent_ends.specs.Stages.{native_rules, stray_version}
 use Rattle.lent_modem.specs.declared.ModemReply.{ModemReply}
-use Rattle.lent_modem.specs.declared.ModemHeld.{ModemHeld}
-use Rattle.lent_modem.specs.declared.ModemHeld.TheVariants as held
+use Rattle.protocol.specs.declared.Refusal.{Refusal}
+
+abbrev pub ModemHeld : Type 0
+ModemHeld = Result Modem Refusal
 
 -- ---- stages: 0 start, 1 list served, 2 settled
 
@@ -71,8 +68,8 @@ modem_at m = record {
 }
 
 abbrev pub held_by : Verdict → Modem → ModemHeld
-held_by Fits x = held.Held x
-held_by (Fault r) x = held.Refused r
+held_by (Ok _) x = Ok x
+held_by (Err r) x = Err r
 
 unfoldable pub modem_in : List ℕ → ModemHeld
 modem_in m = held_by (judge (modem_rules m)) (modem_at m)
@@ -86,8 +83,8 @@ modem_bytes x =
 -- ---- an end made: 12, then its list of services, then the room
 
 abbrev pub made_by : ModemMade → List ℕ → Stored
-made_by (made.Made x) m = stored modem_size (modem_bytes x) m
-made_by (made.Refused r) m = unstored r m
+made_by (Ok x) m = stored modem_size (modem_bytes x) m
+made_by (Err r) m = unstored r m
 
 unfoldable pub make_in : List ℕ → ℕ → ℕ → List ℕ → Stored
 make_in m native advertised services = made_by (made_of native advertised services) m
@@ -95,8 +92,8 @@ make_in m native advertised services = made_by (made_of native advertised servic
 -- ---- the end in the memory m put back to its start
 
 abbrev pub restart_by : ModemHeld → List ℕ → Stored
-restart_by (held.Held x) m = record { verdict = Fits; memory = sets m 0 (modem_bytes (start_of x)) }
-restart_by (held.Refused r) m = unstored r m
+restart_by (Ok x) m = record { verdict = no_fault; memory = sets m 0 (modem_bytes (start_of x)) }
+restart_by (Err r) m = unstored r m
 
 unfoldable pub restart_in : List ℕ → Stored
 restart_in m = restart_by (modem_in m) m
@@ -116,8 +113,8 @@ commanded m c = record {
 }
 
 abbrev pub receive_by : ModemHeld → List ℕ → MessageHeader → List ℕ → List ℕ → ModemCalled
-receive_by (held.Held x) m message s out = commanded m (receive_of x message s out)
-receive_by (held.Refused r) m message s out = record { reply = record { answer = answer.Refused r; stage = Start }; memory = m; output = out }
+receive_by (Ok x) m message s out = commanded m (receive_of x message s out)
+receive_by (Err r) m message s out = record { reply = record { answer = Err r; stage = Start }; memory = m; output = out }
 
 unfoldable pub receive_in : List ℕ → MessageHeader → List ℕ → List ℕ → ModemCalled
 receive_in m message s out = receive_by (modem_in m) m message s out

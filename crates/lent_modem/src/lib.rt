@@ -2,18 +2,17 @@
 // stage and the version that it settled on, 16 bits each.
 #![tactic(auto)]
 
-ghost use Rattle.std.specs.Prelude.{◌≡◌, not, eqb};
+ghost use Rattle.std.specs.Prelude.{◌≡◌};
 ghost use Rattle.std.proofs.lemmas.List.Edits.{sets};
 ghost use Rattle.wire.specs.Numbers.{u16_at};
-ghost use Rattle.protocol.specs.Verdict.{judge, judge_from};
-ghost use Rattle.lent_modem.specs.LentModem.{modem_size, stage_of, stage_number, flag_number, stage_rules, modem_rules, modem_at, modem_in, modem_bytes, make_in, restart_in, receive_in};
-ghost use Rattle.lent.specs.Stored.{stored};
+ghost use Rattle.protocol.specs.Verdict.{judge};
+ghost use Rattle.lent_modem.specs.LentModem.{stage_of, stage_number, stage_rules, modem_rules, modem_at, modem_in, modem_bytes, make_in, restart_in, receive_in};
 
 use handshake::{number_of, version_of};
-use lent_ends::{NATIVE, both, is_stray_version, judge_native};
+use lent_ends::{NATIVE, is_stray_version, judge_native};
 use message::MessageHeader;
-use modem::{Modem, ModemAnswer, ModemMade, ModemStage, ModemStep, settled_number};
-use protocol::{CONTRADICTION, OUTPUT_TOO_SMALL, Refusal, Verdict, Version, also};
+use modem::{Modem, ModemAnswer, ModemStage, ModemStep, settled_number};
+use protocol::{Reason, Refusal, Verdict, Version, refuse_if};
 use version_info::{EXTENSIONS_2_0, is_extension};
 use wire::{put_u16, u16_at};
 
@@ -28,53 +27,56 @@ const STAGE: usize = 6;
 
 const VERSION: usize = 8;
 
-// The numbers of the stages.
+// The numbers of the stages. ModemStage is of a crate below, so that no From or TryFrom of it can stand here.
 const START: u16 = 0;
 
 const LISTED: u16 = 1;
 
 const SETTLED: u16 = 2;
 
-// What the memory holds.
-#[derive(Clone, Copy)]
-pub enum ModemHeld {
-    Held(Modem),
-    Refused(Refusal),
-}
-
 // What a message is answered, and the stage of the end after it.
 #[derive(Clone, Copy)]
 pub struct ModemReply {
-    pub answer: ModemAnswer,
+    pub answer: Result<ModemAnswer, Refusal>,
     pub stage: ModemStage,
 }
 
 // A modem at its start, from the numbers of its versions and the list of services that it serves.
+#[tactic(auto, unfolding(crate::specs::LentModem::make_in, protocol::specs::Verdict::fault_if))]
 pub fn make(memory: &mut [u8], native: u16, advertised: u16, services: &[u8]) -> Verdict
     ensures value { result ≡ (make_in memory.old native advertised services.now).verdict }
     ensures memory_after { memory.new ≡ (make_in memory.old native advertised services.now).memory }
 {
-    match modem::make(native, advertised, services) {
-        ModemMade::Made(modem) => store(memory, modem),
-        ModemMade::Refused(refusal) => Verdict::Fault(refusal),
-    }
+    let modem = modem::make(native, advertised, services)?;
+    refuse_if(
+        memory.len() < MODEM_SIZE,
+        Reason::OutputTooSmall,
+        MODEM_SIZE,
+    )?;
+    put_modem(memory, modem);
+    Ok(())
 }
 
+// OPEN and CLOSE put the end back to its start.
+#[tactic(auto, unfolding(crate::specs::LentModem::restart_in))]
 pub fn open(memory: &mut [u8]) -> Verdict
     ensures value { result ≡ (restart_in memory.old).verdict }
     ensures memory_after { memory.new ≡ (restart_in memory.old).memory }
 {
-    restart(memory)
+    let modem = modem_at(memory)?;
+    put_modem(memory, modem::open(modem));
+    Ok(())
 }
 
 pub fn close(memory: &mut [u8]) -> Verdict
     ensures value { result ≡ (restart_in memory.old).verdict }
     ensures memory_after { memory.new ≡ (restart_in memory.old).memory }
 {
-    restart(memory)
+    open(memory)
 }
 
 // A received message; a VERSION reply's payload is written into the output.
+#[tactic(auto, unfolding(crate::specs::LentModem::receive_in))]
 pub fn receive(
     memory: &mut [u8],
     message: MessageHeader,
@@ -85,40 +87,23 @@ pub fn receive(
     ensures memory_after { memory.new ≡ (receive_in memory.old message information.now out.old).memory }
     ensures out_after { out.new ≡ (receive_in memory.old message information.now out.old).output }
 {
+    // A reply has the stage beside the refusal, so no `?`.
     match modem_at(memory) {
-        ModemHeld::Held(modem) => {
-            let step = modem::receive(modem, message, information, out);
-            keep(memory, step)
-        }
-        ModemHeld::Refused(refusal) => ModemReply {
-            answer: ModemAnswer::Refused(refusal),
+        Ok(modem) => keep(memory, modem::receive(modem, message, information, out)),
+        Err(refusal) => ModemReply {
+            answer: Err(refusal),
             stage: ModemStage::Start,
         },
     }
 }
 
 // The end in the memory.
-pub fn modem_at(memory: &[u8]) -> ModemHeld
+#[tactic(auto, unfolding(crate::specs::LentModem::modem_in))]
+pub fn modem_at(memory: &[u8]) -> Result<Modem, Refusal>
     ensures { result ≡ modem_in memory.now }
 {
-    match judge_modem(memory) {
-        Verdict::Fits => ModemHeld::Held(fields_at(memory)),
-        Verdict::Fault(refusal) => ModemHeld::Refused(refusal),
-    }
-}
-
-// OPEN and CLOSE put the end back to its start.
-fn restart(memory: &mut [u8]) -> Verdict
-    ensures value { result ≡ (restart_in memory.old).verdict }
-    ensures memory_after { memory.new ≡ (restart_in memory.old).memory }
-{
-    match modem_at(memory) {
-        ModemHeld::Held(modem) => {
-            put_modem(memory, modem::open(modem));
-            Verdict::Fits
-        }
-        ModemHeld::Refused(refusal) => Verdict::Fault(refusal),
-    }
+    judge_modem(memory)?;
+    Ok(fields_at(memory))
 }
 
 // The end after a message, put back, and the answer.
@@ -126,89 +111,69 @@ fn keep(memory: &mut [u8], step: ModemStep) -> ModemReply
     ensures answer_value { (result.answer ≡ step.answer) × (result.stage ≡ step.modem.stage) }
     ensures memory_after { memory.new ≡ sets memory.old 0 (modem_bytes step.modem) }
 {
-    let modem = step.modem;
-    let answer = step.answer;
-    let stage = modem.stage;
-    put_modem(memory, modem);
-    ModemReply { answer, stage }
-}
-
-fn store(memory: &mut [u8], modem: Modem) -> Verdict
-    ensures value { result ≡ (stored modem_size (modem_bytes modem) memory.old).verdict }
-    ensures memory_after { memory.new ≡ (stored modem_size (modem_bytes modem) memory.old).memory }
-{
-    if memory.len() < MODEM_SIZE {
-        return Verdict::Fault(Refusal {
-            number: OUTPUT_TOO_SMALL,
-            place: MODEM_SIZE,
-        });
+    put_modem(memory, step.modem);
+    ModemReply {
+        answer: step.answer,
+        stage: step.modem.stage,
     }
-    put_modem(memory, modem);
-    Verdict::Fits
 }
 
 // Puts the end at the front of the memory.
+#[tactic(auto, unfolding(crate::specs::LentModem::modem_bytes))]
 pub fn put_modem(memory: &mut [u8], modem: Modem)
     ensures { memory.new ≡ sets memory.old 0 (modem_bytes modem) }
 {
-    let native = modem.native;
-    let advertised = modem.advertised;
     let stage = modem.stage;
-    put_u16(memory, NATIVE, number_of(native));
-    put_u16(memory, ADVERTISED, number_of(advertised));
-    put_u16(memory, LISTS_VERSION, flag_number(modem.lists_version));
+    put_u16(memory, NATIVE, number_of(modem.native));
+    put_u16(memory, ADVERTISED, number_of(modem.advertised));
+    put_u16(memory, LISTS_VERSION, modem.lists_version as u16);
     put_u16(memory, STAGE, stage_number(stage));
     put_u16(memory, VERSION, settled_number(stage));
 }
 
 // The verdict on what calls can have left.
+#[tactic(auto, unfolding(protocol::specs::Verdict::judge_from, protocol::specs::Verdict::first_of, protocol::specs::Verdict::fault_if))]
 fn judge_modem(memory: &[u8]) -> Verdict
     ensures { result ≡ judge (modem_rules memory.now) }
 {
     let native = u16_at(memory, NATIVE);
     let advertised = u16_at(memory, ADVERTISED);
     let listed = u16_at(memory, LISTS_VERSION);
-    let known = judge_native(memory, MODEM_SIZE);
-    let offered = also(known, !is_extension(advertised), CONTRADICTION, ADVERTISED);
-    let below = also(offered, native < advertised, CONTRADICTION, ADVERTISED);
-    let flagged = also(below, 1 < listed, CONTRADICTION, LISTS_VERSION);
-    judge_stage(flagged, memory, native, advertised, listed)
+    judge_native(memory, MODEM_SIZE)?;
+    refuse_if(!is_extension(advertised), Reason::Contradiction, ADVERTISED)?;
+    refuse_if(native < advertised, Reason::Contradiction, ADVERTISED)?;
+    refuse_if(1 < listed, Reason::Contradiction, LISTS_VERSION)?;
+    judge_stage(memory, native, advertised, listed)
 }
 
-// The verdict so far, and then the stage with the version that the end settled on.
-fn judge_stage(
-    verdict: Verdict,
-    memory: &[u8],
-    native: u16,
-    advertised: u16,
-    listed: u16,
-) -> Verdict
-    ensures { result ≡ judge_from verdict (stage_rules native advertised listed (u16_at memory.now 6) (u16_at memory.now 8)) }
+// The stage, with the version that the end settled on.
+#[tactic(auto, unfolding(protocol::specs::Verdict::judge_from, protocol::specs::Verdict::first_of, protocol::specs::Verdict::fault_if))]
+fn judge_stage(memory: &[u8], native: u16, advertised: u16, listed: u16) -> Verdict
+    ensures { result ≡ judge (stage_rules native advertised listed (u16_at memory.now 6) (u16_at memory.now 8)) }
 {
     let stage = u16_at(memory, STAGE);
     let version = u16_at(memory, VERSION);
-    let staged = also(verdict, SETTLED < stage, CONTRADICTION, STAGE);
-    let versioned = also(
-        staged,
-        is_stray_version(stage == SETTLED, version),
-        CONTRADICTION,
+    let settled = stage == SETTLED;
+    refuse_if(SETTLED < stage, Reason::Contradiction, STAGE)?;
+    refuse_if(
+        is_stray_version(settled, version),
+        Reason::Contradiction,
         VERSION,
-    );
-    let within = also(versioned, native < version, CONTRADICTION, VERSION);
-    let offered = also(
-        within,
-        both(stage == SETTLED, version < advertised),
-        CONTRADICTION,
+    )?;
+    refuse_if(native < version, Reason::Contradiction, VERSION)?;
+    refuse_if(
+        settled && version < advertised,
+        Reason::Contradiction,
         VERSION,
-    );
-    also(
-        offered,
-        both(listed == 0, version == EXTENSIONS_2_0),
-        CONTRADICTION,
+    )?;
+    refuse_if(
+        listed == 0 && version == EXTENSIONS_2_0,
+        Reason::Contradiction,
         VERSION,
     )
 }
 
+#[tactic(auto, unfolding(crate::specs::LentModem::modem_at))]
 fn fields_at(memory: &[u8]) -> Modem
     ensures { result ≡ modem_at memory.now }
 {
@@ -222,25 +187,14 @@ fn fields_at(memory: &[u8]) -> Modem
     }
 }
 
-fn flag_number(flag: bool) -> u16
-    ensures { result ≡ flag_number flag }
-{
-    if flag {
-        return 1;
-    }
-    0
-}
-
 fn stage_of(stage: u16, version: Version) -> ModemStage
     ensures { result ≡ stage_of stage version }
 {
-    if stage == START {
-        return ModemStage::Start;
+    match stage {
+        START => ModemStage::Start,
+        LISTED => ModemStage::Listed,
+        _ => ModemStage::Settled { version },
     }
-    if stage == LISTED {
-        return ModemStage::Listed;
-    }
-    ModemStage::Settled { version }
 }
 
 fn stage_number(stage: ModemStage) -> u16
@@ -249,6 +203,6 @@ fn stage_number(stage: ModemStage) -> u16
     match stage {
         ModemStage::Start => START,
         ModemStage::Listed => LISTED,
-        ModemStage::Settled { version: _ } => SETTLED,
+        ModemStage::Settled { .. } => SETTLED,
     }
 }

@@ -3,24 +3,23 @@
 -- In this order: what the memory holds; the bytes of a table; a table made; an entry.
 -- Memory with a flag, a length or tries that no call leaves is refused, 10 at the field's place, and stays as it was. How rows go together, and what
 -- stands behind a secret, is not judged: whatever is taken is the table that its rows say.
-use Rattle.std.specs.Prelude.{ℕ, suc, ◌+◌, ◌*◌, not, cond, List, [], ◌∷◌, ◌++◌, ltb, eqb, length, get_or, take, drop}
+use Rattle.std.specs.Prelude.{ℕ, suc, ◌+◌, ◌*◌, not, cond, List, [], ◌∷◌, ◌++◌, ltb, eqb, length, get_or, take, drop, Ok, Err, Result}
 use Rattle.std.proofs.lemmas.List.Edits.{sets}
 use Rattle.wire.specs.Numbers.{u32_at, digits}
 use Rattle.wire.specs.Output.{fitted}
 use Rattle.protocol.specs.Refusal.{refusal, contradiction, output_too_small}
-use Rattle.protocol.specs.Verdict.{Rule, rule, judge}
-use Rattle.protocol.specs.declared.Verdict.{Verdict}
-use Rattle.protocol.specs.declared.Verdict.TheVariants.{Fits, Fault}
+use Rattle.protocol.specs.Verdict.{Rule, rule, judge, Verdict}
 use Rattle.folds.specs.Folds.{first_fault, joined}
 use Rattle.pairs.specs.Pair.{unfit}
 use Rattle.pairs.specs.declared.PairKind.TheVariants.{Text}
 use Rattle.pin_entry.specs.PinTable.{Row, Table, filled, Entry}
 use Rattle.pin_entry.specs.Meaning.{enter_of, made_of}
 use Rattle.pin_entry.specs.declared.PinAnswer.{PinAnswer}
-use Rattle.pin_entry.specs.declared.PinAnswer.TheVariants.{Info, Failed, Refused}
+use Rattle.pin_entry.specs.declared.PinAnswer.TheVariants.{Info, Failed}
 use Rattle.pin_entry.specs.declared.starts.PinStart.{PinStart}
 use Rattle.lent.specs.Stored.{Stored, unstored, stored}
 use Rattle.lent_modem.specs.LentModem.{flag_number}
+use Rattle.protocol.specs.declared.Refusal.{Refusal}
 
 -- ---- what the memory holds
 
@@ -61,7 +60,7 @@ unfoldable pub rows_verdict : List ℕ → Verdict
 rows_verdict m = first_fault (row_verdict m) 17
 
 unfoldable pub pins_verdict : List ℕ → Verdict
-pins_verdict m = cond (ltb (length m) pins_size) (Fault (refusal output_too_small pins_size)) (rows_verdict m)
+pins_verdict m = cond (ltb (length m) pins_size) (Err (refusal output_too_small pins_size)) (rows_verdict m)
 
 -- ---- the bytes of a table
 
@@ -82,8 +81,8 @@ table_bytes t = joined (row_bytes_at t) 17
 -- ---- a table made: what it is made of is judged, then the room
 
 abbrev pub made_by : Verdict → Table → List ℕ → Stored
-made_by Fits t m = stored pins_size (table_bytes t) m
-made_by (Fault r) t m = unstored r m
+made_by (Ok _) t m = stored pins_size (table_bytes t) m
+made_by (Err r) t m = unstored r m
 
 unfoldable pub make_in : List ℕ → List PinStart → Stored
 make_in m rows = made_by (made_of rows).verdict (made_of rows).table m
@@ -91,21 +90,21 @@ make_in m rows = made_by (made_of rows).verdict (made_of rows).table m
 -- ---- an entry: the memory is judged, then the payload
 
 pub record PinsCalled : Type 0 where
-  pub answer : PinAnswer
+  pub answer : Result PinAnswer Refusal
   pub memory : List ℕ
 
 -- the memory after it; where no PIN_INFO is shown it is as it was
-abbrev pub kept_by : PinAnswer → Table → List ℕ → List ℕ
-kept_by (Info status i) t m = sets m 0 (table_bytes t)
-kept_by (Failed status) t m = m
-kept_by (Refused r) t m = m
+abbrev pub kept_by : (Result PinAnswer Refusal) → Table → List ℕ → List ℕ
+kept_by (Ok (Info status i)) t m = sets m 0 (table_bytes t)
+kept_by (Ok (Failed status)) t m = m
+kept_by (Err r) t m = m
 
 abbrev pub kept : Entry → List ℕ → PinsCalled
 kept e m = record { answer = e.answer; memory = kept_by e.answer e.table m }
 
 abbrev pub enter_by : Verdict → List ℕ → List ℕ → PinsCalled
-enter_by Fits m s = kept (enter_of (table_in m) s) m
-enter_by (Fault r) m s = record { answer = Refused r; memory = m }
+enter_by (Ok _) m s = kept (enter_of (table_in m) s) m
+enter_by (Err r) m s = record { answer = Err r; memory = m }
 
 unfoldable pub enter_in : List ℕ → List ℕ → PinsCalled
 enter_in m s = enter_by (pins_verdict m) m s

@@ -5,24 +5,25 @@ ghost use Rattle.std.proofs.lemmas.List.Edits.{sets};
 ghost use Rattle.lent_modem.specs.LentModem.{modem_bytes};
 ghost use Rattle.pin_entry.specs.Meaning.{table_of};
 ghost use Rattle.pin_modem.specs.PinModem.{serving_of};
-ghost use Rattle.pin_modem.specs.declared.PinModemAnswer.TheVariants.{Modem as AsModem};
-ghost use Rattle.lent_pins.specs.LentModems.{refused_reply, is_answered, kept_reply, kept_modem_by, kept_modem, kept_pins, served_in, held_in, receive_in};
+ghost use Rattle.lent_pins.specs.LentModems.{refused_reply, kept_reply, kept_modem, kept_pins, served_in, held_in, receive_in};
 
 use crate::{judge_pins, put_table, table_at};
-use lent_modem::{ModemHeld, modem_at, put_modem};
+use lent_modem::{modem_at, put_modem};
 use message::MessageHeader;
-use modem::{Modem, ModemAnswer, ModemStage};
+use modem::{Modem, ModemStage};
 use pin_modem::{PinModemAnswer, PinModemStep, is_entry, serve};
 use protocol::{Refusal, Verdict};
 
-// What a message is answered, and the stage of the end after it.
+// What a message is answered, and the stage of the end after it: beside a refusal too, so that no `?` can
+// pass one on here.
 #[derive(Clone, Copy)]
 pub struct PinReply {
-    pub answer: PinModemAnswer,
+    pub answer: Result<PinModemAnswer, Refusal>,
     pub stage: ModemStage,
 }
 
 // A received message; the payload of a reply to VERSION, or to an entry, is written into the output.
+#[tactic(auto, unfolding(crate::specs::LentModems::receive_in))]
 pub fn receive(
     memory: &mut [u8],
     pins: &mut [u8],
@@ -36,12 +37,13 @@ pub fn receive(
     ensures out_after { out.new ≡ (receive_in memory.old pins.old message information.now out.old).output }
 {
     match modem_at(memory) {
-        ModemHeld::Held(modem) => receive_held(memory, pins, modem, message, information, out),
-        ModemHeld::Refused(refusal) => refused(refusal),
+        Ok(modem) => receive_held(memory, pins, modem, message, information, out),
+        Err(refusal) => refused(refusal),
     }
 }
 
 // A message to the end that the memory holds.
+#[tactic(auto, unfolding(crate::specs::LentModems::held_in))]
 fn receive_held(
     memory: &mut [u8],
     pins: &mut [u8],
@@ -56,20 +58,18 @@ fn receive_held(
     ensures out_after { out.new ≡ (held_in memory.old pins.old modem message information.now out.old).output }
 {
     let step = modem::receive(modem, message, information, out);
-    let after = step.modem;
-    let answer = step.answer;
-    if is_entry(message, answer) {
-        return serve_held(memory, pins, modem, after, information, out);
+    if is_entry(message, step.answer) {
+        return serve_held(memory, pins, modem, step.modem, information, out);
     }
-    let stage = after.stage;
-    put_modem(memory, after);
+    put_modem(memory, step.modem);
     PinReply {
-        answer: PinModemAnswer::Modem(answer),
-        stage,
+        answer: step.answer.map(PinModemAnswer::Modem),
+        stage: step.modem.stage,
     }
 }
 
 // An entry: the end before and after the handshake's rules.
+#[tactic(auto, using(crate::proofs::Places::room), unfolding(crate::specs::LentModems::served_in))]
 fn serve_held(
     memory: &mut [u8],
     pins: &mut [u8],
@@ -84,11 +84,11 @@ fn serve_held(
     ensures out_after { out.new ≡ (served_in memory.old pins.old before after payload.now out.old).output }
 {
     match judge_pins(pins) {
-        Verdict::Fits => {
+        Ok(()) => {
             let step = serve(before, after, table_at(pins), payload, out);
             keep(memory, pins, step)
         }
-        Verdict::Fault(refusal) => refused(refusal),
+        Err(refusal) => refused(refusal),
     }
 }
 
@@ -99,41 +99,17 @@ fn keep(memory: &mut [u8], pins: &mut [u8], step: PinModemStep) -> PinReply
     ensures memory_after { memory.new ≡ kept_modem (serving_of step) memory.old }
     ensures pins_after { pins.new ≡ kept_pins (serving_of step) pins.old }
 {
-    let modem = step.modem;
-    let table = step.table;
-    let answer = step.answer;
-    let stage = modem.stage;
-    match answer {
-        PinModemAnswer::Modem(plain) => keep_end(memory, modem, plain),
-        PinModemAnswer::Pin {
-            status: _,
-            length: _,
-        } => {
-            put_modem(memory, modem);
-            put_table(pins, table);
+    match step.answer {
+        Ok(PinModemAnswer::Modem(_)) => put_modem(memory, step.modem),
+        Ok(PinModemAnswer::Pin { .. }) => {
+            put_modem(memory, step.modem);
+            put_table(pins, step.table);
         }
+        Err(_) => {}
     }
-    PinReply { answer, stage }
-}
-
-// The end, put back unless the answer is a refusal.
-fn keep_end(memory: &mut [u8], modem: Modem, answer: ModemAnswer)
-    ensures { memory.new ≡ kept_modem_by (AsModem answer) modem memory.old }
-{
-    if is_answered(answer) {
-        put_modem(memory, modem);
-    }
-}
-
-fn is_answered(answer: ModemAnswer) -> bool
-    ensures { result ≡ is_answered answer }
-{
-    match answer {
-        ModemAnswer::Serve(_) => true,
-        ModemAnswer::Version(_) => true,
-        ModemAnswer::Unknown(_) => true,
-        ModemAnswer::Failed(_) => true,
-        ModemAnswer::Refused(_) => false,
+    PinReply {
+        answer: step.answer,
+        stage: step.modem.stage,
     }
 }
 
@@ -141,7 +117,7 @@ fn refused(refusal: Refusal) -> PinReply
     ensures { result ≡ refused_reply refusal }
 {
     PinReply {
-        answer: PinModemAnswer::Modem(ModemAnswer::Refused(refusal)),
+        answer: Err(refusal),
         stage: ModemStage::Start,
     }
 }

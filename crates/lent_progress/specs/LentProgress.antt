@@ -2,9 +2,8 @@
 -- else 10 at the field's place. The bytes of the buffer are not looked at: those past the gathered ones are never shown.
 use Rattle.std.specs.Prelude.{◌+◌, Bool, not, cond, ◌&&◌, List, [], ◌∷◌, ltb, leb, eqb}
 use Rattle.protocol.specs.Refusal.{contradiction}
-use Rattle.protocol.specs.Verdict.{Rule, rule, judge}
+use Rattle.protocol.specs.Verdict.{Rule, rule, judge, Verdict}
 use Rattle.protocol.specs.MessageType.{INDICATE_STATUS, is_fragmented}
-use Rattle.protocol.specs.declared.Verdict.{Verdict}
 use Rattle.message.specs.Message.{most_information, most_transfer, most_fragments, first_length, wrong_word}
 use Rattle.message.specs.declared.MessageHeader.{MessageHeader}
 use Rattle.assembler.specs.declared.Progress.{Progress}

@@ -5,25 +5,22 @@ use mathlib.Core.Bool.{true, false, cond}
 use mathlib.Core.List.{List, [], ◌++◌, append_assoc, append-nil}
 use Prim.Native.Nat.{ℕ, ◌+◌, ◌*◌, ◌-◌, ◌≤◌, ◌<◌}
 use native.Mathlib.Omega.{arith}
-use borrow.Author.Tests.{lt-ltb, le-ltb, ltb-false, eqb-false, not-false}
+use borrow.Author.Tests.{lt-ltb, ltb-false, eqb-false, not-false}
 use lib.Dec.{ltb, eqb}
 use lib.ListN.{length, get_or, take, drop, replicate, length-append, length-take, length-drop, length-replicate, replicate-append-replicate}
 use lib.Seq.{sets, length-take-le, take-append-le, drop-append-le, drop_at, drop-drop}
 use Rattle.wire.specs.Numbers.{u32_at, digits}
 use Rattle.wire.specs.Output.{over}
-use Rattle.wire.proofs.Laws.{four, sets_over, take_over}
-use Rattle.protocol.specs.Verdict.{judge}
-use Rattle.protocol.specs.declared.Verdict.{Verdict}
-use Rattle.protocol.specs.declared.Verdict.TheVariants.{Fits, Fault}
+use Rattle.wire.proofs.Laws.{four, sets_over, take_rest, take_over}
+use Rattle.protocol.specs.Verdict.{judge, no_fault, Verdict}
 use Rattle.protocol.proofs.Verdicts.{fits_kept}
 use Rattle.message.specs.Message.{most_information, is_whole_piece}
 use Rattle.assembler.specs.Assembly.{Step, assembly_of}
 use Rattle.assembler.specs.Door.{whole_shown}
 use Rattle.assembler.specs.declared.door.Received.{Received}
-use Rattle.assembler.specs.declared.door.Received.TheVariants as received
 use Rattle.assembler.proofs.Room.{step_room}
 use Rattle.lent_progress.specs.LentProgress.{progress_verdict}
-use Rattle.lent.specs.LentAssembly.{assembly_size, buffer_in, progress_in, too_small, emptied, Feeding as FeedingA, kept, kept_of, judged_in, feed_in as feed_assembly, untouched, fed_in as fed_assembly, Receiving, receive_in}
+use Rattle.lent.specs.LentAssembly.{assembly_size, buffer_in, progress_in, too_small, Feeding as FeedingA, kept, kept_of, judged_in, feed_in as feed_assembly, untouched, fed_in as fed_assembly, Receiving, receive_in}
 use Rattle.lent.proofs.Memory.{put_front, word_kept, kept_then}
 use Rattle.stream.specs.declared.State.{State}
 use Rattle.stream.specs.declared.Said.{Said}
@@ -34,9 +31,11 @@ use Rattle.stream.specs.declared.front.Ready.TheVariants.{Done, Ends, InChunk, I
 use Rattle.stream.specs.Stream.{state_of, next_of, wiped, ended_on}
 use Rattle.stream.specs.Ready.{prepared_of}
 use Rattle.stream.proofs.Finished.{finished_by, finished_is}
-use Rattle.stream.proofs.Giving.{in_chunk, in_buffer, done_open, prepared_length, wiped_front, wiped_length}
+use Rattle.stream.proofs.Giving.{in_chunk, in_buffer, done_open, prepared_length, wiped_length}
 use Rattle.lent_stream.specs.declared.FedLent.{FedLent}
-use Rattle.lent_stream.specs.LentStream.{stream_size, piece_in, open_in, state_bytes, room_rules, is_short, is_unfinished, feed_rules, memory_door, FeedingIn, fed_lent, ended_fed, stream_bytes, stored_in, fed_in}
+use Rattle.lent_stream.specs.LentStream.{stream_size, piece_in, open_in, state_bytes, is_short, is_unfinished, feed_rules, memory_door, FeedingIn, fed_lent, ended_fed, stream_bytes, stored_in, fed_in}
+use Rattle.std.specs.Prelude.{Ok, Err, Result}
+use Rattle.protocol.specs.declared.Refusal.{Refusal}
 
 -- ---- memory that is taken
 
@@ -48,7 +47,7 @@ pub record Taken (m : List ℕ) (lent room : ℕ) : Type 0 where
   pub flag : u32_at m 4 ≤ 1
   pub unfinished : is_unfinished (u32_at m 0) (drop 8 m) ≡ true
 
-pub taken : (m : List ℕ) (lent room : ℕ) → judge (feed_rules m lent room) ≡ Fits → Taken m lent room
+pub taken : (m : List ℕ) (lent room : ℕ) → judge (feed_rules m lent room) ≡ no_fault → Taken m lent room
 taken m lent room e =
     let k = fits_kept (feed_rules m lent room) e in
     record {
@@ -67,13 +66,13 @@ unfolding feed_assembly kept_of
 feed_room a s room l = go (progress_verdict (progress_in a))
   where
     go : (v : Verdict) → judged_in v (progress_in a) a s room ≡ judged_in v (progress_in a) a s most_information
-    go Fits = ap (λ (x : Step). kept x a) (step_room (assembly_of (progress_in a) (buffer_in a)) s room l)
-    go (Fault r) = refl
+    go (Ok _) = ap (λ (x : Step). kept x a) (step_room (assembly_of (progress_in a) (buffer_in a)) s room l)
+    go (Err r) = refl
 
 door_room : (a s : List ℕ) (room : ℕ) → most_information ≤ room → receive_in a s room ≡ receive_in a s most_information
 unfolding receive_in
 door_room a s room l =
-    ap (λ (f : FeedingA). cond (ltb (length a) assembly_size) (untouched a (received.Refused too_small)) (cond (is_whole_piece s) (untouched a (whole_shown s)) (fed_assembly s f))) (feed_room a s room l)
+    ap (λ (f : FeedingA). cond (ltb (length a) assembly_size) (untouched a (Err too_small)) (cond (is_whole_piece s) (untouched a (whole_shown s)) (fed_assembly s f))) (feed_room a s room l)
 
 -- ---- the stream's own memory: 8 bytes of numbers, the buffer, and what is lent past them
 
@@ -160,18 +159,17 @@ module _ (m a c out : List ℕ) (T : Taken m (length a) (length out)) (going : e
       ∙ finished_is memory_door (open_in m a) c (length out) (omega (arith, length_piece m T.own))
       )
 
-  pub done_gives : (t : State) (y : Said) (n : ℕ) {s : List ℕ} → x ≡ Done t y n → s ≡ sets mid 0 (state_bytes t.held 0) → Gives (fed_in m a c (length out)) (fed_lent y n) s a out out
+  pub done_gives : (t : State) (y : Said) (n : ℕ) {s : List ℕ} → x ≡ Done t y n → s ≡ sets mid 0 (state_bytes t.held (cond t.ended 1 0)) → Gives (fed_in m a c (length out)) (fed_lent y n) s a out out
   unfolding finished_by stored_in stream_bytes state_bytes over
   done_gives t y n e es =
-      let o = done_open (u32_at m 0) (piece_in m) c (length out) T.output (omega (arith, length_piece m T.own)) made e in
-      rw (← is_fed (Done t y n) e, o.1) (record { value = refl; memory_after = put_front 8 4096 m q (state_bytes t.held 0) T.own whole refl es; assembly_after = refl; out_after = refl })
+      rw (← is_fed (Done t y n) e) (record { value = refl; memory_after = put_front 8 4096 m q (state_bytes t.held (cond t.ended 1 0)) T.own whole refl es; assembly_after = refl; out_after = refl })
 
   pub end_gives : (t n : ℕ) {s b : List ℕ} {r : FedLent} → x ≡ Ends t n → s ≡ sets mid 0 (state_bytes 0 1) → b ≡ ended_on memory_door a t → r ≡ ended_fed n → Gives (fed_in m a c (length out)) r s b out out
   unfolding finished_by stored_in stream_bytes state_bytes over
   end_gives t n e es eb er = rw (← is_fed (Ends t n) e) (record { value = er; memory_after = put_front 8 4096 m q (state_bytes 0 1) T.own whole refl es; assembly_after = eb; out_after = refl })
 
   -- the piece y went through the door
-  module _ (y : List ℕ) {z : Received} {b o : List ℕ} (ez : z ≡ (receive_in a y (length out)).received) (eb : b ≡ (receive_in a y (length out)).memory)
+  module _ (y : List ℕ) {z : (Result Received Refusal)} {b o : List ℕ} (ez : z ≡ (receive_in a y (length out)).received) (eb : b ≡ (receive_in a y (length out)).memory)
       (eo : o ≡ over (receive_in a y (length out)).information out) where
     same : receive_in a y (length out) ≡ receive_in a y most_information
     same = door_room a y (length out) T.output
@@ -179,12 +177,12 @@ module _ (m a c out : List ℕ) (T : Taken m (length a) (length out)) (going : e
     through : (n : ℕ) → (fed_lent (Piece z) n ≡ fed_lent (Piece (receive_in a y most_information).received) n) × (b ≡ (receive_in a y most_information).memory)
         × (o ≡ over (receive_in a y most_information).information out)
     through n = (
-      ap (λ (w : Received). fed_lent (Piece w) n) (ez ∙ ap (λ (f : Receiving). f.received) same),
+      ap (λ (w : (Result Received Refusal)). fed_lent (Piece w) n) (ez ∙ ap (λ (f : Receiving). f.received) same),
       eb ∙ ap (λ (f : Receiving). f.memory) same,
       eo ∙ ap (λ (f : Receiving). over f.information out) same,
     )
 
-  pub chunk_gives : (n : ℕ) {z : Received} {b o : List ℕ} → x ≡ InChunk n → z ≡ (receive_in a (take n c) (length out)).received → b ≡ (receive_in a (take n c) (length out)).memory
+  pub chunk_gives : (n : ℕ) {z : (Result Received Refusal)} {b o : List ℕ} → x ≡ InChunk n → z ≡ (receive_in a (take n c) (length out)).received → b ≡ (receive_in a (take n c) (length out)).memory
       → o ≡ over (receive_in a (take n c) (length out)).information out → Gives (fed_in m a c (length out)) (fed_lent (Piece z) n) mid b out o
   unfolding finished_by stored_in stream_bytes state_bytes
   chunk_gives n e ez eb eo =
@@ -205,56 +203,39 @@ module _ (m a c out : List ℕ) (T : Taken m (length a) (length out)) (going : e
       ∙ take-append-le n q (drop 4096 (drop 8 m)) (omega (arith, l, whole))
 
   -- zeros over the numbers and the piece
-  cleared : (n : ℕ) {s : List ℕ} → n ≤ 4096 → s ≡ replicate (length (take (8 + n) mid)) 0 → s ++ drop (8 + n) mid ≡ over (state_bytes 0 0 ++ wiped n q) m
+  cleared : (n : ℕ) → n ≤ 4096 → over (replicate (8 + n) 0) mid ≡ over (state_bytes 0 0 ++ wiped n q) m
   unfolding over state_bytes
-  cleared n l e =
+  cleared n l =
       let r = drop 4096 (drop 8 m) in
       let z : List ℕ = replicate n 0 in
-      let all : length (take (8 + n) mid) ≡ 8 + n = length-take-le (8 + n) mid (omega (arith, l, length_mid, T.own)) in
       let behind : drop (8 + n) mid ≡ drop n q ++ r = sym (drop-drop n 8 mid) ∙ ap (drop n) (drop_at (take 8 m) (q ++ r) 8 (length_head m T.own)) ∙ drop-append-le n q r (omega (arith, l, whole)) in
       let wipes : wiped n q ≡ z ++ drop n q = ap (λ (k : ℕ). z ++ drop k q) (length-replicate {A = ℕ} n 0) in
-      (λ i. (e ∙ ap (λ (k : ℕ). replicate k 0) all ∙ sym (replicate-append-replicate 8 n 0)) i ++ behind i)
+      (λ i. replicate (8 + n) 0 ++ drop (length-replicate {A = ℕ} (8 + n) 0 i) mid)
+      ∙ (λ i. sym (replicate-append-replicate 8 n 0) i ++ behind i)
       ∙ append_assoc (replicate 8 0) z (drop n q ++ r)
       ∙ ap (λ (t : List ℕ). replicate 8 0 ++ t) (sym (append_assoc z (drop n q) r))
       ∙ ap (λ (t : List ℕ). replicate 8 0 ++ (t ++ r)) (sym wipes)
       ∙ sym (over_parts m T.own (state_bytes 0 0) (wiped n q) refl (wiped_length n q (omega (arith, l, whole)) ∙ whole))
 
-  pub buffer_same : (n k : ℕ) {s : List ℕ} → x ≡ InBuffer n k → s ≡ replicate (length (take (8 + n) mid)) 0 → length (s ++ drop (8 + n) mid) ≡ length m
-  buffer_same n k e es =
-      let l = buffer_inside e in
-      ap length (wiped_front (8 + n) mid l es) ∙ wiped_length (8 + n) mid l ∙ length_mid
-
-  pub buffer_gives : (n k : ℕ) {z : Received} {s b o : List ℕ} → x ≡ InBuffer n k → z ≡ (receive_in a (take (8 + n - 8) (drop 8 mid)) (length out)).received
+  pub buffer_gives : (n k : ℕ) {z : (Result Received Refusal)} {s b o : List ℕ} → x ≡ InBuffer n k → z ≡ (receive_in a (take (8 + n - 8) (drop 8 mid)) (length out)).received
       → b ≡ (receive_in a (take (8 + n - 8) (drop 8 mid)) (length out)).memory → o ≡ over (receive_in a (take (8 + n - 8) (drop 8 mid)) (length out)).information out
-      → s ≡ replicate (length (take (8 + n) mid)) 0 → Gives (fed_in m a c (length out)) (fed_lent (Piece z) k) (s ++ drop (8 + n) mid) b out o
+      → s ≡ over (replicate (8 + n) 0) mid → Gives (fed_in m a c (length out)) (fed_lent (Piece z) k) s b out o
   unfolding finished_by stored_in stream_bytes
   buffer_gives n k e ez eb eo es =
       let l = buffer_there e in
       let t = through (take (8 + n - 8) (drop 8 mid)) ez eb eo k in
       let p = buffer_piece n l in
-      rw (← is_fed (InBuffer n k) e, ← p) (record { value = t.0; memory_after = cleared n l es ∙ refl; assembly_after = t.1; out_after = t.2 })
+      rw (← is_fed (InBuffer n k) e, ← p) (record { value = t.0; memory_after = es ∙ cleared n l; assembly_after = t.1; out_after = t.2 })
 
 -- ---- the bytes held, judged
 
-pub unfinished_in : (held : ℕ) (piece : List ℕ) {v : Next} → v ≡ next_of (take held piece ++ []) → is_short v ≡ is_unfinished held piece
+pub unfinished_in : (held : ℕ) (m : List ℕ) {v : Next} → v ≡ next_of (take held (take (length m - 8) (drop 8 m)) ++ []) → is_unfinished held (drop 8 m) ≡ is_short v
 unfolding is_unfinished
-unfinished_in held piece e = ap is_short (e ∙ ap next_of (append-nil (take held piece)))
+unfinished_in held m e = sym (ap is_short (e ∙ ap next_of (append-nil (take held (take (length m - 8) (drop 8 m))) ∙ ap (take held) (take_rest 8 m))))
 
-pub unfinished_none : (held : ℕ) (m : List ℕ) → length m < 8 → true ≡ is_unfinished held (drop 8 m)
+pub unfinished_none : (held : ℕ) (m : List ℕ) → length m < 8 → is_unfinished held (drop 8 m) ≡ true
 unfolding is_unfinished next_of
 unfinished_none held m l =
     let e : length (drop 8 m) ≡ 0 = length-drop 8 m ∙ omega arith in
     let f : ltb (length (take held (drop 8 m))) 8 ≡ true = lt-ltb (length (take held (drop 8 m))) 8 (simp length-take (omega (arith, e))) in
     rw f
-
--- ---- emptying
-
-pub roomy : (own lent : ℕ) → judge (room_rules own lent) ≡ Fits → (stream_size ≤ own) × (assembly_size ≤ lent)
-roomy own lent e = let k = fits_kept (room_rules own lent) e in (ltb-false _ _ k.0, ltb-false _ _ k.1.0)
-
-pub emptied_fits : (a : List ℕ) → assembly_size ≤ length a → (emptied a).verdict ≡ Fits
-unfolding emptied
-emptied_fits a l = rw (le-ltb (length a) assembly_size l)
-
-pub reset_same : (m : List ℕ) {b : List ℕ} → stream_size ≤ length m → b ≡ replicate (length (take stream_size m)) 0 → length (b ++ drop stream_size m) ≡ length m
-reset_same m own e = ap length (wiped_front stream_size m own e) ∙ wiped_length stream_size m own

@@ -1,13 +1,11 @@
 -- A stream in lent memory (document 02, order 8): 4,104 bytes of its own, and beside them the memory of its assembly, which stands in crate lent.
 -- In this order: places; emptying; which memory calls can have left; the door in memory; feeding.
 -- Memory that holds no stream which calls can have left is refused, 10 at the field's place, and stays as it was. Of the buffer only the bytes held are looked at.
-use Rattle.std.specs.Prelude.{ℕ, Bool, true, false, not, cond, ◌&&◌, List, [], ◌∷◌, ◌++◌, ltb, eqb, length, take, drop, replicate}
+use Rattle.std.specs.Prelude.{ℕ, Bool, true, false, not, cond, ◌&&◌, List, [], ◌∷◌, ◌++◌, ltb, eqb, length, take, drop, replicate, Ok, Err}
 use Rattle.wire.specs.Numbers.{u32_at, digits}
 use Rattle.wire.specs.Output.{over}
 use Rattle.protocol.specs.Refusal.{contradiction, output_too_small}
-use Rattle.protocol.specs.Verdict.{Rule, rule, judge}
-use Rattle.protocol.specs.declared.Verdict.{Verdict}
-use Rattle.protocol.specs.declared.Verdict.TheVariants.{Fits, Fault}
+use Rattle.protocol.specs.Verdict.{Rule, rule, judge, no_fault, Verdict}
 use Rattle.message.specs.Message.{most_information}
 use Rattle.lent.specs.LentAssembly.{assembly_size, emptied, Receiving, receive_in}
 use Rattle.stream.specs.Stream.{StreamOn, state_of, next_of, Passing, Door, Feeding, length_fault, feed_on}
@@ -44,8 +42,8 @@ abbrev pub room_rules : ℕ → ℕ → List Rule
 room_rules own lent = rule (ltb own stream_size) output_too_small stream_size ∷ rule (ltb lent assembly_size) output_too_small assembly_size ∷ []
 
 abbrev pub reset_by : Verdict → List ℕ → List ℕ → ResetIn
-reset_by Fits m a = record { verdict = Fits; memory = over (replicate stream_size 0) m; assembly = (emptied a).memory }
-reset_by (Fault r) m a = record { verdict = Fault r; memory = m; assembly = a }
+reset_by (Ok _) m a = record { verdict = no_fault; memory = over (replicate stream_size 0) m; assembly = (emptied a).memory }
+reset_by (Err r) m a = record { verdict = Err r; memory = m; assembly = a }
 
 unfoldable pub reset_in : List ℕ → List ℕ → ResetIn
 reset_in m a = reset_by (judge (room_rules (length m) (length a))) m a
@@ -121,8 +119,8 @@ unfoldable pub fed_in : List ℕ → List ℕ → List ℕ → ℕ → FeedingIn
 fed_in m a c room = stored_in m (feed_on memory_door (open_in m a) c room)
 
 abbrev pub fed_by : Verdict → List ℕ → List ℕ → List ℕ → ℕ → FeedingIn
-fed_by Fits m a c room = cond (eqb (u32_at m 4) 1) (unfed_in m a (Ended length_fault)) (fed_in m a c room)
-fed_by (Fault r) m a c room = unfed_in m a (Refused r)
+fed_by (Ok _) m a c room = cond (eqb (u32_at m 4) 1) (unfed_in m a (Ended length_fault)) (fed_in m a c room)
+fed_by (Err r) m a c room = unfed_in m a (Refused r)
 
 unfoldable pub feed_in : List ℕ → List ℕ → List ℕ → ℕ → FeedingIn
 feed_in m a c room = fed_by (judge (feed_rules m (length a) room)) m a c room

@@ -13,17 +13,17 @@ use Rattle.ascii.specs.Ascii.{unhexed}
 use Rattle.text_parts.proofs.Cut.{part_front}
 use Rattle.request_line.specs.Request.{request_of}
 use Rattle.request_line.specs.declared.Request.{Request}
-use Rattle.request_line.specs.declared.Request.TheVariants.{Payload, BadLine}
 use Rattle.request_line.proofs.Requests.{within}
 use Rattle.request_line.proofs.Cut.{request_cut}
 use Rattle.listing.specs.Listing.{payload_text, spelled_text, request_text, line_text, LineCut}
+use Rattle.std.specs.Prelude.{Ok, Err, Result}
 
-text_cut : (n : ℕ) (s : List ℕ) (r : Request) → request_of (take n s) ≡ r → request_text (take n s) r ≡ request_text s r
+text_cut : (n : ℕ) (s : List ℕ) (r : (Result Request ℕ)) → request_of (take n s) ≡ r → request_text (take n s) r ≡ request_text s r
 unfolding request_text spelled_text
-text_cut n s (BadLine c) e = refl
-text_cut n s (Payload k v f m) e =
-    let w = within (take n s) k v f m e in
-    ap (λ (x : List ℕ). payload_text k v (unhexed (m / 2) x)) (part_front f m n s (omega (arith, w.0, length-take n s)))
+text_cut n s (Err c) e = refl
+text_cut n s (Ok request) e =
+    let w = within (take n s) request.kind request.version request.from request.digits e in
+    ap (λ (x : List ℕ). payload_text request.kind request.version (unhexed (request.digits / 2) x)) (part_front request.from request.digits n s (omega (arith, w.0, length-take n s)))
 
 -- a line and its front of at least 16,407 bytes have the same listing
 pub line_cut : LineCut

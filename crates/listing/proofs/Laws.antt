@@ -14,9 +14,9 @@ use Rattle.ascii.proofs.Laws.{by_test, through_le, through_some}
 use Rattle.listing.specs.Lines.{line_length, line_bytes, collect_of}
 use Rattle.listing.specs.declared.lines.Collected.{Collected}
 
-pub line_length_lem : (chunk : List ℕ) (from : ℕ) {n : ℕ} → n ≡ through (take (length chunk - from) (drop from chunk)) 10 → n ≡ line_length chunk from
+pub rest_length : (chunk : List ℕ) (from : ℕ) → through (take (length chunk - from) (drop from chunk)) 10 ≡ line_length chunk from
 unfolding line_length
-line_length_lem chunk from e = e ∙ ap (λ (x : List ℕ). through x 10) (take_rest from chunk)
+rest_length chunk from = ap (λ (x : List ℕ). through x 10) (take_rest from chunk)
 
 pub line_le : (chunk : List ℕ) (from : ℕ) → from < length chunk → from + line_length chunk from ≤ length chunk
 unfolding line_length
@@ -26,13 +26,11 @@ pub line_some : (chunk : List ℕ) (from : ℕ) → from < length chunk → 0 < 
 unfolding line_length
 line_some chunk from h = through_some (drop from chunk) 10 (rw (length-drop from chunk) (omega arith))
 
-pub line_put : (chunk : List ℕ) (from n : ℕ) → from < length chunk → n ≡ line_length chunk from
-    → fitted n (take (length chunk - from) (drop from chunk)) ≡ line_bytes chunk from
+pub line_put : (chunk : List ℕ) (from : ℕ) → from < length chunk → fitted (line_length chunk from) (take (length chunk - from) (drop from chunk)) ≡ line_bytes chunk from
 unfolding line_bytes
-line_put chunk from n h e =
-    ap (fitted n) (take_rest from chunk)
-    ∙ fitted_take n (drop from chunk) (rw (length-drop from chunk) (omega (arith, line_le chunk from h)))
-    ∙ ap (λ (k : ℕ). take k (drop from chunk)) e
+line_put chunk from h =
+    ap (fitted (line_length chunk from)) (take_rest from chunk)
+    ∙ fitted_take (line_length chunk from) (drop from chunk) (rw (length-drop from chunk) (omega (arith, line_le chunk from h)))
 
 -- from the end of a chunk on there is nothing
 pub line_none : (chunk : List ℕ) (from : ℕ) → length chunk ≤ from → line_bytes chunk from ≡ []

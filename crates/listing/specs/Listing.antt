@@ -20,31 +20,31 @@ use Rattle.payload_rows.specs.PinInfos.{pin_info_text}
 use Rattle.entry_rows.specs.Signals.{signal_text}
 use Rattle.entry_rows.specs.Services.{services_text}
 use Rattle.request_line.specs.Request.{request_of}
-use Rattle.request_line.specs.declared.ListingKind.{ListingKind}
-use Rattle.request_line.specs.declared.ListingKind.TheVariants.{PacketService as PacketKind, Version as VersionKind, Registration as RegistrationKind, SignalState as SignalKind, DeviceServices as ServicesKind, SetPin as SetPinKind, PinInfo as PinInfoKind}
+use Rattle.protocol.specs.declared.service.Kind.{Kind}
+use Rattle.protocol.specs.declared.service.Kind.TheVariants.{PacketService, VersionInfo, RegisterState, SignalState, DeviceServices, SetPin, PinInfo}
 use Rattle.request_line.specs.declared.Request.{Request}
-use Rattle.request_line.specs.declared.Request.TheVariants.{Payload, BadLine}
+use Rattle.std.specs.Prelude.{Ok, Err, Result}
 
-unfoldable pub payload_text : ListingKind → Version → List ℕ → List ℕ
-payload_text PacketKind version s = packet_text (packet_read version s)
-payload_text VersionKind version s = version_text (version_read s)
-payload_text RegistrationKind version s = registration_text s (registration_read version Strict s)
-payload_text SignalKind version s = signal_text (signal_read version Strict s)
-payload_text ServicesKind version s = services_text s (services_read Strict s)
-payload_text SetPinKind version s = set_pin_text s (set_pin_read Strict s)
-payload_text PinInfoKind version s = pin_info_text (pin_info_read s)
+unfoldable pub payload_text : Kind → Version → List ℕ → List ℕ
+payload_text PacketService version s = packet_text (packet_read version s)
+payload_text VersionInfo version s = version_text (version_read s)
+payload_text RegisterState version s = registration_text s (registration_read version Strict s)
+payload_text SignalState version s = signal_text (signal_read version Strict s)
+payload_text DeviceServices version s = services_text s (services_read Strict s)
+payload_text SetPin version s = set_pin_text s (set_pin_read Strict s)
+payload_text PinInfo version s = pin_info_text (pin_info_read s)
 
 -- the payload that n digits of a line spell, from a place of it on
-unfoldable pub spelled_text : List ℕ → ListingKind → Version → ℕ → ℕ → List ℕ
+unfoldable pub spelled_text : List ℕ → Kind → Version → ℕ → ℕ → List ℕ
 spelled_text line kind version from n = payload_text kind version (unhexed (n / 2) (take n (drop from line)))
 
 -- a line that has not the form of a request, with the column
 unfoldable pub bad_line : ℕ → List ℕ
 bad_line column = row (ascii "bad line") column
 
-unfoldable pub request_text : List ℕ → Request → List ℕ
-request_text line (BadLine column) = bad_line column
-request_text line (Payload kind version from n) = spelled_text line kind version from n
+unfoldable pub request_text : List ℕ → (Result Request ℕ) → List ℕ
+request_text line (Err column) = bad_line column
+request_text line (Ok request) = spelled_text line request.kind request.version request.from request.digits
 
 unfoldable pub line_text : List ℕ → List ℕ
 line_text line = request_text line (request_of line)

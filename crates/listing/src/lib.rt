@@ -13,7 +13,8 @@ use ascii::unhex;
 use entry_rows::{services_rows, signal_rows};
 use payload_rows::{packet_rows, pin_info_rows, registration_rows, set_pin_rows, version_rows};
 use protocol::Version;
-use request_line::{ListingKind, Request, request_of};
+use protocol::service::Kind;
+use request_line::{Request, request_of};
 use rows::put_row;
 
 // Puts the listing of a line at the front of the output, and answers its length.
@@ -26,65 +27,41 @@ pub fn list_line(line: &[u8], out: &mut [u8; 524288]) -> usize
 }
 
 // Puts the listing of a line at any place of any output, and answers the place behind what it put.
+#[tactic(auto, unfolding(crate::specs::Listing::line_text, crate::specs::Listing::request_text, crate::specs::Listing::bad_line))]
 pub fn put_line(line: &[u8], out: &mut [u8], at: usize) -> usize
     ensures { Put out.old at (line_text line.now) out.new result }
 {
     match request_of(line) {
-        Request::BadLine(column) => put_row(out, at, b"bad line", column as u64),
-        Request::Payload {
-            kind,
-            version,
-            from,
-            digits,
-        } => put_spelled(line, kind, version, from, digits, out, at),
+        Ok(request) => put_spelled(line, request, out, at),
+        Err(column) => put_row(out, at, b"bad line", column as u64),
     }
 }
 
 // The listing of the payload that the digits of a line spell.
-fn put_spelled(
-    line: &[u8],
-    kind: ListingKind,
-    version: Version,
-    from: usize,
-    digits: usize,
-    out: &mut [u8],
-    at: usize,
-) -> usize
-    requires { (from + digits ≤ length line.now) × (digits ≤ 16384) }
-    ensures { Put out.old at (spelled_text line.now kind version from digits) out.new result }
+fn put_spelled(line: &[u8], request: Request, out: &mut [u8], at: usize) -> usize
+    requires within { request.from + request.digits ≤ length line.now }
+    requires short { request.digits ≤ 16384 }
+    ensures { Put out.old at (spelled_text line.now request.kind request.version request.from request.digits) out.new result }
 {
-    let mut payload = payload_room();
-    let end = from + digits;
-    unhex(&line[from..end], &mut payload);
-    let n = digits / 2;
-    let all: &[u8] = &payload;
-    put_payload(kind, version, &all[..n], out, at)
+    let mut payload = [0u8; 8192];
+    let end = request.from + request.digits;
+    unhex(&line[request.from..end], &mut payload);
+    let n = request.digits / 2;
+    put_payload(request.kind, request.version, &payload[..n], out, at)
 }
 
-// Room for the payload of the longest line.
-fn payload_room() -> [u8; 8192]
-    ensures { 8192 ≡ length result }
-{
-    [0; 8192]
-}
-
-// The rows of a payload of a kind, at any place of any output.
-pub fn put_payload(
-    kind: ListingKind,
-    version: Version,
-    payload: &[u8],
-    out: &mut [u8],
-    at: usize,
-) -> usize
+// The rows of a payload of a kind, at any place of any output: a match, since the seven take other arguments.
+#[tactic(auto, unfolding(crate::specs::Listing::payload_text))]
+pub fn put_payload(kind: Kind, version: Version, payload: &[u8], out: &mut [u8], at: usize) -> usize
     ensures { Put out.old at (payload_text kind version payload.now) out.new result }
 {
     match kind {
-        ListingKind::PacketService => packet_rows::put(version, payload, out, at),
-        ListingKind::Version => version_rows::put(payload, out, at),
-        ListingKind::Registration => registration_rows::put(version, payload, out, at),
-        ListingKind::SignalState => signal_rows::put(version, payload, out, at),
-        ListingKind::DeviceServices => services_rows::put(payload, out, at),
-        ListingKind::SetPin => set_pin_rows::put(payload, out, at),
-        ListingKind::PinInfo => pin_info_rows::put(payload, out, at),
+        Kind::PacketService => packet_rows::put(version, payload, out, at),
+        Kind::VersionInfo => version_rows::put(payload, out, at),
+        Kind::RegisterState => registration_rows::put(version, payload, out, at),
+        Kind::SignalState => signal_rows::put(version, payload, out, at),
+        Kind::DeviceServices => services_rows::put(payload, out, at),
+        Kind::SetPin => set_pin_rows::put(payload, out, at),
+        Kind::PinInfo => pin_info_rows::put(payload, out, at),
     }
 }

@@ -14,20 +14,12 @@ pub struct Collected {
     pub is_ended: bool,
 }
 
-const LINE_FEED: u8 = 10;
-
 const LINE_ROOM: usize = 16640;
 
 // Adds the chunk's bytes from `from` on, up to a line feed, to the line that has `have` bytes so
 // far. What has no room is dropped: a line that long is a bad line by what is kept of it.
+#[tactic(auto, using(crate::proofs::Laws::rest_length, crate::proofs::Laws::line_le, crate::proofs::Laws::line_some, crate::proofs::Laws::line_none, crate::proofs::Laws::line_put), unfolding(crate::specs::Lines::collect_of))]
 pub fn collect(chunk: &[u8], from: usize, line: &mut [u8; 16640], have: usize) -> Collected
-    ensures value { result ≡ collect_of chunk.now from have }
-    ensures line_after { line.new ≡ sets line.old have (line_bytes chunk.now from) }
-{
-    collect_into(chunk, from, &mut line[..], have)
-}
-
-fn collect_into(chunk: &[u8], from: usize, line: &mut [u8], have: usize) -> Collected
     ensures value { result ≡ collect_of chunk.now from have }
     ensures line_after { line.new ≡ sets line.old have (line_bytes chunk.now from) }
 {
@@ -39,12 +31,12 @@ fn collect_into(chunk: &[u8], from: usize, line: &mut [u8], have: usize) -> Coll
         };
     }
     let rest = &chunk[from..];
-    let n = length_through(rest, LINE_FEED);
-    put_run(line, have, rest, n);
+    let n = length_through(rest, b'\n');
+    put_run(&mut line[..], have, rest, n);
     Collected {
         next: from + n,
         have: keep(have, n),
-        is_ended: byte_at(chunk, from + n - 1) == LINE_FEED,
+        is_ended: byte_at(chunk, from + n - 1) == b'\n',
     }
 }
 
@@ -52,11 +44,5 @@ fn collect_into(chunk: &[u8], from: usize, line: &mut [u8], have: usize) -> Coll
 fn keep(have: usize, n: usize) -> usize
     ensures { result ≡ kept (have + n) }
 {
-    if LINE_ROOM <= have {
-        return LINE_ROOM;
-    }
-    if LINE_ROOM - have < n {
-        return LINE_ROOM;
-    }
-    have + n
+    have.saturating_add(n).min(LINE_ROOM)
 }

@@ -4,14 +4,13 @@ use mathlib.Core.Path.{◌≡◌, refl}
 use mathlib.Core.Logic.{◌⊎◌, inl, inr}
 use mathlib.Core.Bool.{Bool, true, false, not}
 use mathlib.Core.List.{List}
-use Prim.Native.Nat.{ℕ, ◌+◌, ◌*◌, ◌≤◌}
+use Prim.Native.Nat.{ℕ, ◌+◌, ◌-◌, ◌*◌, ◌<◌, ◌≤◌}
 use native.Mathlib.Nat.{mul-le-mul}
 use native.Mathlib.Omega.{arith}
 use borrow.Author.Tests.{ltb-false, le-ltb}
 use lib.Dec.{ltb, eqb}
 use lib.ListN.{length}
-use Rattle.protocol.specs.Verdict.{Kept}
-use Rattle.protocol.specs.declared.Verdict.TheVariants.{Fits}
+use Rattle.protocol.specs.Verdict.{Kept, no_fault}
 use Rattle.protocol.proofs.Tests.{or_none, none_or, cases_and, equal_kept, kept_equal}
 use Rattle.protocol.proofs.Verdicts.{left_fits, right_fits, fits_kept, kept_then}
 use Rattle.pairs.specs.declared.Range.{Range}
@@ -19,7 +18,10 @@ use Rattle.pairs.specs.declared.PairKind.TheVariants.{List as ListKind}
 use Rattle.pairs.specs.declared.ZeroSize.{ZeroSize}
 use Rattle.lists.specs.declared.ListForm.{ListForm}
 use Rattle.pairs.specs.Pair.{range_at, verdict_of}
-use Rattle.lists.specs.Lists.{absent_in, count_in, outside, list_rules, list_verdict}
+use Rattle.lists.specs.Lists.{absent_in, count_in, outside, list_rules, list_verdict, lists_verdict}
+use Rattle.folds.proofs.Laws.{fits_next, fault_at}
+use Rattle.std.specs.Prelude.{Err}
+use Rattle.protocol.specs.declared.Refusal.{Refusal}
 use Rattle.pairs.specs.Claims.{PairFits}
 use Rattle.lists.specs.Claims.{Whole, ListExactly}
 use Rattle.pairs.proofs.Laws.{fits_said, said_fits}
@@ -57,7 +59,7 @@ module _ (z : ZeroSize) (f : ListForm) (fixed place : ℕ) (s : List ℕ) where
   abbrev pub behind : Range
   behind = range_at s place
 
-  pub behind_said : list_verdict z f fixed place s ≡ Fits
+  pub behind_said : list_verdict z f fixed place s ≡ no_fault
       → PairFits z ListKind fixed f.limit (length s) behind × ((absent_in f behind ≡ true) ⊎ Whole f behind (count_in f s behind))
   behind_said e = (
     fits_said z ListKind fixed f.limit place (length s) behind (left_fits _ _ e),
@@ -65,10 +67,27 @@ module _ (z : ZeroSize) (f : ListForm) (fixed place : ℕ) (s : List ℕ) where
   )
 
   pub said_behind : PairFits z ListKind fixed f.limit (length s) behind → (absent_in f behind ≡ true) ⊎ Whole f behind (count_in f s behind)
-      → list_verdict z f fixed place s ≡ Fits
+      → list_verdict z f fixed place s ≡ no_fault
   said_behind a b =
       kept_then (verdict_of z ListKind fixed f.limit place (length s) behind) (list_rules f place behind (count_in f s behind))
       (said_fits z ListKind fixed f.limit place (length s) behind a) (said_list f place behind (count_in f s behind) b)
 
 pub list_exactly : ListExactly
 list_exactly z f fixed place s = (behind_said z f fixed place s, λ k. said_behind z f fixed place s k.0 k.1)
+
+-- ---- pairs that stand one behind another, judged in turn
+
+-- one that fits is passed
+pub list_passed : (z : ZeroSize) (f : ListForm) (fixed place first i : ℕ) (s : List ℕ) → first ≤ i → lists_verdict z f fixed place s first i ≡ no_fault
+    → list_verdict z f fixed (place + 8 * i) s ≡ no_fault → lists_verdict z f fixed place s first (i + 1) ≡ no_fault
+list_passed z f fixed place first i s h p q =
+    let e : first + (i - first) ≡ i = omega arith in
+    let next : i + 1 - first ≡ i - first + 1 = omega arith in
+    rw next (fits_next (λ k. list_verdict z f fixed (place + 8 * (first + k)) s) (i - first) p (rw e q))
+
+-- one that does not decides
+pub list_decides : (z : ZeroSize) (f : ListForm) (fixed place first i end : ℕ) (s : List ℕ) {r : Refusal} → first ≤ i → i < end
+    → lists_verdict z f fixed place s first i ≡ no_fault → list_verdict z f fixed (place + 8 * i) s ≡ Err r → lists_verdict z f fixed place s first end ≡ Err r
+list_decides z f fixed place first i end s h l p q =
+    let e : first + (i - first) ≡ i = omega arith in
+    fault_at (λ k. list_verdict z f fixed (place + 8 * (first + k)) s) (end - first) (i - first) _ p (omega arith) (rw e q)

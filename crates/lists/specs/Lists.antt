@@ -4,8 +4,7 @@
 use Rattle.std.specs.Prelude.{ℕ, ◌+◌, ◌*◌, ◌-◌, Bool, false, not, cond, ◌&&◌, ◌||◌, List, [], ◌∷◌, ltb, eqb, length}
 use Rattle.wire.specs.Numbers.{u32_at}
 use Rattle.protocol.specs.Refusal.{wrong_size, wrong_count}
-use Rattle.protocol.specs.Verdict.{Rule, rule, judge, first_of}
-use Rattle.protocol.specs.declared.Verdict.{Verdict}
+use Rattle.protocol.specs.Verdict.{Rule, rule, judge, first_of, Verdict}
 use Rattle.folds.specs.Folds.{first_fault}
 use Rattle.pairs.specs.Pair.{range_at, verdict_of}
 use Rattle.pairs.specs.declared.Range.{Range}
@@ -30,7 +29,7 @@ count_place f p = p.start + f.count_place
 abbrev pub count_in : ListForm → List ℕ → Range → ℕ
 count_in f s p = cond (absent_in f p) 0 (u32_at s (count_place f p))
 
--- ---- rules: broken, number, place; the first broken one decides
+-- ---- rules: broken, reason, place; the first broken one decides
 
 -- a rule on the list is broken only where there is one
 abbrev pub if_there : ListForm → Range → Bool → Bool

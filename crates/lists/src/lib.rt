@@ -8,7 +8,7 @@ ghost use Rattle.pairs.specs.Pair.{range_at};
 ghost use Rattle.lists.specs.Lists.{absent_in, there, count_in, outside, list_rules, list_verdict, lists_verdict};
 
 use pairs::{PAIR_SIZE, PairKind, Range, ZeroSize, judge, range_at};
-use protocol::{Refusal, Verdict, WRONG_COUNT, WRONG_SIZE, also};
+use protocol::{Reason, Verdict, refuse_if};
 use wire::u32_at;
 
 // What lists of one kind are like.
@@ -30,6 +30,7 @@ pub struct ListForm {
 }
 
 // The verdict on the pair at `place` of a payload with a fixed part, and on its list.
+#[tactic(auto, unfolding(protocol::specs::Verdict::first_of, protocol::specs::Verdict::judge_from, protocol::specs::Verdict::fault_if))]
 pub fn judge_list(
     zero_size: ZeroSize,
     payload: &[u8],
@@ -40,22 +41,18 @@ pub fn judge_list(
     ensures { result ≡ list_verdict zero_size form fixed place payload.now }
 {
     let at = place as usize;
-    let limit = form.limit;
     let pair = range_at(payload, at);
-    let verdict = judge(
+    judge(
         zero_size,
         PairKind::List,
         fixed,
-        limit,
+        form.limit,
         at,
         payload.len(),
         pair,
-    );
-    if let Verdict::Fault(refusal) = verdict {
-        return Verdict::Fault(refusal);
-    }
+    )?;
     if is_absent(form, pair) {
-        return Verdict::Fits;
+        return Ok(());
     }
     judge_count(payload, at, form, pair)
 }
@@ -63,6 +60,7 @@ pub fn judge_list(
 // Of the pairs that stand one behind another from `place` on: the verdict on those with the numbers from
 // `first` to below `end`, and on their lists, up to the first fault. None of them may be absent,
 // whatever their form says.
+#[tactic(auto, unfolding(folds::specs::Folds::first_fault))]
 pub fn judge_lists(
     zero_size: ZeroSize,
     payload: &[u8],
@@ -74,16 +72,11 @@ pub fn judge_lists(
 ) -> Verdict
     ensures { result ≡ lists_verdict zero_size (there form) fixed place payload.now first end }
 {
-    let mut i = first;
-    while i < end {
+    for i in first..end {
         let at = place as usize + PAIR_SIZE * i as usize;
-        let verdict = judge_there(zero_size, payload, fixed, at, form);
-        if let Verdict::Fault(refusal) = verdict {
-            return Verdict::Fault(refusal);
-        }
-        i += 1;
+        judge_there(zero_size, payload, fixed, at, form)?;
     }
-    Verdict::Fits
+    Ok(())
 }
 
 // How many elements the list has that was judged before.
@@ -98,6 +91,7 @@ pub fn judged_list_count(payload: &[u8], place: u32, form: ListForm) -> u32
 }
 
 // A pair whose list may not be absent.
+#[tactic(auto, unfolding(protocol::specs::Verdict::first_of))]
 fn judge_there(
     zero_size: ZeroSize,
     payload: &[u8],
@@ -107,60 +101,44 @@ fn judge_there(
 ) -> Verdict
     ensures { result ≡ list_verdict zero_size (there form) fixed place payload.now }
 {
-    let limit = form.limit;
     let pair = range_at(payload, place);
-    let verdict = judge(
+    judge(
         zero_size,
         PairKind::List,
         fixed,
-        limit,
+        form.limit,
         place,
         payload.len(),
         pair,
-    );
-    if let Verdict::Fault(refusal) = verdict {
-        return Verdict::Fault(refusal);
-    }
+    )?;
     judge_count(payload, place, form, pair)
 }
 
 // A list that is there: its least size, its count, and its size against its count.
+#[tactic(auto, using(crate::proofs::Behind::product), unfolding(protocol::specs::Verdict::first_of, protocol::specs::Verdict::judge_from, protocol::specs::Verdict::fault_if))]
 fn judge_count(payload: &[u8], place: usize, form: ListForm, pair: Range) -> Verdict
     ensures { result ≡ judged (list_rules (there form) place pair (count_in (there form) payload.now pair)) }
 {
-    let size = pair.length;
-    if size < form.least {
-        return Verdict::Fault(Refusal {
-            number: WRONG_SIZE,
-            place,
-        });
-    }
+    refuse_if(pair.length < form.least, Reason::WrongSize, place)?;
     let count_place = pair.start as usize + form.count_place as usize;
     let count = u32_at(payload, count_place);
     let whole = form.least as usize + form.each as usize * count as usize;
-    let counted = also(
-        Verdict::Fits,
+    refuse_if(
         is_outside(form.fewest, form.most, count),
-        WRONG_COUNT,
+        Reason::WrongCount,
         count_place,
-    );
-    also(counted, size as usize != whole, WRONG_SIZE, place)
+    )?;
+    refuse_if(pair.length as usize != whole, Reason::WrongSize, place)
 }
 
 fn is_absent(form: ListForm, pair: Range) -> bool
     ensures { result ≡ absent_in form pair }
 {
-    if form.optional {
-        return pair.length == 0;
-    }
-    false
+    form.optional && pair.length == 0
 }
 
 fn is_outside(fewest: u32, most: u32, count: u32) -> bool
     ensures { result ≡ outside fewest most count }
 {
-    if count < fewest {
-        return true;
-    }
-    most < count
+    count < fewest || most < count
 }

@@ -13,18 +13,17 @@ use Rattle.wire.specs.Numbers.{u32_at}
 use Rattle.protocol.specs.MessageType.{INDICATE_STATUS, is_fragmented}
 use Rattle.protocol.specs.Verdict.{judge}
 use Rattle.protocol.specs.declared.Refusal.{Refusal}
-use Rattle.protocol.specs.declared.Verdict.{Verdict}
-use Rattle.protocol.specs.declared.Verdict.TheVariants.{Fits, Fault}
 use Rattle.protocol.proofs.Verdicts.{fits_kept, kept_fits}
 use Rattle.message.specs.Message.{most_information, most_transfer, header_at, wrong_total, header_rules, header_by, header_of, length_place, first_length, message_at, declared_at, carried_by, wrong_word, wrong_amount, first_rules, first_by, first_header_of, opened_by, fragment_by, fragment_of}
 use Rattle.message.specs.declared.FragmentHeader.{FragmentHeader}
 use Rattle.message.specs.declared.FirstHeader.{FirstHeader}
-use Rattle.message.specs.declared.Header.{Header}
-use Rattle.message.specs.declared.Header.TheVariants as header
-use Rattle.message.specs.declared.First.{First}
-use Rattle.message.specs.declared.First.TheVariants as first
 use Rattle.message.specs.declared.Fragment.{Fragment}
 use Rattle.message.specs.declared.Fragment.TheVariants as fragment
+use Rattle.std.specs.Prelude.{Ok, Err}
+use Rattle.message.specs.Message.{First}
+use Rattle.message.specs.Message.{Header}
+use Rattle.protocol.specs.Verdict.{Verdict}
+use Rattle.std.specs.Prelude.{Result}
 
 -- ---- places
 
@@ -90,12 +89,12 @@ pub record Accepted (s : List ℕ) (h : FragmentHeader) : Type 0 where
   pub few : h.total ≤ 128
   pub within : h.number < h.total
 
-header_accepted : (s : List ℕ) (h : FragmentHeader) → header_of s ≡ header.Fits h → Accepted s h
+header_accepted : (s : List ℕ) (h : FragmentHeader) → header_of s ≡ Ok h → Accepted s h
 unfolding header_of header_by
 header_accepted s h e = go (judge (header_rules s)) refl e
   where
-    go : (v : Verdict) → judge (header_rules s) ≡ v → header_by v s ≡ header.Fits h → Accepted s h
-    go Fits j q =
+    go : (v : Verdict) → judge (header_rules s) ≡ v → header_by v s ≡ Ok h → Accepted s h
+    go (Ok _) j q =
         let k = fits_kept (header_rules s) j in
         let same : header_at s ≡ h = cc in
         let t = total_right (u32_at s 12) k.1.1.1.1.0 in
@@ -108,11 +107,11 @@ header_accepted s h e = go (judge (header_rules s)) refl e
           few = t.1;
           within = leb-false _ _ k.1.1.1.1.1.0;
         })
-    go (Fault r) j q = let z : ◌≡◌ {A = ℕ} 0 1 = cc in absurd (omega arith)
+    go (Err r) j q = let z : ◌≡◌ {A = ℕ} 0 1 = cc in absurd (omega arith)
 
 -- a fragment whose header keeps the rules is accepted
 accepted_header : (s : List ℕ) → 20 ≤ length s → u32_at s 4 ≡ length s → length s ≤ most_transfer → is_fragmented (u32_at s 0) ≡ true → 0 < u32_at s 12 → u32_at s 12 ≤ 128
-    → u32_at s 16 < u32_at s 12 → header_of s ≡ header.Fits (header_at s)
+    → u32_at s 16 < u32_at s 12 → header_of s ≡ Ok (header_at s)
 unfolding header_of header_by
 accepted_header s long all short known some few within =
     rw (kept_fits (header_rules s)
@@ -129,12 +128,12 @@ pub record Opened (s : List ℕ) (f : FirstHeader) : Type 0 where
   pub small : f.information_length ≤ most_information
   pub amount : wrong_amount (eqb (u32_at s 12) 1) (carried_by s) f.information_length ≡ false
 
-first_accepted : (s : List ℕ) (f : FirstHeader) → first_header_of s ≡ first.Header f → Opened s f
+first_accepted : (s : List ℕ) (f : FirstHeader) → first_header_of s ≡ Ok f → Opened s f
 unfolding first_header_of first_by
 first_accepted s f e = go (judge (first_rules s)) refl e
   where
-    go : (v : Verdict) → judge (first_rules s) ≡ v → first_by v s ≡ first.Header f → Opened s f
-    go Fits j q =
+    go : (v : Verdict) → judge (first_rules s) ≡ v → first_by v s ≡ Ok f → Opened s f
+    go (Ok _) j q =
         let k = fits_kept (first_rules s) j in
         let same : record { message = message_at s; information_length = declared_at s } ≡ f = cc in
         rw (← same) (record {
@@ -145,49 +144,49 @@ first_accepted s f e = go (judge (first_rules s)) refl e
           small = ltb-false _ _ k.1.1.0;
           amount = k.1.1.1.0;
         })
-    go (Fault r) j q = let z : ◌≡◌ {A = ℕ} 0 1 = cc in absurd (omega arith)
+    go (Err r) j q = let z : ◌≡◌ {A = ℕ} 0 1 = cc in absurd (omega arith)
 
 -- a first header that keeps the rules is accepted
 accepted_first : (s : List ℕ) → first_length (u32_at s 0) ≤ length s → wrong_word (message_at s) ≡ false → declared_at s ≤ most_information
     → wrong_amount (eqb (u32_at s 12) 1) (carried_by s) (declared_at s) ≡ false
-    → first_header_of s ≡ first.Header (record { message = message_at s; information_length = declared_at s })
+    → first_header_of s ≡ Ok (record { message = message_at s; information_length = declared_at s })
 unfolding first_header_of first_by
 accepted_first s long word small amount = rw (kept_fits (first_rules s) (le-ltb _ _ long, (word, (le-ltb _ _ small, (amount, tt)))))
 
 -- ---- one fragment: refused, or the headers that it has
 
-pub data FragmentView (s : List ℕ) : Fragment → Type 0 where
-  refuses : (r : Refusal) → FragmentView s (fragment.Refused r)
-  opens : (h : FragmentHeader) (f : FirstHeader) → Accepted s h → h.number ≡ 0 → Opened s f → FragmentView s (fragment.First h f)
-  follows : (h : FragmentHeader) → Accepted s h → (h.number ≡ 0 → ⊥) → FragmentView s (fragment.Later h)
+pub data FragmentView (s : List ℕ) : (Result Fragment Refusal) → Type 0 where
+  refuses : (r : Refusal) → FragmentView s (Err r)
+  opens : (h : FragmentHeader) (f : FirstHeader) → Accepted s h → h.number ≡ 0 → Opened s f → FragmentView s (Ok (fragment.First h f))
+  follows : (h : FragmentHeader) → Accepted s h → (h.number ≡ 0 → ⊥) → FragmentView s (Ok (fragment.Later h))
 
 pub fragment_view : (s : List ℕ) → FragmentView s (fragment_of s)
 unfolding fragment_of fragment_by opened_by
 fragment_view s = go (header_of s) refl
   where
     opened : (h : FragmentHeader) → Accepted s h → h.number ≡ 0 → (o : First) → first_header_of s ≡ o → FragmentView s (opened_by h o)
-    opened h a z (first.Refused r) e = refuses r
-    opened h a z (first.Header f) e = opens h f a z (first_accepted s f e)
+    opened h a z (Err r) e = refuses r
+    opened h a z (Ok f) e = opens h f a z (first_accepted s f e)
 
-    numbered : (h : FragmentHeader) → Accepted s h → (b : Bool) → eqb h.number 0 ≡ b → FragmentView s (cond b (opened_by h (first_header_of s)) (fragment.Later h))
+    numbered : (h : FragmentHeader) → Accepted s h → (b : Bool) → eqb h.number 0 ≡ b → FragmentView s (cond b (opened_by h (first_header_of s)) (Ok (fragment.Later h)))
     numbered h a true z = opened h a (eqb-true _ _ z) (first_header_of s) refl
     numbered h a false z = follows h a (eqb-false _ _ z)
 
     go : (x : Header) → header_of s ≡ x → FragmentView s (fragment_by s x)
-    go (header.Refused r) e = refuses r
-    go (header.Fits h) e = numbered h (header_accepted s h e) (eqb h.number 0) refl
+    go (Err r) e = refuses r
+    go (Ok h) e = numbered h (header_accepted s h e) (eqb h.number 0) refl
 
-pub later_accepted : (s : List ℕ) (h : FragmentHeader) → fragment_of s ≡ fragment.Later h → Accepted s h
+pub later_accepted : (s : List ℕ) (h : FragmentHeader) → fragment_of s ≡ Ok (fragment.Later h) → Accepted s h
 later_accepted s h e = go (fragment_view s) e
   where
-    go : {f : Fragment} → FragmentView s f → f ≡ fragment.Later h → Accepted s h
+    go : {f : (Result Fragment Refusal)} → FragmentView s f → f ≡ Ok (fragment.Later h) → Accepted s h
     go (refuses r) q = let z : ◌≡◌ {A = ℕ} 0 1 = cc in absurd (omega arith)
     go (opens g f a n o) q = let z : ◌≡◌ {A = ℕ} 0 1 = cc in absurd (omega arith)
     go (follows g a n) q = let k : g ≡ h = cc in rw k at a
 
 -- a fragment that keeps the rules is accepted: a later one with its header, a first one with both
 pub accepted_later : (s : List ℕ) → 20 ≤ length s → u32_at s 4 ≡ length s → length s ≤ most_transfer → is_fragmented (u32_at s 0) ≡ true → 0 < u32_at s 12 → u32_at s 12 ≤ 128
-    → u32_at s 16 < u32_at s 12 → 0 < u32_at s 16 → fragment_of s ≡ fragment.Later (header_at s)
+    → u32_at s 16 < u32_at s 12 → 0 < u32_at s 16 → fragment_of s ≡ Ok (fragment.Later (header_at s))
 unfolding fragment_of fragment_by
 accepted_later s long all short known some few within later =
     let z : u32_at s 16 ≡ 0 → ⊥ = λ e. omega arith in
@@ -196,7 +195,7 @@ accepted_later s long all short known some few within later =
 pub accepted_opening : (s : List ℕ) → u32_at s 4 ≡ length s → length s ≤ most_transfer → is_fragmented (u32_at s 0) ≡ true → 0 < u32_at s 12 → u32_at s 12 ≤ 128
     → u32_at s 16 ≡ 0 → first_length (u32_at s 0) ≤ length s → wrong_word (message_at s) ≡ false → declared_at s ≤ most_information
     → wrong_amount (eqb (u32_at s 12) 1) (carried_by s) (declared_at s) ≡ false
-    → fragment_of s ≡ fragment.First (header_at s) (record { message = message_at s; information_length = declared_at s })
+    → fragment_of s ≡ Ok (fragment.First (header_at s) (record { message = message_at s; information_length = declared_at s }))
 unfolding fragment_of fragment_by opened_by
 accepted_opening s all short known some few zero long word small amount =
     let l : 20 ≤ length s = omega (arith, long, place_most (u32_at s 0)) in

@@ -16,7 +16,7 @@ use Rattle.protocol.proofs.Tests.{not_kept}
 use Rattle.protocol.proofs.Verdicts.{fits_kept, kept_fits, written_fits, written_front}
 use Rattle.message.specs.Message.{whole_length, whole_rules, whole_word_at, whole_by, whole_of, head_bytes, whole_bytes, write_whole_of}
 use Rattle.message.specs.Claims.{WholeBack}
-use Rattle.message.specs.declared.Whole.TheVariants.{Message}
+use Rattle.std.specs.Prelude.{Ok}
 
 -- the bytes are as many as the type has
 pub length_whole_bytes : (t x w : ℕ) → length (whole_bytes t x w) ≡ whole_length t
@@ -64,7 +64,7 @@ module _ (t x w : ℕ) (t32 : t < 2 ^ 32) (x32 : x < 2 ^ 32) (w32 : w < 2 ^ 32) 
   kept known =
       rw (at_0, at_4, length_whole_bytes t x w, known, eq-eqb (whole_length t) (whole_length t) refl) (le-ltb _ _ (least t), (refl, (refl, (refl, tt))))
 
-  judged : is_whole t ≡ true → whole_of (whole_bytes t x w) ≡ Message t x (cond (eqb t CLOSE) 0 w)
+  judged : is_whole t ≡ true → whole_of (whole_bytes t x w) ≡ Ok (record { message_type = t; transaction = x; word = (cond (eqb t CLOSE) 0 w) })
   unfolding whole_of whole_by
   judged known = rw (kept_fits (whole_rules (whole_bytes t x w)) (kept known), at_0, at_8, at_word)
 

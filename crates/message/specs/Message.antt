@@ -6,18 +6,16 @@ use Rattle.protocol.specs.Refusal.{too_short, wrong_length, unknown, wrong_fragm
 use Rattle.protocol.specs.Verdict.{Rule, rule, judge, Writing, writing}
 use Rattle.protocol.specs.MessageType.{CLOSE, COMMAND, INDICATE_STATUS, is_whole, is_fragmented}
 use Rattle.protocol.specs.Service.{id_at}
-use Rattle.protocol.specs.declared.Verdict.{Verdict}
-use Rattle.protocol.specs.declared.Verdict.TheVariants.{Fits, Fault}
 use Rattle.message.specs.declared.Whole.{Whole}
-use Rattle.message.specs.declared.Whole.TheVariants.{Message, Refused}
 use Rattle.message.specs.declared.FragmentHeader.{FragmentHeader}
-use Rattle.message.specs.declared.Header.{Header}
-use Rattle.message.specs.declared.Header.TheVariants as header
 use Rattle.message.specs.declared.MessageHeader.{MessageHeader}
-use Rattle.message.specs.declared.First.{First}
-use Rattle.message.specs.declared.First.TheVariants as first
+use Rattle.message.specs.declared.FirstHeader.{FirstHeader}
 use Rattle.message.specs.declared.Fragment.{Fragment}
 use Rattle.message.specs.declared.Fragment.TheVariants as fragment
+use Rattle.std.specs.Prelude.{Ok, Err}
+use Rattle.protocol.specs.Verdict.{Verdict}
+use Rattle.std.specs.Prelude.{Result}
+use Rattle.protocol.specs.declared.Refusal.{Refusal}
 
 -- the most information bytes of a message
 abbrev pub most_information : ℕ
@@ -30,6 +28,12 @@ most_transfer = 4096
 -- the most fragments of a message
 abbrev pub most_fragments : ℕ
 most_fragments = 128
+
+abbrev pub Header : Type 0
+Header = Result FragmentHeader Refusal
+
+abbrev pub First : Type 0
+First = Result FirstHeader Refusal
 
 -- ---- whole messages
 
@@ -49,11 +53,11 @@ whole_rules s =
 unfoldable pub whole_word_at : ℕ → List ℕ → ℕ
 whole_word_at t s = cond (eqb t CLOSE) 0 (u32_at s 12)
 
-unfoldable pub whole_by : Verdict → List ℕ → Whole
-whole_by Fits s = Message (u32_at s 0) (u32_at s 8) (whole_word_at (u32_at s 0) s)
-whole_by (Fault r) s = Refused r
+unfoldable pub whole_by : Verdict → List ℕ → Result Whole Refusal
+whole_by (Ok _) s = Ok (record { message_type = (u32_at s 0); transaction = (u32_at s 8); word = (whole_word_at (u32_at s 0) s) })
+whole_by (Err r) s = Err r
 
-unfoldable pub whole_of : List ℕ → Whole
+unfoldable pub whole_of : List ℕ → Result Whole Refusal
 whole_of s = whole_by (judge (whole_rules s)) s
 
 -- its bytes: type, length, transaction and, but for CLOSE, its number
@@ -91,8 +95,8 @@ header_rules s =
     ∷ []
 
 unfoldable pub header_by : Verdict → List ℕ → Header
-header_by Fits s = header.Fits (header_at s)
-header_by (Fault r) s = header.Refused r
+header_by (Ok _) s = Ok (header_at s)
+header_by (Err r) s = Err r
 
 unfoldable pub header_of : List ℕ → Header
 header_of s = header_by (judge (header_rules s)) s
@@ -144,21 +148,21 @@ first_rules s =
     ∷ []
 
 unfoldable pub first_by : Verdict → List ℕ → First
-first_by Fits s = first.Header (record { message = message_at s; information_length = declared_at s })
-first_by (Fault r) s = first.Refused r
+first_by (Ok _) s = Ok (record { message = message_at s; information_length = declared_at s })
+first_by (Err r) s = Err r
 
 unfoldable pub first_header_of : List ℕ → First
 first_header_of s = first_by (judge (first_rules s)) s
 
 -- ---- one fragment: "if the number is 0", also the header of a first one
 
-unfoldable pub opened_by : FragmentHeader → First → Fragment
-opened_by h (first.Header f) = fragment.First h f
-opened_by h (first.Refused r) = fragment.Refused r
+unfoldable pub opened_by : FragmentHeader → First → Result Fragment Refusal
+opened_by h (Ok f) = Ok (fragment.First h f)
+opened_by h (Err r) = Err r
 
-unfoldable pub fragment_by : List ℕ → Header → Fragment
-fragment_by s (header.Fits h) = cond (eqb h.number 0) (opened_by h (first_header_of s)) (fragment.Later h)
-fragment_by s (header.Refused r) = fragment.Refused r
+unfoldable pub fragment_by : List ℕ → Header → Result Fragment Refusal
+fragment_by s (Ok h) = cond (eqb h.number 0) (opened_by h (first_header_of s)) (Ok (fragment.Later h))
+fragment_by s (Err r) = Err r
 
-unfoldable pub fragment_of : List ℕ → Fragment
+unfoldable pub fragment_of : List ℕ → Result Fragment Refusal
 fragment_of s = fragment_by s (header_of s)

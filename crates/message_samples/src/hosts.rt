@@ -5,7 +5,7 @@ use culvertroost::hosts::{
     cvr_host_close, cvr_host_make, cvr_host_next_command, cvr_host_open, cvr_host_receive,
 };
 use protocol::service::id_at;
-use sample_lines::answers::{Asked, few, half_at, least, plain, short, word_at, written};
+use sample_lines::answers::{Asked, few, half_at, least, lent, plain, short, word_at, written};
 use wire::put_run;
 
 pub fn with_host(
@@ -37,8 +37,7 @@ fn event(answer: HostInfo) -> Asked {
 }
 
 fn next_command(arguments: &[u8], host: &[u8], out: &mut [u8]) -> Asked {
-    let room = least(word_at(arguments, 1) as usize, out.len());
-    let answer = cvr_host_next_command(host, &mut out[..room]);
+    let answer = cvr_host_next_command(host, lent(out, word_at(arguments, 1)));
     let refusal = answer.refusal;
     let length = answer.length;
     let numbers = few(

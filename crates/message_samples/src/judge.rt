@@ -1,9 +1,9 @@
 // Whether the library answers a sample line as it says.
-use crate::ask::ask;
+use crate::ask::{Memory, ask};
 use sample_lines::{UNTOUCHED, UNTOUCHED_WORD, is_answer, read_line};
 
 // No question here has a list.
-pub fn is_right(line: &[u8], state: &mut [u8; 9012]) -> bool {
+pub fn is_right(line: &[u8], memory: &mut Memory) -> bool {
     let mut question = [0u8; 1];
     let mut arguments = [0u8; 16640];
     let mut input = [0u8; 16640];
@@ -21,6 +21,6 @@ pub fn is_right(line: &[u8], state: &mut [u8; 9012]) -> bool {
     }
     let mut out = [UNTOUCHED; 16640];
     let list = [UNTOUCHED_WORD; 1024];
-    let asked = ask(question[0], &arguments, &input, state, &mut out);
+    let asked = ask(question[0], &arguments, &input, memory, &mut out);
     is_answer(asked, &list, &out, &answer, &output)
 }

@@ -6,7 +6,7 @@ use culvertroost::messages::{
 };
 use message::MessageHeader;
 use protocol::service::{ServiceId, id_at};
-use sample_lines::answers::{Asked, few, least, plain, short, word_at, written};
+use sample_lines::answers::{Asked, few, least, lent, plain, short, word_at, written};
 
 pub fn about_message(question: u8, arguments: &[u8], input: &[u8], out: &mut [u8]) -> Asked {
     match question {
@@ -45,11 +45,11 @@ fn judge(input: &[u8]) -> Asked {
 }
 
 fn write(arguments: &[u8], out: &mut [u8]) -> Asked {
-    let room = least(word_at(arguments, 1) as usize, out.len());
+    let room = lent(out, word_at(arguments, 1));
     let message_type = word_at(arguments, 2);
     let transaction = word_at(arguments, 3);
     let word = word_at(arguments, 4);
-    let answer = cvr_message_write(message_type, transaction, word, &mut out[..room]);
+    let answer = cvr_message_write(message_type, transaction, word, room);
     let refusal = answer.refusal;
     let length = answer.length;
     let numbers = few(refusal.number, refusal.place, short(length), 0, 0);
@@ -58,11 +58,11 @@ fn write(arguments: &[u8], out: &mut [u8]) -> Asked {
 
 // The input is the service and the information.
 fn cut(arguments: &[u8], input: &[u8], out: &mut [u8]) -> Asked {
-    let room = least(word_at(arguments, 1) as usize, out.len());
+    let room = lent(out, word_at(arguments, 1));
     let size = word_at(arguments, 2) as usize;
     let message = message_at(arguments, 3, id_at(input, 0));
     let from = least(16, input.len());
-    let answer = cvr_message_cut(message, size, &input[from..], &mut out[..room]);
+    let answer = cvr_message_cut(message, size, &input[from..], room);
     let refusal = answer.refusal;
     let length = answer.length;
     let numbers = few(

@@ -1,10 +1,10 @@
 // The modem's end: questions 27 to 30 and 32.
 use crate::messages::message_at;
+use c_structs::RefusalInfo;
 use c_structs::ends::ModemInfo;
 use culvertroost::modems::{cvr_modem_close, cvr_modem_make, cvr_modem_open, cvr_modem_receive};
-use protocol::Refusal;
 use protocol::service::id_at;
-use sample_lines::answers::{Asked, few, half_at, least, plain, short, word_at, written};
+use sample_lines::answers::{Asked, few, half_at, least, lent, plain, short, word_at, written};
 use wire::put_run;
 
 pub fn with_modem(
@@ -23,25 +23,28 @@ pub fn with_modem(
     }
 }
 
-pub fn done(refusal: Refusal) -> Asked {
+pub fn done(refusal: RefusalInfo) -> Asked {
     plain(few(refusal.number, refusal.place, 0, 0, 0))
 }
 
 // Lends the front of the memory. The input is the list of services.
-fn make(arguments: &[u8], input: &[u8], modem: &mut [u8]) -> Refusal {
-    let size = least(word_at(arguments, 3) as usize, modem.len());
+fn make(arguments: &[u8], input: &[u8], modem: &mut [u8]) -> RefusalInfo {
     let native = half_at(arguments, 1);
     let advertised = half_at(arguments, 2);
-    cvr_modem_make(&mut modem[..size], native, advertised, input)
+    cvr_modem_make(
+        lent(modem, word_at(arguments, 3)),
+        native,
+        advertised,
+        input,
+    )
 }
 
 // The input is the service and the information.
 fn receive(arguments: &[u8], input: &[u8], modem: &mut [u8], out: &mut [u8]) -> Asked {
-    let room = least(word_at(arguments, 1) as usize, out.len());
     let message = message_at(arguments, 2, id_at(input, 0));
     let from = least(16, input.len());
-    let answer = cvr_modem_receive(modem, message, &input[from..], &mut out[..room]);
-    taken(answer)
+    let room = lent(out, word_at(arguments, 1));
+    taken(cvr_modem_receive(modem, message, &input[from..], room))
 }
 
 pub fn taken(answer: ModemInfo) -> Asked {

@@ -1,7 +1,7 @@
-// Received pieces and the assembly: questions 16 to 18. Its memory is the front of the state.
+// Received pieces and the assembly: questions 16 to 18.
 use c_structs::messages::ReceiveInfo;
 use culvertroost::assembly::{cvr_assembly_empty, cvr_receive};
-use sample_lines::answers::{Asked, few, least, plain, short, word_at, written};
+use sample_lines::answers::{Asked, few, lent, plain, short, word_at, written};
 use wire::put_run;
 
 const ASSEMBLY_SIZE: usize = 4144;
@@ -10,21 +10,20 @@ pub fn with_assembly(
     question: u8,
     arguments: &[u8],
     input: &[u8],
-    state: &mut [u8],
+    assembly: &mut [u8],
     out: &mut [u8],
 ) -> Asked {
     match question {
-        16 => received(receive(arguments, input, state, out)),
-        17 => empty(state),
-        _ => show(state, out),
+        16 => received(receive(arguments, input, assembly, out)),
+        17 => empty(assembly),
+        _ => show(assembly, out),
     }
 }
 
 // Lends the front of the memory.
-fn receive(arguments: &[u8], input: &[u8], state: &mut [u8], out: &mut [u8]) -> ReceiveInfo {
-    let room = least(word_at(arguments, 1) as usize, out.len());
-    let size = least(word_at(arguments, 2) as usize, state.len());
-    cvr_receive(&mut state[..size], input, &mut out[..room])
+fn receive(arguments: &[u8], input: &[u8], assembly: &mut [u8], out: &mut [u8]) -> ReceiveInfo {
+    let room = lent(out, word_at(arguments, 1));
+    cvr_receive(lent(assembly, word_at(arguments, 2)), input, room)
 }
 
 pub fn received(answer: ReceiveInfo) -> Asked {
@@ -53,12 +52,12 @@ pub fn received(answer: ReceiveInfo) -> Asked {
     written(numbers, length)
 }
 
-fn empty(state: &mut [u8]) -> Asked {
-    let refusal = cvr_assembly_empty(state);
+fn empty(assembly: &mut [u8]) -> Asked {
+    let refusal = cvr_assembly_empty(assembly);
     plain(few(refusal.number, refusal.place, 0, 0, 0))
 }
 
-fn show(state: &[u8], out: &mut [u8]) -> Asked {
-    put_run(out, 0, state, ASSEMBLY_SIZE);
+fn show(assembly: &[u8], out: &mut [u8]) -> Asked {
+    put_run(out, 0, assembly, ASSEMBLY_SIZE);
     written([0; 16], ASSEMBLY_SIZE)
 }

@@ -3,12 +3,12 @@ ghost use Rattle.std.specs.Prelude.{◌≤◌};
 
 use crate::messages::message_at;
 use crate::modems::{done, taken};
+use c_structs::RefusalInfo;
 use c_structs::pins::EntryAnswer;
 use culvertroost::pins::{cvr_pin_enter, cvr_pin_make, cvr_pin_receive};
 use pin_entry::starts::{PinStart, PinStarts};
-use protocol::Refusal;
 use protocol::service::id_at;
-use sample_lines::answers::{Asked, least, plain, short, word_at, written};
+use sample_lines::answers::{Asked, least, lent, plain, short, word_at, written};
 use wire::put_run;
 
 const PINS_SIZE: usize = 748;
@@ -35,28 +35,23 @@ pub fn receive(
     pins: &mut [u8],
     out: &mut [u8],
 ) -> Asked {
-    let room = least(word_at(arguments, 1) as usize, out.len());
     let message = message_at(arguments, 2, id_at(input, 0));
     let from = least(16, input.len());
-    let answer = cvr_pin_receive(modem, pins, message, &input[from..], &mut out[..room]);
-    taken(answer)
+    let room = lent(out, word_at(arguments, 1));
+    taken(cvr_pin_receive(modem, pins, message, &input[from..], room))
 }
 
 // Lends the front of the memory.
-fn make(arguments: &[u8], input: &[u8], pins: &mut [u8]) -> Refusal {
-    let size = least(word_at(arguments, 1) as usize, pins.len());
+fn make(arguments: &[u8], input: &[u8], pins: &mut [u8]) -> RefusalInfo {
     let starts = starts_of(arguments, input);
-    cvr_pin_make(&mut pins[..size], starts)
+    cvr_pin_make(lent(pins, word_at(arguments, 1)), starts)
 }
 
 fn starts_of(arguments: &[u8], input: &[u8]) -> PinStarts {
     let first = start_at(arguments, input, 0);
     let mut rows = [first; 17];
-    let mut i: u32 = 1;
-    while i < 17 {
-        let row = start_at(arguments, input, i);
-        rows[i as usize] = row;
-        i += 1;
+    for i in 1..17 {
+        rows[i as usize] = start_at(arguments, input, i);
     }
     PinStarts { rows }
 }

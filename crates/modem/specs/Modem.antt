@@ -1,39 +1,32 @@
 -- The modem's end of the handshake (document 01, "The handshake").
 -- In this order: the end made, opened and closed; answers; each kind of command; any command; any message.
 -- One value gives the answer, the next end and the output.
-use Rattle.std.specs.Prelude.{ℕ, Bool, true, false, not, cond, ◌&&◌, List, [], ◌∷◌, eqb, ltb}
+use Rattle.std.specs.Prelude.{ℕ, Bool, true, false, not, cond, ◌&&◌, List, [], ◌∷◌, eqb, ltb, Ok, Err, Result}
 use Rattle.protocol.specs.Refusal.{wrong_version, unknown, outside_table}
-use Rattle.protocol.specs.Verdict.{Rule, rule, judge, Writing}
+use Rattle.protocol.specs.Verdict.{Rule, rule, judge, Writing, Verdict, Written}
 use Rattle.protocol.specs.MessageType.{COMMAND, QUERY}
 use Rattle.protocol.specs.Status.{no_device_support}
-use Rattle.protocol.specs.Service.{kind_of}
-use Rattle.protocol.specs.declared.Verdict.{Verdict}
-use Rattle.protocol.specs.declared.Verdict.TheVariants.{Fits, Fault}
+use Rattle.protocol.specs.Service.{kind_of, Carried}
 use Rattle.protocol.specs.declared.Version.{Version}
 use Rattle.protocol.specs.declared.Version.TheVariants.{V1, V2}
-use Rattle.protocol.specs.declared.Written.{Written}
-use Rattle.protocol.specs.declared.Written.TheVariants as written
 use Rattle.protocol.specs.declared.service.ServiceId.{ServiceId}
-use Rattle.protocol.specs.declared.service.Carried.{Carried}
-use Rattle.protocol.specs.declared.service.Carried.TheVariants as carried
-use Rattle.version_info.specs.VersionInfo.{is_extension, read_of, write_of}
-use Rattle.version_info.specs.declared.VersionInfoRead.{VersionInfoRead}
-use Rattle.version_info.specs.declared.VersionInfoRead.TheVariants as read
-use Rattle.services_query.specs.declared.ListedAnswer.{ListedAnswer}
-use Rattle.services_query.specs.declared.ListedAnswer.TheVariants as list
+use Rattle.version_info.specs.VersionInfo.{is_extension, read_of, write_of, VersionInfoRead}
 use Rattle.message.specs.declared.MessageHeader.{MessageHeader}
 use Rattle.handshake.specs.Versions.{number_of, version_of, info_of, larger, lower}
 use Rattle.handshake.specs.Commands.{role_of, version_listed}
 use Rattle.modem.specs.declared.ModemStage.{ModemStage}
 use Rattle.modem.specs.declared.ModemStage.TheVariants.{Start, Listed, Settled}
 use Rattle.modem.specs.declared.Modem.{Modem}
-use Rattle.modem.specs.declared.ModemMade.{ModemMade}
-use Rattle.modem.specs.declared.ModemMade.TheVariants as made
 use Rattle.modem.specs.declared.ModemAnswer.{ModemAnswer}
 use Rattle.modem.specs.declared.ModemAnswer.TheVariants as answer
 use Rattle.modem.specs.declared.ModemStep.{ModemStep}
 use Rattle.handshake.specs.declared.Role.{Role}
 use Rattle.handshake.specs.declared.Role.TheVariants as role
+use Rattle.services_query.specs.ServicesQuery.{ListedAnswer}
+use Rattle.protocol.specs.declared.Refusal.{Refusal}
+
+abbrev pub ModemMade : Type 0
+ModemMade = Result Modem Refusal
 
 -- ---- made, opened, closed
 
@@ -53,13 +46,12 @@ made_rules native advertised =
 
 -- by what its own list of services says of VERSION
 abbrev pub listed_by : ListedAnswer → Version → Version → ModemMade
-listed_by list.Listed native advertised = made.Made (end native advertised true Start)
-listed_by list.NotListed native advertised = made.Made (end native advertised false Start)
-listed_by (list.Refused r) native advertised = made.Refused r
+listed_by (Ok listed) native advertised = Ok (end native advertised listed Start)
+listed_by (Err r) native advertised = Err r
 
 abbrev pub made_by : Verdict → ℕ → ℕ → List ℕ → ModemMade
-made_by Fits native advertised s = listed_by (version_listed s) (version_of native) (version_of advertised)
-made_by (Fault r) native advertised s = made.Refused r
+made_by (Ok _) native advertised s = listed_by (version_listed s) (version_of native) (version_of advertised)
+made_by (Err r) native advertised s = Err r
 
 -- from the numbers of its versions and the list s that it serves: 12, then the list's own refusal
 unfoldable pub made_of : ℕ → ℕ → List ℕ → ModemMade
@@ -77,17 +69,17 @@ settled_number (Settled v) = number_of v
 
 -- ---- answers
 
-abbrev pub step : Modem → ModemAnswer → ModemStep
+abbrev pub step : Modem → (Result ModemAnswer Refusal) → ModemStep
 step m a = record { modem = m; answer = a }
 
 -- "status 9 without any change"
 abbrev pub failed : Modem → ModemStep
-failed m = step m (answer.Failed no_device_support)
+failed m = step m (Ok (answer.Failed no_device_support))
 
 -- what is to be served; a command of no known service or CID is told apart, with the place of that
-abbrev pub served_as : Carried → ModemAnswer
-served_as (carried.Payload k) = answer.Serve k
-served_as (carried.Refused r) = answer.Unknown r.place
+abbrev pub served_as : Carried → Result ModemAnswer Refusal
+served_as (Ok k) = Ok (answer.Serve k)
+served_as (Err r) = Ok (answer.Unknown r.place)
 
 abbrev pub served : Modem → Carried → ModemStep
 served m c = step m (served_as c)
@@ -117,8 +109,8 @@ answer_of m native = larger m.advertised (lower native m.native)
 
 -- it settles at its status 0 answer; too small an output changes nothing
 abbrev pub gave_by : Written → Modem → Version → ModemStep
-gave_by (written.Length n) m v = step (at m (Settled v)) (answer.Version n)
-gave_by (written.Refused r) m v = step m (answer.Refused r)
+gave_by (Ok n) m v = step (at m (Settled v)) (Ok (answer.Version n))
+gave_by (Err r) m v = step m (Err r)
 
 unfoldable pub gave : Writing → Modem → Version → Commanding
 gave w m v = record { step = gave_by w.answer m v; output = w.output }
@@ -127,8 +119,8 @@ unfoldable pub give_of : Modem → Version → List ℕ → Commanding
 give_of m v out = gave (write_of (info_of v) out) m v
 
 unfoldable pub answer_by : Modem → VersionInfoRead → List ℕ → Commanding
-answer_by m (read.Info i) out = give_of m (answer_of m (version_of i.bcd_mbim_extended_version)) out
-answer_by m (read.Refused r) out = plain (failed m) out
+answer_by m (Ok i) out = give_of m (answer_of m (version_of i.bcd_mbim_extended_version)) out
+answer_by m (Err r) out = plain (failed m) out
 
 abbrev pub is_listed : ModemStage → Bool
 is_listed Start = false
@@ -175,8 +167,8 @@ command_rules h =
 
 -- a refused one changes nothing
 unfoldable pub receive_by : Verdict → Modem → MessageHeader → List ℕ → List ℕ → Commanding
-receive_by Fits m h s out = command_of m h.service h.cid h.word s out
-receive_by (Fault r) m h s out = plain (step m (answer.Refused r)) out
+receive_by (Ok _) m h s out = command_of m h.service h.cid h.word s out
+receive_by (Err r) m h s out = plain (step m (Err r)) out
 
 unfoldable pub receive_of : Modem → MessageHeader → List ℕ → List ℕ → Commanding
 receive_of m h s out = receive_by (judge (command_rules h)) m h s out

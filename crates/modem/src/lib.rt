@@ -2,23 +2,17 @@
 // command as the rule says, and then keeps the version that it settled on.
 #![tactic(auto)]
 
-ghost use Rattle.std.specs.Prelude.{◌≡◌};
+ghost use Rattle.std.specs.Prelude.{◌≡◌, Err};
 ghost use Rattle.protocol.specs.Verdict.{judge};
-ghost use Rattle.version_info.specs.VersionInfo.{read_of};
-ghost use Rattle.handshake.specs.Versions.{version_of};
-ghost use Rattle.handshake.specs.Commands.{version_listed};
-ghost use Rattle.modem.specs.Modem.{at, made_rules, listed_by, made_of, start_of, settled_number, failed, served, listed_stage, services_of, answer_of, give_of, answer_by, can_answer, version_of_command, first_other, other_at, command_of, command_rules, receive_of};
+ghost use Rattle.modem.specs.Modem.{made_of, start_of, settled_number, step, failed, served, listed_stage, services_of, answer_of, give_of, can_answer, version_of_command, other_at, command_of, command_rules, receive_of};
 
-use handshake::{Role, info_of, judge_number, larger, lower, number_of, role_of, version_of};
+use handshake::{Role, info_of, larger, lower, number_of, role_of, version_at, version_of};
 use message::MessageHeader;
 use protocol::message_type::{COMMAND, QUERY};
-use protocol::service::{Carried, Kind, ServiceId, VERSION, extensions_id, kind_of};
+use protocol::service::{Kind, VERSION, extensions_id, kind_of};
 use protocol::status::NO_DEVICE_SUPPORT;
-use protocol::{
-    OUTSIDE_TABLE, Refusal, UNKNOWN, Verdict, Version, WRONG_VERSION, Written, also, first,
-};
-use services_query::{ListedAnswer, is_listed};
-use version_info::VersionInfoRead;
+use protocol::{Reason, Refusal, Verdict, Version, refuse_if};
+use services_query::is_listed;
 
 // How far the handshake is.
 #[derive(Clone, Copy)]
@@ -38,12 +32,6 @@ pub struct Modem {
     pub stage: ModemStage,
 }
 
-#[derive(Clone, Copy)]
-pub enum ModemMade {
-    Made(Modem),
-    Refused(Refusal),
-}
-
 // What a command is answered.
 #[derive(Clone, Copy)]
 pub enum ModemAnswer {
@@ -55,73 +43,61 @@ pub enum ModemAnswer {
     Unknown(usize),
     // Another status, and no payload.
     Failed(u32),
-    // No answer yet, and nothing changed.
-    Refused(Refusal),
 }
 
 // The end after a command, and the answer.
 #[derive(Clone, Copy)]
 pub struct ModemStep {
     pub modem: Modem,
-    pub answer: ModemAnswer,
+    pub answer: Result<ModemAnswer, Refusal>,
 }
 
 // A modem at its start, from the numbers of its native and its advertised version and the list of
 // services that it serves.
-pub fn make(native: u16, advertised: u16, services: &[u8]) -> ModemMade
+#[tactic(auto, unfolding(crate::specs::Modem::made_of, crate::specs::Modem::made_rules, handshake::specs::Versions::numbered, handshake::specs::Versions::number_verdict, protocol::specs::Verdict::judge_from, protocol::specs::Verdict::first_of, protocol::specs::Verdict::fault_if))]
+pub fn make(native: u16, advertised: u16, services: &[u8]) -> Result<Modem, Refusal>
     ensures { result ≡ made_of native advertised services.now }
 {
-    match judge_numbers(native, advertised) {
-        Verdict::Fits => make_listed(native, advertised, services),
-        Verdict::Fault(refusal) => ModemMade::Refused(refusal),
-    }
-}
-
-// The list of services says whether VERSION is listed.
-fn make_listed(native: u16, advertised: u16, services: &[u8]) -> ModemMade
-    ensures { result ≡ listed_by (version_listed services.now) (version_of native) (version_of advertised) }
-{
-    match is_listed(services, extensions_id(), VERSION) {
-        ListedAnswer::Listed => ModemMade::Made(Modem {
-            native: version_of(native),
-            advertised: version_of(advertised),
-            lists_version: true,
-            stage: ModemStage::Start,
-        }),
-        ListedAnswer::NotListed => ModemMade::Made(Modem {
-            native: version_of(native),
-            advertised: version_of(advertised),
-            lists_version: false,
-            stage: ModemStage::Start,
-        }),
-        ListedAnswer::Refused(refusal) => ModemMade::Refused(refusal),
-    }
+    let own = version_at(native)?;
+    let said = version_at(advertised)?;
+    refuse_if(native < advertised, Reason::WrongVersion, 0)?;
+    let lists_version = is_listed(services, extensions_id(), VERSION)?;
+    Ok(Modem {
+        native: own,
+        advertised: said,
+        lists_version,
+        stage: ModemStage::Start,
+    })
 }
 
 pub fn open(modem: Modem) -> Modem
     ensures { result ≡ start_of modem }
 {
-    at_stage(modem, ModemStage::Start)
+    Modem {
+        stage: ModemStage::Start,
+        ..modem
+    }
 }
 
+// CLOSE puts the handshake back as OPEN does.
 pub fn close(modem: Modem) -> Modem
     ensures { result ≡ start_of modem }
 {
-    at_stage(modem, ModemStage::Start)
+    open(modem)
 }
 
-// The number of the version that a modem is settled at, or 0.
+// The number of the version that a modem is settled at, or 0 (C interface, fixed memory).
 pub fn settled_number(stage: ModemStage) -> u16
     ensures { result ≡ settled_number stage }
 {
     match stage {
-        ModemStage::Start => 0,
-        ModemStage::Listed => 0,
+        ModemStage::Start | ModemStage::Listed => 0,
         ModemStage::Settled { version } => number_of(version),
     }
 }
 
 // A received message, which is to be a COMMAND of a transaction.
+#[tactic(auto, unfolding(crate::specs::Modem::receive_of, crate::specs::Modem::receive_by))]
 pub fn receive(
     modem: Modem,
     message: MessageHeader,
@@ -132,73 +108,40 @@ pub fn receive(
     ensures out_after { out.new ≡ (receive_of modem message information.now out.old).output }
 {
     match judge_command(message) {
-        Verdict::Fits => {
-            let service = message.service;
-            command(modem, service, message.cid, message.word, information, out)
-        }
-        Verdict::Fault(refusal) => ModemStep {
-            modem,
-            answer: ModemAnswer::Refused(refusal),
-        },
+        Ok(()) => command(modem, message, information, out),
+        Err(refusal) => refuse(modem, refusal),
     }
 }
 
+#[tactic(auto, unfolding(protocol::specs::Verdict::judge_from, protocol::specs::Verdict::first_of, protocol::specs::Verdict::fault_if))]
 fn judge_command(message: MessageHeader) -> Verdict
     ensures { result ≡ judge (command_rules message) }
 {
-    let commands = also(Verdict::Fits, message.message_type != COMMAND, UNKNOWN, 0);
-    also(commands, message.transaction == 0, OUTSIDE_TABLE, 8)
+    refuse_if(message.message_type != COMMAND, Reason::Unknown, 0)?;
+    refuse_if(message.transaction == 0, Reason::OutsideTable, 8)
 }
 
-// A command: its service and CID, its type, and its payload.
-fn command(
-    modem: Modem,
-    service: ServiceId,
-    cid: u32,
-    command_type: u32,
-    payload: &[u8],
-    out: &mut [u8],
-) -> ModemStep
-    ensures value { result ≡ (command_of modem service cid command_type payload.now out.old).step }
-    ensures out_after { out.new ≡ (command_of modem service cid command_type payload.now out.old).output }
+// A command and its payload.
+#[tactic(auto, unfolding(crate::specs::Modem::command_of, crate::specs::Modem::command_by))]
+fn command(modem: Modem, message: MessageHeader, payload: &[u8], out: &mut [u8]) -> ModemStep
+    ensures value { result ≡ (command_of modem message.service message.cid message.word payload.now out.old).step }
+    ensures out_after { out.new ≡ (command_of modem message.service message.cid message.word payload.now out.old).output }
 {
-    let carried = kind_of(service, cid);
+    let carried = kind_of(message.service, message.cid);
     match role_of(carried) {
         Role::Services => serve_list(modem, carried),
-        Role::Version => take_version(modem, command_type, payload, out),
+        Role::Version => take_version(modem, message.word, payload, out),
         Role::Other => take_other(modem, carried),
     }
 }
 
-fn judge_numbers(native: u16, advertised: u16) -> Verdict
-    ensures { result ≡ judge (made_rules native advertised) }
-{
-    let known = first(judge_number(native), judge_number(advertised));
-    also(known, native < advertised, WRONG_VERSION, 0)
-}
-
 // DEVICE_SERVICES, as a query or a set.
-fn serve_list(modem: Modem, carried: Carried) -> ModemStep
+#[tactic(auto, unfolding(crate::specs::Modem::services_of))]
+fn serve_list(modem: Modem, carried: Result<Kind, Refusal>) -> ModemStep
     ensures { result ≡ services_of modem carried }
 {
-    let stage = modem.stage;
-    serve(at_stage(modem, stage_after_list(stage)), carried)
-}
-
-// A command that is let through.
-fn serve(modem: Modem, carried: Carried) -> ModemStep
-    ensures { result ≡ served modem carried }
-{
-    match carried {
-        Carried::Payload(kind) => ModemStep {
-            modem,
-            answer: ModemAnswer::Serve(kind),
-        },
-        Carried::Refused(unknown) => ModemStep {
-            modem,
-            answer: ModemAnswer::Unknown(unknown.place),
-        },
-    }
+    let stage = stage_after_list(modem.stage);
+    serve(Modem { stage, ..modem }, carried)
 }
 
 fn stage_after_list(stage: ModemStage) -> ModemStage
@@ -206,99 +149,87 @@ fn stage_after_list(stage: ModemStage) -> ModemStage
 {
     match stage {
         ModemStage::Start => ModemStage::Listed,
-        ModemStage::Listed => ModemStage::Listed,
-        ModemStage::Settled { version } => ModemStage::Settled { version },
+        ModemStage::Listed | ModemStage::Settled { .. } => stage,
     }
 }
 
+// A command that is let through.
+fn serve(modem: Modem, carried: Result<Kind, Refusal>) -> ModemStep
+    ensures { result ≡ served modem carried }
+{
+    let answer = match carried {
+        Ok(kind) => ModemAnswer::Serve(kind),
+        Err(unknown) => ModemAnswer::Unknown(unknown.place),
+    };
+    ModemStep {
+        modem,
+        answer: Ok(answer),
+    }
+}
+
+#[tactic(auto, unfolding(crate::specs::Modem::version_of_command, crate::specs::Modem::answer_by))]
 fn take_version(modem: Modem, command_type: u32, payload: &[u8], out: &mut [u8]) -> ModemStep
     ensures value { result ≡ (version_of_command modem command_type payload.now out.old).step }
     ensures out_after { out.new ≡ (version_of_command modem command_type payload.now out.old).output }
 {
-    if can_answer(modem, command_type) {
-        return answer_version(modem, payload, out);
+    if !can_answer(modem, command_type) {
+        return fail(modem);
     }
-    fail(modem)
-}
-
-// Whether VERSION may be answered now, if its payload is good.
-fn can_answer(modem: Modem, command_type: u32) -> bool
-    ensures { result ≡ can_answer modem command_type }
-{
-    let stage = modem.stage;
-    match stage {
-        ModemStage::Start => false,
-        ModemStage::Listed => {
-            if modem.lists_version {
-                return command_type == QUERY;
-            }
-            false
-        }
-        ModemStage::Settled { version: _ } => false,
-    }
-}
-
-fn answer_version(modem: Modem, payload: &[u8], out: &mut [u8]) -> ModemStep
-    ensures value { result ≡ (answer_by modem (read_of payload.now) out.old).step }
-    ensures out_after { out.new ≡ (answer_by modem (read_of payload.now) out.old).output }
-{
     match version_info::read(payload) {
-        VersionInfoRead::Info(info) => {
+        Ok(info) => {
             let native = version_of(info.bcd_mbim_extended_version);
             give_version(modem, answer_of(modem, native), out)
         }
-        VersionInfoRead::Refused(_) => fail(modem),
+        Err(_) => fail(modem),
     }
+}
+
+// Whether VERSION may be answered now, if its payload is good.
+#[tactic(auto, unfolding(crate::specs::Modem::can_answer))]
+fn can_answer(modem: Modem, command_type: u32) -> bool
+    ensures { result ≡ can_answer modem command_type }
+{
+    matches!(modem.stage, ModemStage::Listed) && modem.lists_version && command_type == QUERY
 }
 
 // The answer to a host of a native version.
 fn answer_of(modem: Modem, native: Version) -> Version
     ensures { result ≡ answer_of modem native }
 {
-    let advertised = modem.advertised;
-    let own = modem.native;
-    larger(advertised, lower(native, own))
+    larger(modem.advertised, lower(native, modem.native))
 }
 
 // Writes the answer and settles there.
+#[tactic(auto, unfolding(crate::specs::Modem::give_of, crate::specs::Modem::gave))]
 fn give_version(modem: Modem, version: Version, out: &mut [u8]) -> ModemStep
     ensures value { result ≡ (give_of modem version out.old).step }
     ensures out_after { out.new ≡ (give_of modem version out.old).output }
 {
     match version_info::write(info_of(version), out) {
-        Written::Length(n) => ModemStep {
-            modem: at_stage(modem, ModemStage::Settled { version }),
-            answer: ModemAnswer::Version(n),
+        Ok(n) => ModemStep {
+            modem: Modem {
+                stage: ModemStage::Settled { version },
+                ..modem
+            },
+            answer: Ok(ModemAnswer::Version(n)),
         },
-        Written::Refused(refusal) => ModemStep {
-            modem,
-            answer: ModemAnswer::Refused(refusal),
-        },
+        Err(refusal) => refuse(modem, refusal),
     }
 }
 
-// Any command but DEVICE_SERVICES and VERSION.
-fn take_other(modem: Modem, carried: Carried) -> ModemStep
+// Any command but DEVICE_SERVICES and VERSION. The first one settles a modem that advertised 1.00.
+#[tactic(auto, unfolding(crate::specs::Modem::other_at))]
+fn take_other(modem: Modem, carried: Result<Kind, Refusal>) -> ModemStep
     ensures { result ≡ other_at modem.stage modem carried }
 {
-    let stage = modem.stage;
-    match stage {
-        ModemStage::Start => fail(modem),
-        ModemStage::Listed => take_first_other(modem, carried),
-        ModemStage::Settled { version: _ } => serve(modem, carried),
-    }
-}
-
-fn take_first_other(modem: Modem, carried: Carried) -> ModemStep
-    ensures { result ≡ first_other modem.advertised modem carried }
-{
-    let advertised = modem.advertised;
-    match advertised {
-        Version::V1 => {
+    match (modem.stage, modem.advertised) {
+        (ModemStage::Settled { .. }, _) => serve(modem, carried),
+        (ModemStage::Listed, Version::V1) => {
             let version = Version::V1;
-            serve(at_stage(modem, ModemStage::Settled { version }), carried)
+            let stage = ModemStage::Settled { version };
+            serve(Modem { stage, ..modem }, carried)
         }
-        Version::V2 => fail(modem),
+        _ => fail(modem),
     }
 }
 
@@ -307,19 +238,15 @@ fn fail(modem: Modem) -> ModemStep
 {
     ModemStep {
         modem,
-        answer: ModemAnswer::Failed(NO_DEVICE_SUPPORT),
+        answer: Ok(ModemAnswer::Failed(NO_DEVICE_SUPPORT)),
     }
 }
 
-fn at_stage(modem: Modem, stage: ModemStage) -> Modem
-    ensures { result ≡ at modem stage }
+fn refuse(modem: Modem, refusal: Refusal) -> ModemStep
+    ensures { result ≡ step modem (Err refusal) }
 {
-    let native = modem.native;
-    let advertised = modem.advertised;
-    Modem {
-        native,
-        advertised,
-        lists_version: modem.lists_version,
-        stage,
+    ModemStep {
+        modem,
+        answer: Err(refusal),
     }
 }

@@ -6,14 +6,11 @@ use mathlib.Core.Logic.{⊎_map}
 use mathlib.Core.Bool.{false, not, ◌||◌}
 use mathlib.Core.List.{List}
 use Prim.Native.Nat.{ℕ}
-use native.Mathlib.Omega.{arith}
 use borrow.Author.Tests.{ltb-false, le-ltb, eqb-true, eq-eqb}
 use lib.Dec.{eqb}
 use lib.ListN.{length}
 use Rattle.wire.specs.Numbers.{u32_at}
-use Rattle.protocol.specs.Verdict.{Kept, judge, first_of, exact_length}
-use Rattle.protocol.specs.declared.Verdict.{Verdict}
-use Rattle.protocol.specs.declared.Verdict.TheVariants.{Fits, Fault}
+use Rattle.protocol.specs.Verdict.{Kept, judge, first_of, exact_length, no_fault, Verdict}
 use Rattle.protocol.specs.declared.Version.{Version}
 use Rattle.protocol.specs.declared.Version.TheVariants.{V1, V2}
 use Rattle.protocol.proofs.Tests.{or_cases, cases_or, and_cases, cases_and, not_kept, kept_not, equal_kept, kept_equal}
@@ -21,10 +18,10 @@ use Rattle.protocol.proofs.Verdicts.{fits_kept, kept_fits, then_kept, kept_then,
 use Rattle.packet_service.specs.declared.PacketForm.{PacketForm}
 use Rattle.packet_service.specs.declared.PacketForm.TheVariants.{V1 as Form1, V2 as Form2}
 use Rattle.packet_service.specs.declared.PacketService.{PacketService}
-use Rattle.packet_service.specs.declared.PacketServiceRead.TheVariants.{Info}
 use Rattle.packet_service.specs.PacketService.{length_of, record_at, packet_class, later_rules, form_rules, rules, verdict_of, shown, read_of, bytes_of, write_of}
 use Rattle.packet_service.specs.Claims.{PacketClass, LaterFits, Acceptable, FormWritable, Writable, Accepted, AcceptedExactly, WrittenExactly}
 use Rattle.packet_service.proofs.Hspa.{class_exactly}
+use Rattle.std.specs.Prelude.{Ok, Err}
 
 -- ---- each rule as a fact
 
@@ -82,9 +79,9 @@ said_fields V2 s a = (le-ltb 4 (u32_at s 4) a.state, said_later (u32_at s 4) (u3
 
 -- ---- accepted exactly when the rules hold
 
-shows : (d : Verdict) (p q : PacketService) → shown d p ≡ Info q → (d ≡ Fits) × (p ≡ q)
-shows Fits p q e = (refl, cc)
-shows (Fault r) p q e = let z : ◌≡◌ {A = ℕ} 0 1 = cc in absurd (omega arith)
+shows : (d : Verdict) (p q : PacketService) → shown d p ≡ Ok q → (d ≡ no_fault) × (p ≡ q)
+shows (Ok _) p q e = (refl, cc)
+shows (Err r) p q e = cc
 
 -- an accepted payload keeps the rules, and shows the record at its places
 pub accepted : Accepted
@@ -94,10 +91,10 @@ accepted v s p e =
     let k = then_kept (exact_length (length_of v) (length s)) (rules (record_at v s)) d.0 in
     (fields_said v s (exact_length_lem (length_of v) (length s) k.0) k.1, sym d.1)
 
-pub acceptable : (v : Version) (s : List ℕ) → Acceptable v s → read_of v s ≡ Info (record_at v s)
+pub acceptable : (v : Version) (s : List ℕ) → Acceptable v s → read_of v s ≡ Ok (record_at v s)
 unfolding read_of verdict_of
 acceptable v s a =
-    let f : first_of (exact_length (length_of v) (length s)) (judge (rules (record_at v s))) ≡ Fits =
+    let f : first_of (exact_length (length_of v) (length s)) (judge (rules (record_at v s))) ≡ no_fault =
     kept_then (exact_length (length_of v) (length s)) (rules (record_at v s)) (length_exact (length_of v) (length s) a.long) (said_fields v s a) in
     rw f
 
@@ -116,13 +113,13 @@ unfolding form_rules
 said_form state (Form1 class) w = (said_class V1 class w, tt)
 said_form state (Form2 class range) w = said_later state class range w.0 w.1
 
-writable_said : (p : PacketService) → verdict_of p ≡ Fits → Writable p
+writable_said : (p : PacketService) → verdict_of p ≡ no_fault → Writable p
 unfolding verdict_of rules
 writable_said p e =
     let k = fits_kept (rules p) e in
     record { state = ltb-false 4 p.packet_service_state k.0; form = form_said p.packet_service_state p.form k.1 }
 
-said_writable : (p : PacketService) → Writable p → verdict_of p ≡ Fits
+said_writable : (p : PacketService) → Writable p → verdict_of p ≡ no_fault
 unfolding verdict_of rules
 said_writable p w = kept_fits (rules p) (le-ltb 4 p.packet_service_state w.state, said_form p.packet_service_state p.form w.form)
 

@@ -11,11 +11,10 @@ use lib.Dec.{eqb, ltb}
 use lib.ListN.{length}
 use Rattle.wire.specs.Numbers.{u32_at}
 use Rattle.protocol.specs.Refusal.{refusal, too_short, wrong_length, outside_table, contradiction, output_too_small}
-use Rattle.protocol.specs.Verdict.{Rule, rule, judge, judge_from, fault_if, first_of, exact_length, given, with_room, writing}
+use Rattle.protocol.specs.Verdict.{Rule, rule, judge, judge_from, fault_if, first_of, exact_length, given, with_room, writing, Verdict}
 use Rattle.protocol.specs.DataClass.{class_bits, sum_of_bits, is_bit, one_class_or_none}
 use Rattle.protocol.specs.declared.Refusal.{Refusal}
-use Rattle.protocol.specs.declared.Verdict.{Verdict}
-use Rattle.protocol.specs.declared.Verdict.TheVariants.{Fits, Fault}
+use Rattle.protocol.specs.declared.Reason.{Reason}
 use Rattle.protocol.specs.declared.Version.{Version}
 use Rattle.protocol.specs.declared.Version.TheVariants.{V1, V2}
 use Rattle.protocol.proofs.Tests.{or_cases, cases_or, not_said}
@@ -24,9 +23,9 @@ use Rattle.protocol.proofs.Verdicts.{fault_stays, length_exact, told_refused}
 use Rattle.packet_service.specs.declared.PacketForm.{PacketForm}
 use Rattle.packet_service.specs.declared.PacketForm.TheVariants.{V1 as Form1, V2 as Form2}
 use Rattle.packet_service.specs.declared.PacketService.{PacketService}
-use Rattle.packet_service.specs.declared.PacketServiceRead.TheVariants.{Refused}
 use Rattle.packet_service.specs.PacketService.{length_of, record_at, hspa, packet_class, unattached, stray_range, later_rules, form_rules, rules, verdict_of, shown, read_of, version_in, class_in, bytes_of, write_of}
 use Rattle.packet_service.specs.Claims.{PacketClass, ClassExactly, OnlyHspaAdded, OtherClassRead, OtherClassWritten, HspaFits, HspaUnattached, HspaRanged}
+use Rattle.std.specs.Prelude.{Ok, Err}
 
 -- ---- the table
 
@@ -53,7 +52,7 @@ two_bits V2 = refl
 pub only_hspa_added : OnlyHspaAdded
 unfolding sum_of_bits
 only_hspa_added v class = (
-  λ (t, f). ⊎_elim (λ h. let z : ◌≡◌ {A = ℕ} 0 1 = cc in absurd (omega arith)) (eqb-true class hspa) (or_cases (one_class_or_none v class) (eqb class hspa) t),
+  λ (t, f). ⊎_elim (λ h. cc) (eqb-true class hspa) (or_cases (one_class_or_none v class) (eqb class hspa) t),
   λ e. (said_class v class (inr (inr e)), ap (one_class_or_none v) e ∙ two_bits v),
 )
 
@@ -65,36 +64,36 @@ other_class v class h = go (packet_class v class) refl
     go false e = e
 
 class_other : (v : Version) (class : ℕ) → packet_class v class ≡ false → PacketClass v class → ⊥
-class_other v class f h = let t = said_class v class h in let z : ◌≡◌ {A = ℕ} 0 1 = cc in omega arith
+class_other v class f h = let t = said_class v class h in cc
 
 -- ---- 9 at 8
 
-same_fault : (n p m q : ℕ) → Fault (refusal n p) ≡ Fault (refusal m q) → (n ≡ m) × (p ≡ q)
+same_fault : (n : Reason) (p : ℕ) (m : Reason) (q : ℕ) → ◌≡◌ {A = Verdict} (Err (refusal n p)) (Err (refusal m q)) → (n ≡ m) × (p ≡ q)
 same_fault n p m q e =
     let k : refusal n p ≡ refusal m q = cc in
-    (ap (λ (r : Refusal). r.number) k, ap (λ (r : Refusal). r.place) k)
+    (ap (λ (r : Refusal). r.reason) k, ap (λ (r : Refusal). r.place) k)
 
 -- the rules of state and class, and any after them that don't say it
-class_first : (a b : Bool) (rest : List Rule) → (judge rest ≡ Fault (refusal outside_table 8) → ⊥)
-    → judge (rule a outside_table 4 ∷ rule b outside_table 8 ∷ rest) ≡ Fault (refusal outside_table 8) → (a ≡ false) × (b ≡ true)
+class_first : (a b : Bool) (rest : List Rule) → (judge rest ≡ Err (refusal outside_table 8) → ⊥)
+    → judge (rule a outside_table 4 ∷ rule b outside_table 8 ∷ rest) ≡ Err (refusal outside_table 8) → (a ≡ false) × (b ≡ true)
 unfolding judge_from fault_if first_of
 class_first true b rest none e = absurd (omega (arith, (same_fault outside_table 4 outside_table 8 (sym (fault_stays (refusal outside_table 4) rest) ∙ e)).1))
 class_first false true rest none e = (refl, refl)
 class_first false false rest none e = absurd (none e)
 
 -- at 1.00 there is none, at 2.00 they say another
-none_earlier : judge [] ≡ Fault (refusal outside_table 8) → ⊥
+none_earlier : judge [] ≡ Err (refusal outside_table 8) → ⊥
 unfolding judge_from
-none_earlier e = let z : ◌≡◌ {A = ℕ} 0 1 = cc in omega arith
+none_earlier e = cc
 
-none_later : (c d e : Bool) → judge (rule c outside_table 28 ∷ rule d contradiction 8 ∷ rule e contradiction 28 ∷ []) ≡ Fault (refusal outside_table 8) → ⊥
+none_later : (c d e : Bool) → judge (rule c outside_table 28 ∷ rule d contradiction 8 ∷ rule e contradiction 28 ∷ []) ≡ Err (refusal outside_table 8) → ⊥
 unfolding judge_from fault_if first_of
 none_later true d e f = omega (arith, (same_fault outside_table 28 outside_table 8 f).1)
-none_later false true e f = omega (arith, (same_fault contradiction 8 outside_table 8 f).0)
-none_later false false true f = omega (arith, (same_fault contradiction 28 outside_table 8 f).0)
+none_later false true e f = cc (same_fault contradiction 8 outside_table 8 f).0
+none_later false false true f = cc (same_fault contradiction 28 outside_table 8 f).0
 none_later false false false f = none_earlier f
 
-form_first : (state : ℕ) (f : PacketForm) → judge (rule (ltb 4 state) outside_table 4 ∷ form_rules state f) ≡ Fault (refusal outside_table 8)
+form_first : (state : ℕ) (f : PacketForm) → judge (rule (ltb 4 state) outside_table 4 ∷ form_rules state f) ≡ Err (refusal outside_table 8)
     → (state ≤ 4) × (PacketClass (version_in f) (class_in f) → ⊥)
 unfolding form_rules later_rules
 form_first state (Form1 class) e =
@@ -105,37 +104,37 @@ form_first state (Form2 class range) e =
     (ltb-false 4 state k.0, class_other V2 class (not_said (packet_class V2 class) k.1))
 
 first_form : (state : ℕ) (f : PacketForm) → state ≤ 4 → (PacketClass (version_in f) (class_in f) → ⊥)
-    → judge (rule (ltb 4 state) outside_table 4 ∷ form_rules state f) ≡ Fault (refusal outside_table 8)
+    → judge (rule (ltb 4 state) outside_table 4 ∷ form_rules state f) ≡ Err (refusal outside_table 8)
 unfolding form_rules later_rules judge_from fault_if first_of
 first_form state (Form1 class) l h = rw (le-ltb 4 state l, other_class V1 class h)
 first_form state (Form2 class range) l h = rw (le-ltb 4 state l, other_class V2 class h)
 
 -- a length that doesn't fit is another refusal
-length_first : (a b : Bool) (n q : ℕ) (d : Verdict) → first_of (judge (rule a too_short n ∷ rule b wrong_length n ∷ [])) d ≡ Fault (refusal outside_table q)
-    → (a ≡ false) × ((b ≡ false) × (d ≡ Fault (refusal outside_table q)))
+length_first : (a b : Bool) (n q : ℕ) (d : Verdict) → first_of (judge (rule a too_short n ∷ rule b wrong_length n ∷ [])) d ≡ Err (refusal outside_table q)
+    → (a ≡ false) × ((b ≡ false) × (d ≡ Err (refusal outside_table q)))
 unfolding judge_from fault_if first_of
-length_first true b n q d e = absurd (omega (arith, (same_fault too_short n outside_table q e).0))
-length_first false true n q d e = absurd (omega (arith, (same_fault wrong_length n outside_table q e).0))
+length_first true b n q d e = cc (same_fault too_short n outside_table q e).0
+length_first false true n q d e = cc (same_fault wrong_length n outside_table q e).0
 length_first false false n q d e = (refl, (refl, e))
 
-exact_first : (fixed n q : ℕ) (d : Verdict) → first_of (exact_length fixed n) d ≡ Fault (refusal outside_table q)
-    → (n ≡ fixed) × (d ≡ Fault (refusal outside_table q))
+exact_first : (fixed n q : ℕ) (d : Verdict) → first_of (exact_length fixed n) d ≡ Err (refusal outside_table q)
+    → (n ≡ fixed) × (d ≡ Err (refusal outside_table q))
 unfolding exact_length
 exact_first fixed n q d e =
     let k = length_first (ltb n fixed) (ltb fixed n) n q d e in
     (omega (arith, ltb-false n fixed k.0, ltb-false fixed n k.1.0), k.1.1)
 
-refuses : (d : Verdict) (p : PacketService) (r : Refusal) → shown d p ≡ Refused r → d ≡ Fault r
-refuses Fits p r e = let z : ◌≡◌ {A = ℕ} 0 1 = cc in absurd (omega arith)
-refuses (Fault q) p r e = cc
+refuses : (d : Verdict) (p : PacketService) (r : Refusal) → shown d p ≡ Err r → d ≡ Err r
+refuses (Ok _) p r e = cc
+refuses (Err q) p r e = cc
 
-fields_first : (v : Version) (s : List ℕ) → verdict_of (record_at v s) ≡ Fault (refusal outside_table 8)
+fields_first : (v : Version) (s : List ℕ) → verdict_of (record_at v s) ≡ Err (refusal outside_table 8)
     → (u32_at s 4 ≤ 4) × (PacketClass v (u32_at s 8) → ⊥)
 unfolding verdict_of rules record_at
 fields_first V1 s e = form_first (u32_at s 4) (Form1 (u32_at s 8)) e
 fields_first V2 s e = form_first (u32_at s 4) (Form2 (u32_at s 8) (u32_at s 28)) e
 
-first_fields : (v : Version) (s : List ℕ) → u32_at s 4 ≤ 4 → (PacketClass v (u32_at s 8) → ⊥) → verdict_of (record_at v s) ≡ Fault (refusal outside_table 8)
+first_fields : (v : Version) (s : List ℕ) → u32_at s 4 ≤ 4 → (PacketClass v (u32_at s 8) → ⊥) → verdict_of (record_at v s) ≡ Err (refusal outside_table 8)
 unfolding verdict_of rules record_at
 first_fields V1 s l h = first_form (u32_at s 4) (Form1 (u32_at s 8)) l h
 first_fields V2 s l h = first_form (u32_at s 4) (Form2 (u32_at s 8) (u32_at s 28)) l h
@@ -148,11 +147,11 @@ other_class_read v s = (
 )
 
 -- a room too small is another refusal
-room_last : (d : Verdict) (b : Bool) (n q : ℕ) → first_of d (fault_if b output_too_small n) ≡ Fault (refusal outside_table q) → d ≡ Fault (refusal outside_table q)
+room_last : (d : Verdict) (b : Bool) (n q : ℕ) → first_of d (fault_if b output_too_small n) ≡ Err (refusal outside_table q) → d ≡ Err (refusal outside_table q)
 unfolding first_of fault_if
-room_last Fits true n q e = absurd (omega (arith, (same_fault output_too_small n outside_table q e).0))
-room_last Fits false n q e = e
-room_last (Fault r) b n q e = e
+room_last (Ok _) true n q e = cc (same_fault output_too_small n outside_table q e).0
+room_last (Ok _) false n q e = e
+room_last (Err r) b n q e = e
 
 pub other_class_written : OtherClassWritten
 unfolding write_of writing with_room given first_of verdict_of rules

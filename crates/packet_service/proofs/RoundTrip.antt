@@ -5,16 +5,15 @@ use mathlib.Core.List.{[], ◌++◌}
 use lib.ListN.{length}
 use Rattle.wire.specs.Numbers.{u32_at, u64_at}
 use Rattle.wire.proofs.Laws.{num_digits}
-use Rattle.protocol.specs.Verdict.{first_of}
-use Rattle.protocol.specs.declared.Verdict.TheVariants.{Fits}
+use Rattle.protocol.specs.Verdict.{first_of, no_fault}
 use Rattle.protocol.proofs.Verdicts.{length_exact, written_fits, written_front}
 use Rattle.packet_service.specs.declared.PacketForm.{PacketForm}
 use Rattle.packet_service.specs.declared.PacketForm.TheVariants.{V1 as Form1, V2 as Form2}
 use Rattle.packet_service.specs.declared.PacketService.{PacketService}
-use Rattle.packet_service.specs.declared.PacketServiceRead.TheVariants.{Info}
 use Rattle.packet_service.specs.PacketService.{length_of, form_at, record_at, verdict_of, read_of, version_in, version_of, class_in, shared_bytes, range_bytes, bytes_of, write_of}
 use Rattle.packet_service.specs.Claims.{FormOfWidth, OfWidth, RoundTrip}
 use Rattle.packet_service.proofs.Laws.{length_bytes}
+use Rattle.std.specs.Prelude.{Ok}
 
 form_back : (p : PacketService) (f : PacketForm) → FormOfWidth f → form_at (version_in f) (shared_bytes p (class_in f) ++ range_bytes f) ≡ f
 unfolding u32_at shared_bytes
@@ -33,7 +32,7 @@ record_back p z = λ i. record {
 }
 
 -- the bytes of a record that fits, read at its version, show the record
-pub bytes_read : (p : PacketService) → OfWidth p → verdict_of p ≡ Fits → read_of (version_of p) (bytes_of p) ≡ Info p
+pub bytes_read : (p : PacketService) → OfWidth p → verdict_of p ≡ no_fault → read_of (version_of p) (bytes_of p) ≡ Ok p
 unfolding read_of first_of
 bytes_read p z e = rw (record_back p z, length_exact (length_of (version_of p)) (length (bytes_of p)) (length_bytes p), e)
 

@@ -1,20 +1,20 @@
 -- The PACKET_SERVICE payload (document 01, "Packet service"; document 02, order 4; source 000, MBIM_PACKET_SERVICE_INFO_V2).
 -- In this order: the fields and their places; the table of the class; the rules, in the order in which they are judged; what a reader answers;
 -- what a writer gives.
-use Rattle.std.specs.Prelude.{ℕ, Bool, not, ◌&&◌, ◌||◌, List, [], ◌∷◌, ◌++◌, ltb, eqb, length}
+use Rattle.std.specs.Prelude.{ℕ, Bool, not, ◌&&◌, ◌||◌, List, [], ◌∷◌, ◌++◌, ltb, eqb, length, Ok, Err, Result}
 use Rattle.wire.specs.Numbers.{u32_at, u64_at, digits}
 use Rattle.protocol.specs.Refusal.{outside_table, contradiction}
-use Rattle.protocol.specs.Verdict.{Rule, rule, judge, first_of, exact_length, Writing, writing}
+use Rattle.protocol.specs.Verdict.{Rule, rule, judge, first_of, exact_length, Writing, writing, Verdict}
 use Rattle.protocol.specs.DataClass.{sum_of_bits, one_class_or_none}
-use Rattle.protocol.specs.declared.Verdict.{Verdict}
-use Rattle.protocol.specs.declared.Verdict.TheVariants.{Fits, Fault}
 use Rattle.protocol.specs.declared.Version.{Version}
 use Rattle.protocol.specs.declared.Version.TheVariants.{V1, V2}
 use Rattle.packet_service.specs.declared.PacketForm.{PacketForm}
 use Rattle.packet_service.specs.declared.PacketForm.TheVariants.{V1 as Form1, V2 as Form2}
 use Rattle.packet_service.specs.declared.PacketService.{PacketService}
-use Rattle.packet_service.specs.declared.PacketServiceRead.{PacketServiceRead}
-use Rattle.packet_service.specs.declared.PacketServiceRead.TheVariants.{Info, Refused}
+use Rattle.protocol.specs.declared.Refusal.{Refusal}
+
+abbrev pub PacketServiceRead : Type 0
+PacketServiceRead = Result PacketService Refusal
 
 -- ---- fields and places
 
@@ -48,7 +48,7 @@ hspa = sum_of_bits (3 ∷ 4 ∷ [])
 abbrev pub packet_class : Version → ℕ → Bool
 packet_class v class = one_class_or_none v class || eqb class hspa
 
--- ---- rules: broken, number, place; the first broken one decides
+-- ---- rules: broken, reason, place; the first broken one decides
 
 -- the class is not 0 though the state is not 2
 abbrev pub unattached : ℕ → ℕ → Bool
@@ -80,8 +80,8 @@ verdict_of p = judge (rules p)
 -- ---- what a reader answers
 
 abbrev pub shown : Verdict → PacketService → PacketServiceRead
-shown Fits p = Info p
-shown (Fault r) p = Refused r
+shown (Ok _) p = Ok p
+shown (Err r) p = Err r
 
 unfoldable pub read_of : Version → List ℕ → PacketServiceRead
 read_of v s = shown (first_of (exact_length (length_of v) (length s)) (verdict_of (record_at v s))) (record_at v s)

@@ -14,11 +14,10 @@ use lib.ListN.{length, take, drop}
 use Rattle.wire.specs.Output.{fitted}
 use Rattle.wire.specs.Numbers.{num, u32_at}
 use Rattle.wire.proofs.Laws.{text_at, num_skip, num_digits}
-use Rattle.protocol.specs.Refusal.{refusal, offset_in_fixed_part, past_end, wrong_size, misaligned_offset, offset_with_zero_size}
-use Rattle.protocol.specs.Verdict.{Rule, rule, Kept, judge, judge_from, fault_if, first_of}
+use Rattle.protocol.specs.declared.Reason.{Reason}
+use Rattle.protocol.specs.Refusal.{number_of, refusal, offset_in_fixed_part, past_end, wrong_size, misaligned_offset, offset_with_zero_size}
+use Rattle.protocol.specs.Verdict.{Rule, rule, Kept, judge, judge_from, fault_if, first_of, no_fault, Verdict}
 use Rattle.protocol.specs.declared.Refusal.{Refusal}
-use Rattle.protocol.specs.declared.Verdict.{Verdict}
-use Rattle.protocol.specs.declared.Verdict.TheVariants.{Fits, Fault}
 use Rattle.protocol.proofs.Tests.{and_both, or_none, none_or, not_said, equal_kept, kept_equal}
 use Rattle.protocol.proofs.Verdicts.{fits_kept, kept_fits, Decides, decides_here, fault_decided}
 use Rattle.pairs.specs.declared.Range.{Range}
@@ -28,6 +27,7 @@ use Rattle.pairs.specs.declared.ZeroSize.{ZeroSize}
 use Rattle.pairs.specs.declared.ZeroSize.TheVariants.{Absent as ZeroAbsent, Strict}
 use Rattle.pairs.specs.Pair.{reached, range, range_at, range_bytes, part_of, if_strict, if_sized, odd_for, unfit, offset_without_size, inside_fixed_part, misaligned, rules, verdict_of, padded, placed, as_shown}
 use Rattle.pairs.specs.Claims.{Absent, NoOffset, AbsentBy, Inside, Even, SizeFits, PairFits, Safe, OffsetWithZeroSize, OffsetInFixedPart, MisalignedOffset, RefusedBy, in_one_number, RangeOfWidth, shown_in, FitsExactly, ZeroSizeExactly, FixedPartExactly, MisalignedExactly, OnlyNumbersMoved, StrictAsBefore, DefaultAsShown, StrictOfFitting, ShownSafe, StrictShown}
+use Rattle.std.specs.Prelude.{Ok, Err}
 
 -- ---- sizes
 
@@ -93,20 +93,20 @@ module _ (z : ZeroSize) (kind : PairKind) (fixed limit place n : ℕ) (p : Range
         within = ltb-false n (p.start + p.length) within;
       })
 
-  pub fits_said : verdict_of z kind fixed limit place n p ≡ Fits → PairFits z kind fixed limit n p
+  pub fits_said : verdict_of z kind fixed limit place n p ≡ no_fault → PairFits z kind fixed limit n p
   unfolding verdict_of rules
   fits_said e =
       let k = fits_kept (rules z kind fixed limit place n p) e in
       record { size = size_said kind limit p.length k.0; safe = safe_by k (eqb p.length 0) refl }
 
-  pub said_fits : PairFits z kind fixed limit n p → verdict_of z kind fixed limit place n p ≡ Fits
+  pub said_fits : PairFits z kind fixed limit n p → verdict_of z kind fixed limit place n p ≡ no_fault
   unfolding verdict_of rules
   said_fits f = go f.safe
     where
       fit : unfit kind limit p.length ≡ false
       fit = said_size kind limit p.length f.size
 
-      go : AbsentBy z p ⊎ Inside fixed n p → judge (rules z kind fixed limit place n p) ≡ Fits
+      go : AbsentBy z p ⊎ Inside fixed n p → judge (rules z kind fixed limit place n p) ≡ no_fault
       go (inl a) =
           let e : eqb p.length 0 ≡ true = eq-eqb p.length 0 a.empty in
           kept_fits (rules z kind fixed limit place n p) (fit, (rw e (offset_no z p.start a.nowhere), (rw e refl, (rw e refl, (rw e refl, tt)))))
@@ -135,9 +135,9 @@ said_stray p f = rw (eq-eqb p.length 0 f.empty, ne_eqb p.start 0 f.somewhere)
 -- ---- a pair is refused by 18, 6 and 17 exactly where its offset has that fault
 
 module _ (z : ZeroSize) (kind : PairKind) (fixed limit place n : ℕ) (p : Range) where
-  decided : (number : ℕ) → RefusedBy number z kind fixed limit place n p → Decides number (rules z kind fixed limit place n p)
+  decided : (reason : Reason) → RefusedBy reason z kind fixed limit place n p → Decides reason (rules z kind fixed limit place n p)
   unfolding verdict_of
-  decided number e = fault_decided (rules z kind fixed limit place n p) number place e
+  decided reason e = fault_decided (rules z kind fixed limit place n p) reason place e
 
   -- a rule that is broken only where there are bytes
   sized : (t : Bool) → if_sized p.length t ≡ true → (eqb p.length 0 ≡ false) × (t ≡ true)
@@ -149,7 +149,7 @@ module _ (z : ZeroSize) (kind : PairKind) (fixed limit place n : ℕ) (p : Range
   some_there e = let h : p.length ≡ 0 → ⊥ = eqb-false p.length 0 e in omega arith
 
   zero_size_said : RefusedBy offset_with_zero_size z kind fixed limit place n p → (z ≡ Strict) × OffsetWithZeroSize p
-  unfolding rules
+  unfolding rules number_of
   zero_size_said e =
       let k = decided offset_with_zero_size e in
       let s = strict_said z (offset_without_size p) (decides_here (if_strict z (offset_without_size p)) (λ m. m.1.1.1) k.1) in
@@ -160,7 +160,7 @@ module _ (z : ZeroSize) (kind : PairKind) (fixed limit place n : ℕ) (p : Range
   said_zero_size f = rw (f.0, said_size kind limit p.length (none_fits kind limit p.length f.1.empty), said_stray p f.1)
 
   fixed_part_said : RefusedBy offset_in_fixed_part z kind fixed limit place n p → OffsetInFixedPart kind fixed limit p
-  unfolding rules
+  unfolding rules number_of
   fixed_part_said e =
       let k = decided offset_in_fixed_part e in
       let b = sized (ltb p.start fixed) (decides_here (inside_fixed_part fixed p) (λ m. m.1.1) k.1.1) in
@@ -176,7 +176,7 @@ module _ (z : ZeroSize) (kind : PairKind) (fixed limit place n : ℕ) (p : Range
       rw (said_size kind limit p.length f.size, ne_eqb p.length 0 (λ z. omega (arith, f.some)), not_strict z, lt-ltb p.start fixed f.inside)
 
   misaligned_said : RefusedBy misaligned_offset z kind fixed limit place n p → MisalignedOffset kind fixed limit p
-  unfolding rules
+  unfolding rules number_of
   misaligned_said e =
       let k = decided misaligned_offset e in
       let b = sized (not (eqb (p.start % 4) 0)) (decides_here (misaligned p) (λ m. m.1) k.1.1.1) in
@@ -224,12 +224,12 @@ apart place over empty nowhere inside aligned past =
 abbrev together : ℕ → (over empty nowhere inside aligned past : Bool) → List Rule
 together place over empty nowhere inside aligned past =
     rule over wrong_size place
-    ∷ rule (cond empty (not nowhere) (inside || not aligned)) 6 place
+    ∷ rule (cond empty (not nowhere) (inside || not aligned)) offset_in_fixed_part place
     ∷ rule (not empty && past) past_end place
     ∷ []
 
 in_one : (place : ℕ) (u z w i a e : Bool) → in_one_number (judge (apart place u z w i a e)) ≡ judge (together place u z w i a e)
-unfolding judge_from fault_if first_of
+unfolding judge_from fault_if first_of number_of
 in_one place true z w i a e = refl
 in_one place false true true i a e = refl
 in_one place false true false i a e = refl
@@ -255,12 +255,12 @@ no_choice ZeroAbsent = tt
 no_choice Strict = refl
 
 -- an absent pair fits
-pub absent_fits : (z : ZeroSize) (kind : PairKind) (fixed limit place n : ℕ) → verdict_of z kind fixed limit place n (range 0 0) ≡ Fits
+pub absent_fits : (z : ZeroSize) (kind : PairKind) (fixed limit place n : ℕ) → verdict_of z kind fixed limit place n (range 0 0) ≡ no_fault
 absent_fits z kind fixed limit place n =
     said_fits z kind fixed limit place n (range 0 0) (record { size = none_fits kind limit 0 refl; safe = inl (record { nowhere = no_choice z; empty = refl }) })
 
 -- and by default so does every pair of size 0
-pub zero_fits : (kind : PairKind) (fixed limit place n : ℕ) (p : Range) → p.length ≡ 0 → verdict_of ZeroAbsent kind fixed limit place n p ≡ Fits
+pub zero_fits : (kind : PairKind) (fixed limit place n : ℕ) (p : Range) → p.length ≡ 0 → verdict_of ZeroAbsent kind fixed limit place n p ≡ no_fault
 zero_fits kind fixed limit place n p e =
     said_fits ZeroAbsent kind fixed limit place n p (record { size = none_fits kind limit p.length e; safe = inl (record { nowhere = tt; empty = e }) })
 
@@ -281,7 +281,7 @@ module _ (kind : PairKind) (fixed limit place n : ℕ) (p : Range) where
   unfolding verdict_of rules
   none_judged e = rw (e, not_strict Strict, not_strict ZeroAbsent)
 
-  of_fitting : verdict_of ZeroAbsent kind fixed limit place n p ≡ Fits → (b : Bool) → offset_without_size p ≡ b
+  of_fitting : verdict_of ZeroAbsent kind fixed limit place n p ≡ no_fault → (b : Bool) → offset_without_size p ≡ b
       → verdict_of Strict kind fixed limit place n p ≡ judge (rule b offset_with_zero_size place ∷ [])
   unfolding judge_from fault_if first_of
   of_fitting f true e = said_zero_size Strict kind fixed limit place n p (refl, stray_said p e)
@@ -339,7 +339,7 @@ placed_shown base size = by_size (eqb size 0)
 module _ (z : ZeroSize) (kind : PairKind) (fixed limit place n base : ℕ) where
   -- is accepted behind the fixed part
   pub placed_fits : (size : ℕ) → unfit kind limit size ≡ false → fixed ≤ base → base % 4 ≡ 0 → base + size ≤ n
-      → verdict_of z kind fixed limit place n (placed base size) ≡ Fits
+      → verdict_of z kind fixed limit place n (placed base size) ≡ no_fault
   placed_fits zero u f a e = absent_fits z kind fixed limit place n
   placed_fits (suc m) u f a e =
       let i : Inside fixed n (range base (suc m)) = record { some = omega arith; behind = f; aligned = a; within = e } in
@@ -348,7 +348,7 @@ module _ (z : ZeroSize) (kind : PairKind) (fixed limit place n base : ℕ) where
 
   -- and refused as one in the fixed part where that reaches further
   pub placed_inside : (size : ℕ) → unfit kind limit size ≡ false → (size ≡ 0 → ⊥) → base < fixed
-      → verdict_of z kind fixed limit place n (placed base size) ≡ Fault (refusal offset_in_fixed_part place)
+      → verdict_of z kind fixed limit place n (placed base size) ≡ Err (refusal offset_in_fixed_part place)
   placed_inside size u h l =
       let some : 0 < size = omega (arith, h) in
       rw (ne_eqb size 0 h) (said_fixed_part z kind fixed limit place n (range base size) (record { size = size_said kind limit size u; some = some; inside = l }))
@@ -368,17 +368,17 @@ placed_back before (b ∷ x) rest base e =
 -- ---- what a choice decides
 
 -- a choice that finds no fault leaves the verdict as another has it that finds none
-pub reached_same : (before pairs others behind : Verdict) → reached before pairs ≡ Fits → (pairs ≡ Fits → others ≡ Fits)
+pub reached_same : (before pairs others behind : Verdict) → reached before pairs ≡ no_fault → (pairs ≡ no_fault → others ≡ no_fault)
     → first_of before (first_of others behind) ≡ first_of before (first_of pairs behind)
 unfolding first_of
-reached_same Fits pairs others behind e h = rw (e, h e)
-reached_same (Fault r) pairs others behind e h = refl
+reached_same (Ok _) pairs others behind e h = rw (e, h e)
+reached_same (Err r) pairs others behind e h = refl
 
 -- the fault that it finds is the whole verdict
-pub reached_fault : (before pairs behind : Verdict) (r : Refusal) → reached before pairs ≡ Fault r → first_of before (first_of pairs behind) ≡ Fault r
+pub reached_fault : (before pairs behind : Verdict) (r : Refusal) → reached before pairs ≡ Err r → first_of before (first_of pairs behind) ≡ Err r
 unfolding first_of
-reached_fault Fits pairs behind r e = rw e
-reached_fault (Fault q) pairs behind r e = let z : ◌≡◌ {A = ℕ} 0 1 = cc in absurd (omega arith)
+reached_fault (Ok _) pairs behind r e = rw e
+reached_fault (Err q) pairs behind r e = let z : ◌≡◌ {A = ℕ} 0 1 = cc in absurd (omega arith)
 
 -- ---- the bytes of a range
 

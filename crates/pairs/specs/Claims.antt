@@ -1,11 +1,10 @@
 -- What is claimed of a pair, in words, under each choice of the reader. Accepted: absent, or behind the fixed part, at a multiple of 4,
 -- and inside the payload. Refused for its offset: which of the three faults of document 02, order 1, each number tells. Between the
 -- choices of order 10: an offset beside size 0, and nothing else.
-use Rattle.std.specs.Prelude.{ℕ, ◌+◌, ◌%◌, ◌≤◌, ◌<◌, ◌^◌, ◌≡◌, ◌⊎◌, ◌↔◌, not, cond, ◌||◌, List, [], ◌∷◌, ltb, eqb, take, drop}
-use Rattle.protocol.specs.Refusal.{refusal, offset_in_fixed_part, past_end, wrong_size, misaligned_offset, offset_with_zero_size}
-use Rattle.protocol.specs.Verdict.{Rule, rule, judge}
-use Rattle.protocol.specs.declared.Verdict.{Verdict}
-use Rattle.protocol.specs.declared.Verdict.TheVariants.{Fits, Fault}
+use Rattle.std.specs.Prelude.{ℕ, ◌+◌, ◌%◌, ◌≤◌, ◌<◌, ◌^◌, ◌≡◌, ◌⊎◌, ◌↔◌, not, cond, ◌||◌, List, [], ◌∷◌, ltb, eqb, take, drop, Ok, Err}
+use Rattle.protocol.specs.declared.Reason.{Reason}
+use Rattle.protocol.specs.Refusal.{refusal, number_of, offset_in_fixed_part, past_end, wrong_size, misaligned_offset, offset_with_zero_size}
+use Rattle.protocol.specs.Verdict.{Rule, rule, judge, no_fault, Verdict}
 use Rattle.pairs.specs.declared.Range.{Range}
 use Rattle.pairs.specs.declared.PairKind.{PairKind}
 use Rattle.pairs.specs.declared.PairKind.TheVariants.{Text, List as ListKind}
@@ -72,9 +71,9 @@ pub record MisalignedOffset (kind : PairKind) (fixed limit : ℕ) (p : Range) : 
   pub behind : fixed ≤ p.start
   pub misaligned : p.start % 4 ≡ 0 → ⊥
 
--- the pair that stands at `place` is refused by a number, there
-abbrev pub RefusedBy : ℕ → ZeroSize → PairKind → ℕ → ℕ → ℕ → ℕ → Range → Type 0
-RefusedBy number z kind fixed limit place n p = verdict_of z kind fixed limit place n p ≡ Fault (refusal number place)
+-- the pair that stands at `place` is refused for a reason, there
+abbrev pub RefusedBy : Reason → ZeroSize → PairKind → ℕ → ℕ → ℕ → ℕ → Range → Type 0
+RefusedBy reason z kind fixed limit place n p = verdict_of z kind fixed limit place n p ≡ Err (refusal reason place)
 
 -- ---- the rules before order 10: what the strict choice is
 
@@ -93,14 +92,21 @@ rules_before_choice kind fixed limit place n p =
 abbrev pub rules_before : PairKind → ℕ → ℕ → ℕ → ℕ → Range → List Rule
 rules_before kind fixed limit place n p =
     rule (unfit kind limit p.length) wrong_size place
-    ∷ rule (cond (eqb p.length 0) (not (eqb p.start 0)) (ltb p.start fixed || not (eqb (p.start % 4) 0))) 6 place
+    ∷ rule (cond (eqb p.length 0) (not (eqb p.start 0)) (ltb p.start fixed || not (eqb (p.start % 4) 0))) offset_in_fixed_part place
     ∷ rule (beyond_payload n p) past_end place
     ∷ []
 
 -- a verdict with 6 for each of the three
 abbrev pub in_one_number : Verdict → Verdict
-in_one_number Fits = Fits
-in_one_number (Fault r) = Fault (refusal (cond (eqb r.number misaligned_offset || eqb r.number offset_with_zero_size) 6 r.number) r.place)
+in_one_number (Ok _) = no_fault
+in_one_number (Err r) =
+    Err
+    (refusal
+    (cond
+    (eqb (number_of r.reason) (number_of misaligned_offset) || eqb (number_of r.reason) (number_of offset_with_zero_size))
+    offset_in_fixed_part
+    r.reason)
+    r.place)
 
 -- ---- numbers and bytes
 
@@ -117,7 +123,7 @@ shown_in s p = take p.length (drop p.start s)
 
 abbrev pub FitsExactly : Type 0
 FitsExactly =
-    (z : ZeroSize) (kind : PairKind) (fixed limit place n : ℕ) (p : Range) → (verdict_of z kind fixed limit place n p ≡ Fits) ↔ PairFits z kind fixed limit n p
+    (z : ZeroSize) (kind : PairKind) (fixed limit place n : ℕ) (p : Range) → (verdict_of z kind fixed limit place n p ≡ no_fault) ↔ PairFits z kind fixed limit n p
 
 -- by 18: under the strict choice only
 abbrev pub ZeroSizeExactly : Type 0
@@ -157,7 +163,7 @@ DefaultAsShown =
 -- between the choices: a pair that fits by default is refused by 18 where it has an offset beside size 0, and else fits under both
 abbrev pub StrictOfFitting : Type 0
 StrictOfFitting =
-    (kind : PairKind) (fixed limit place n : ℕ) (p : Range) → verdict_of ZeroAbsent kind fixed limit place n p ≡ Fits
+    (kind : PairKind) (fixed limit place n : ℕ) (p : Range) → verdict_of ZeroAbsent kind fixed limit place n p ≡ no_fault
     → verdict_of Strict kind fixed limit place n p ≡ judge (rule (offset_without_size p) offset_with_zero_size place ∷ [])
 
 -- what is shown of an accepted pair may be shown, under either choice

@@ -2,12 +2,10 @@
 -- 01: "each pair judged 8 (limit, odd), 6, 7"; 02, where 6 stood: "zero size first, then fixed part, then alignment".
 -- The reader's choice, the fixed part, the limit and the kind are parameters.
 -- In this order: the choice; a pair and its place; the rules; where a writer puts a pair; how a reader shows one.
-use Rattle.std.specs.Prelude.{ℕ, ◌+◌, ◌*◌, ◌/◌, ◌%◌, Bool, false, not, cond, ◌&&◌, ◌||◌, List, [], ◌∷◌, ◌++◌, ltb, eqb, length, take, drop}
+use Rattle.std.specs.Prelude.{ℕ, ◌+◌, ◌*◌, ◌/◌, ◌%◌, Bool, false, not, cond, ◌&&◌, ◌||◌, List, [], ◌∷◌, ◌++◌, ltb, eqb, length, take, drop, Ok, Err}
 use Rattle.wire.specs.Numbers.{u32_at, digits}
 use Rattle.protocol.specs.Refusal.{offset_in_fixed_part, past_end, wrong_size, misaligned_offset, offset_with_zero_size}
-use Rattle.protocol.specs.Verdict.{Rule, rule, judge}
-use Rattle.protocol.specs.declared.Verdict.{Verdict}
-use Rattle.protocol.specs.declared.Verdict.TheVariants.{Fits, Fault}
+use Rattle.protocol.specs.Verdict.{Rule, rule, judge, no_fault, Verdict}
 use Rattle.pairs.specs.declared.Range.{Range}
 use Rattle.pairs.specs.declared.PairKind.{PairKind}
 use Rattle.pairs.specs.declared.PairKind.TheVariants.{Text, List as ListKind}
@@ -27,8 +25,8 @@ if_strict Strict broken = broken
 
 -- the fault of what a choice decides, where nothing judged before it is at fault
 abbrev pub reached : Verdict → Verdict → Verdict
-reached Fits w = w
-reached (Fault r) w = Fits
+reached (Ok _) w = w
+reached (Err r) w = no_fault
 
 -- ---- a pair and its place: the offset, and behind it the size
 
@@ -42,7 +40,7 @@ range_at s place = range (u32_at s place) (u32_at s (place + 4))
 unfoldable pub part_of : List ℕ → Range → List ℕ
 part_of s p = cond (ltb (length s) (p.start + p.length)) [] (take p.length (drop p.start s))
 
--- ---- rules: broken, number, place; the first broken one decides
+-- ---- rules: broken, reason, place; the first broken one decides
 
 -- a rule on the bytes of a pair is broken only where there are bytes
 abbrev pub if_sized : ℕ → Bool → Bool

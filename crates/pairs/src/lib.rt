@@ -6,10 +6,7 @@ ghost use Rattle.std.specs.Prelude.{◌≡◌};
 ghost use Rattle.std.proofs.lemmas.List.Edits.{sets};
 ghost use Rattle.pairs.specs.Pair.{if_strict, range_at, part_of, unfit, verdict_of, padded, placed, shown_at, range_bytes};
 
-use protocol::{
-    MISALIGNED_OFFSET, OFFSET_IN_FIXED_PART, OFFSET_WITH_ZERO_SIZE, PAST_END, Refusal, Verdict,
-    WRONG_SIZE, also,
-};
+use protocol::{Reason, Verdict, refuse_if};
 use wire::{put_u32, u32_at};
 
 // 01's pair. An accepted one shows `length` bytes of the payload from `start`; absent is (0, 0).
@@ -96,6 +93,7 @@ pub fn put_range(out: &mut [u8], place: usize, pair: Range)
 }
 
 // The verdict on the pair that stands at `place` of a payload of `length` bytes.
+#[tactic(auto, using(crate::proofs::Laws::not_strict), unfolding(crate::specs::Pair::verdict_of, crate::specs::Pair::rules, protocol::specs::Verdict::judge_from, protocol::specs::Verdict::first_of, protocol::specs::Verdict::fault_if))]
 pub fn judge(
     zero_size: ZeroSize,
     kind: PairKind,
@@ -109,24 +107,18 @@ pub fn judge(
 {
     let size = pair.length;
     let end = pair.start as usize + size as usize;
-    if is_unfit(kind, limit, size as usize) {
-        return Verdict::Fault(Refusal {
-            number: WRONG_SIZE,
-            place,
-        });
-    }
+    refuse_if(
+        is_unfit(kind, limit, size as usize),
+        Reason::WrongSize,
+        place,
+    )?;
     if size == 0 {
         let stray = if_strict(zero_size, pair.start != 0);
-        return also(Verdict::Fits, stray, OFFSET_WITH_ZERO_SIZE, place);
+        return refuse_if(stray, Reason::OffsetWithZeroSize, place);
     }
-    let outside = also(
-        Verdict::Fits,
-        pair.start < fixed,
-        OFFSET_IN_FIXED_PART,
-        place,
-    );
-    let aligned = also(outside, pair.start % 4 != 0, MISALIGNED_OFFSET, place);
-    also(aligned, length < end, PAST_END, place)
+    refuse_if(pair.start < fixed, Reason::OffsetInFixedPart, place)?;
+    refuse_if(pair.start % 4 != 0, Reason::MisalignedOffset, place)?;
+    refuse_if(length < end, Reason::PastEnd, place)
 }
 
 // A rule that is there under the strict choice only.

@@ -15,35 +15,31 @@ use Rattle.packet_service.specs.PacketService.{read_of as packet_read}
 use Rattle.packet_service.specs.declared.PacketForm.{PacketForm}
 use Rattle.packet_service.specs.declared.PacketForm.TheVariants.{V1 as PacketForm1, V2 as PacketForm2}
 use Rattle.packet_service.specs.declared.PacketService.{PacketService}
-use Rattle.packet_service.specs.declared.PacketServiceRead.{PacketServiceRead}
-use Rattle.packet_service.specs.declared.PacketServiceRead.TheVariants.{Info as PacketInfo, Refused as PacketRefused}
 use Rattle.version_info.specs.VersionInfo.{read_of as version_read}
-use Rattle.version_info.specs.declared.VersionInfoRead.{VersionInfoRead}
-use Rattle.version_info.specs.declared.VersionInfoRead.TheVariants.{Info as VersionGiven, Refused as VersionRefused}
 use Rattle.pairs.specs.declared.ZeroSize.{ZeroSize}
 use Rattle.registration.specs.Registration.{read_with as registration_read}
 use Rattle.registration.specs.declared.Registration.{Registration}
 use Rattle.registration.specs.declared.RegistrationForm.{RegistrationForm}
 use Rattle.registration.specs.declared.RegistrationForm.TheVariants.{V1 as RegistrationForm1, V2 as RegistrationForm2}
 use Rattle.registration.specs.declared.RegistrationTexts.{RegistrationTexts}
-use Rattle.registration.specs.declared.RegistrationRead.{RegistrationRead}
-use Rattle.registration.specs.declared.RegistrationRead.TheVariants.{Info as RegistrationInfo, Refused as RegistrationRefused}
 use Rattle.payload_rows.specs.Packets.{speed_rows, form_rows, packet_text}
 use Rattle.payload_rows.specs.Versions.{version_text}
 use Rattle.pin.specs.PinInfo.{read_of as pin_info_read}
-use Rattle.pin.specs.declared.pin_info.PinInfoRead.{PinInfoRead}
-use Rattle.pin.specs.declared.pin_info.PinInfoRead.TheVariants.{Info as PinInfoGiven, Refused as PinInfoRefused}
 use Rattle.pin.specs.SetPin.{read_with as set_pin_read}
 use Rattle.pin.specs.declared.set_pin.SetPin.{SetPin}
 use Rattle.pin.specs.declared.set_pin.SetPinTexts.{SetPinTexts}
-use Rattle.pin.specs.declared.set_pin.SetPinRead.{SetPinRead}
-use Rattle.pin.specs.declared.set_pin.SetPinRead.TheVariants.{Info as SetPinInfo, Refused as SetPinRefused}
 use Rattle.payload_rows.specs.Ranges.{Listable}
 use Rattle.payload_rows.specs.Registrations.{ListableTexts, class_rows, text_rows, preferred_rows, flag_rows, registration_text}
 use Rattle.payload_rows.specs.SetPins as set_pin
 use Rattle.payload_rows.specs.PinInfos.{pin_info_text}
 use Rattle.payload_rows.proofs.Registrations.{listable_texts}
 use Rattle.payload_rows.proofs.SetPins as laws
+use Rattle.std.specs.Prelude.{Ok, Err}
+use Rattle.packet_service.specs.PacketService.{PacketServiceRead}
+use Rattle.pin.specs.PinInfo.{PinInfoRead}
+use Rattle.registration.specs.Registration.{RegistrationRead}
+use Rattle.pin.specs.SetPin.{SetPinRead}
+use Rattle.version_info.specs.VersionInfo.{VersionInfoRead}
 
 -- ---- packet service, VERSION and PIN_INFO
 
@@ -56,8 +52,8 @@ form_le p (PacketForm2 c r) =
 
 packet_text_le : (r : PacketServiceRead) → length (packet_text r) ≤ 1000
 unfolding packet_text header
-packet_text_le (PacketRefused r) = omega (arith, refused_le r)
-packet_text_le (PacketInfo p) =
+packet_text_le (Err r) = omega (arith, refused_le r)
+packet_text_le (Ok p) =
     simp length-append (omega (arith, row_le (ascii "NwError") p.nw_error (omega arith), row_le (ascii "PacketServiceState") p.packet_service_state (omega arith), form_le p p.form))
 
 pub packet_le : (v : Version) (s : List ℕ) → length (packet_text (packet_read v s)) ≤ 1000
@@ -65,8 +61,8 @@ packet_le v s = packet_text_le (packet_read v s)
 
 version_text_le : (r : VersionInfoRead) → length (version_text r) ≤ 1000
 unfolding version_text header
-version_text_le (VersionRefused r) = omega (arith, refused_le r)
-version_text_le (VersionGiven i) =
+version_text_le (Err r) = omega (arith, refused_le r)
+version_text_le (Ok i) =
     simp length-append (omega (arith, row_le (ascii "bcdMBIMVersion") i.bcd_mbim_version (omega arith), row_le (ascii "bcdMBIMExtendedVersion") i.bcd_mbim_extended_version (omega arith)))
 
 pub version_le : (s : List ℕ) → length (version_text (version_read s)) ≤ 1000
@@ -74,8 +70,8 @@ version_le s = version_text_le (version_read s)
 
 pin_info_text_le : (r : PinInfoRead) → length (pin_info_text r) ≤ 1000
 unfolding pin_info_text header
-pin_info_text_le (PinInfoRefused r) = omega (arith, refused_le r)
-pin_info_text_le (PinInfoGiven i) =
+pin_info_text_le (Err r) = omega (arith, refused_le r)
+pin_info_text_le (Ok i) =
     simp length-append (omega (arith, row_le (ascii "PinType") i.pin_type (omega arith), row_le (ascii "PinState") i.pin_state (omega arith), row_le (ascii "RemainingAttempts") i.remaining_attempts (omega arith)))
 
 pub pin_info_le : (s : List ℕ) → length (pin_info_text (pin_info_read s)) ≤ 1000
@@ -112,8 +108,8 @@ unfolding registration_text header
 registration_le v z s = go (registration_read v z s) refl
   where
     go : (r : RegistrationRead) → registration_read v z s ≡ r → length (registration_text s r) ≤ 4000
-    go (RegistrationRefused r) e = omega (arith, refused_le r)
-    go (RegistrationInfo p t) e = simp length-append (omega (arith, classes_le p, texts_le s t (listable_texts v z s p t e), flags_le p))
+    go (Err r) e = omega (arith, refused_le r)
+    go (Ok (p, t)) e = simp length-append (omega (arith, classes_le p, texts_le s t (listable_texts v z s p t e), flags_le p))
 
 -- ---- SET_PIN
 
@@ -130,5 +126,5 @@ unfolding set_pin.set_pin_text header
 set_pin_le z s = go (set_pin_read z s) refl
   where
     go : (r : SetPinRead) → set_pin_read z s ≡ r → length (set_pin.set_pin_text s r) ≤ 1000
-    go (SetPinRefused r) e = omega (arith, refused_le r)
-    go (SetPinInfo p t) e = simp length-append (omega (arith, pin_numbers_le p, pin_texts_le s t (laws.listable_texts z s p t e)))
+    go (Err r) e = omega (arith, refused_le r)
+    go (Ok (p, t)) e = simp length-append (omega (arith, pin_numbers_le p, pin_texts_le s t (laws.listable_texts z s p t e)))

@@ -10,12 +10,12 @@ use Rattle.pairs.specs.declared.ZeroSize.{ZeroSize}
 use Rattle.registration.specs.Registration.{read_with, pairs_at, texts_at, fixed_part}
 use Rattle.registration.specs.declared.Registration.{Registration}
 use Rattle.registration.specs.declared.RegistrationTexts.{RegistrationTexts}
-use Rattle.registration.specs.declared.RegistrationRead.TheVariants.{Info}
 use Rattle.registration.proofs.Acceptance.{accepted}
 use Rattle.payload_rows.specs.Registrations.{ListableTexts}
 use Rattle.payload_rows.proofs.Ranges.{listable}
+use Rattle.std.specs.Prelude.{Ok}
 
-pub listable_texts : (v : Version) (z : ZeroSize) (s : List ℕ) (p : Registration) (t : RegistrationTexts) → read_with v z s ≡ Info p t → ListableTexts t s
+pub listable_texts : (v : Version) (z : ZeroSize) (s : List ℕ) (p : Registration) (t : RegistrationTexts) → read_with v z s ≡ Ok (p, t) → ListableTexts t s
 unfolding texts_at pairs_at
 listable_texts v z s p t e =
     let k = accepted v z s p t e in

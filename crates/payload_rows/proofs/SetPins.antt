@@ -9,12 +9,12 @@ use Rattle.pairs.specs.declared.ZeroSize.{ZeroSize}
 use Rattle.pin.specs.SetPin.{read_with, pairs_at, texts_at, fixed_part}
 use Rattle.pin.specs.declared.set_pin.SetPin.{SetPin}
 use Rattle.pin.specs.declared.set_pin.SetPinTexts.{SetPinTexts}
-use Rattle.pin.specs.declared.set_pin.SetPinRead.TheVariants.{Info}
 use Rattle.pin.proofs.SetPinLaws.{accepted}
 use Rattle.payload_rows.specs.SetPins.{ListableTexts}
 use Rattle.payload_rows.proofs.Ranges.{listable}
+use Rattle.std.specs.Prelude.{Ok}
 
-pub listable_texts : (z : ZeroSize) (s : List ℕ) (p : SetPin) (t : SetPinTexts) → read_with z s ≡ Info p t → ListableTexts t s
+pub listable_texts : (z : ZeroSize) (s : List ℕ) (p : SetPin) (t : SetPinTexts) → read_with z s ≡ Ok (p, t) → ListableTexts t s
 unfolding texts_at pairs_at
 listable_texts z s p t e =
     let k = accepted z s p t e in

@@ -4,9 +4,9 @@ use Rattle.ascii.specs.Ascii.{ascii}
 use Rattle.packet_service.specs.declared.PacketForm.{PacketForm}
 use Rattle.packet_service.specs.declared.PacketForm.TheVariants.{V1 as Form1, V2 as Form2}
 use Rattle.packet_service.specs.declared.PacketService.{PacketService}
-use Rattle.packet_service.specs.declared.PacketServiceRead.{PacketServiceRead}
-use Rattle.packet_service.specs.declared.PacketServiceRead.TheVariants.{Info, Refused}
 use Rattle.rows.specs.Rows.{header, row, refused_line}
+use Rattle.std.specs.Prelude.{Ok, Err}
+use Rattle.packet_service.specs.PacketService.{PacketServiceRead}
 
 unfoldable pub speed_rows : PacketService → List ℕ
 speed_rows p = row (ascii "UplinkSpeed") p.uplink_speed ++ row (ascii "DownlinkSpeed") p.downlink_speed
@@ -20,6 +20,6 @@ abbrev pub packet_rows : PacketService → List ℕ
 packet_rows p = form_rows p p.form
 
 unfoldable pub packet_text : PacketServiceRead → List ℕ
-packet_text (Refused r) = refused_line r
-packet_text (Info p) =
+packet_text (Err r) = refused_line r
+packet_text (Ok p) =
     header ++ (row (ascii "NwError") p.nw_error ++ (row (ascii "PacketServiceState") p.packet_service_state ++ packet_rows p))

@@ -6,10 +6,10 @@ use Rattle.registration.specs.declared.RegistrationForm.{RegistrationForm}
 use Rattle.registration.specs.declared.RegistrationForm.TheVariants.{V1 as Form1, V2 as Form2}
 use Rattle.registration.specs.declared.Registration.{Registration}
 use Rattle.registration.specs.declared.RegistrationTexts.{RegistrationTexts}
-use Rattle.registration.specs.declared.RegistrationRead.{RegistrationRead}
-use Rattle.registration.specs.declared.RegistrationRead.TheVariants.{Info, Refused}
 use Rattle.rows.specs.Rows.{header, row, text_row, refused_line}
 use Rattle.payload_rows.specs.Ranges.{Listable}
+use Rattle.std.specs.Prelude.{Ok, Err}
+use Rattle.registration.specs.Registration.{RegistrationRead}
 
 unfoldable pub class_rows : Registration → List ℕ
 class_rows p =
@@ -33,8 +33,8 @@ unfoldable pub flag_rows : Registration → List ℕ
 flag_rows p = row (ascii "RegistrationFlag") p.registration_flag ++ preferred_rows p.form
 
 unfoldable pub registration_text : List ℕ → RegistrationRead → List ℕ
-registration_text s (Refused r) = refused_line r
-registration_text s (Info p t) = header ++ (class_rows p ++ (text_rows s t ++ flag_rows p))
+registration_text s (Err r) = refused_line r
+registration_text s (Ok (p, t)) = header ++ (class_rows p ++ (text_rows s t ++ flag_rows p))
 
 -- those of an accepted payload keep to it (proofs/Registrations)
 pub record ListableTexts (t : RegistrationTexts) (s : List ℕ) : Type 0 where

@@ -3,16 +3,17 @@ ghost use Rattle.packet_service.specs.PacketService.{read_of};
 ghost use Rattle.rows.specs.Rows.{Put};
 ghost use Rattle.payload_rows.specs.Packets.{speed_rows, packet_rows, packet_text};
 
-use packet_service::{PacketForm, PacketService, PacketServiceRead};
+use packet_service::{PacketForm, PacketService};
 use protocol::Version;
 use rows::{put_refused, put_row, put_text};
 
+#[tactic(auto, unfolding(crate::specs::Packets::packet_text))]
 pub fn put(version: Version, payload: &[u8], out: &mut [u8], at: usize) -> usize
     ensures { Put out.old at (packet_text (read_of version payload.now)) out.new result }
 {
     match packet_service::read(version, payload) {
-        PacketServiceRead::Refused(refusal) => put_refused(out, at, refusal),
-        PacketServiceRead::Info(info) => {
+        Err(refusal) => put_refused(out, at, refusal),
+        Ok(info) => {
             let error = put_text(out, at, b"field\tvalue\n");
             let state = put_row(out, error, b"NwError", info.nw_error as u64);
             let class = put_row(
@@ -30,8 +31,7 @@ pub fn put(version: Version, payload: &[u8], out: &mut [u8], at: usize) -> usize
 fn put_rows(info: PacketService, out: &mut [u8], at: usize) -> usize
     ensures { Put out.old at (packet_rows info) out.new result }
 {
-    let form = info.form;
-    match form {
+    match info.form {
         PacketForm::V1 {
             highest_available_data_class,
         } => {

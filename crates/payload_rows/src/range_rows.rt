@@ -6,6 +6,7 @@ ghost use Rattle.payload_rows.specs.Ranges.{Listable};
 use pairs::{Range, part_of};
 use rows::put_text_row;
 
+#[tactic(auto, using(pairs::proofs::Laws::part_shown))]
 pub fn put_range_row(out: &mut [u8], at: usize, name: &[u8], payload: &[u8], range: Range) -> usize
     requires { Listable range payload.now }
     ensures { Put out.old at (text_row name.now (shown_in payload.now range)) out.new result }

@@ -7,15 +7,16 @@ ghost use Rattle.payload_rows.specs.Registrations.{ListableTexts, class_rows, te
 use crate::range_rows::put_range_row;
 use pairs::ZeroSize;
 use protocol::Version;
-use registration::{Registration, RegistrationForm, RegistrationRead, RegistrationTexts};
+use registration::{Registration, RegistrationForm, RegistrationTexts};
 use rows::{put_refused, put_row, put_text};
 
+#[tactic(auto, using(crate::proofs::Registrations::listable_texts), unfolding(crate::specs::Registrations::registration_text))]
 pub fn put(version: Version, payload: &[u8], out: &mut [u8], at: usize) -> usize
     ensures { Put out.old at (registration_text payload.now (read_with version Strict payload.now)) out.new result }
 {
     match registration::read_with(version, ZeroSize::Strict, payload) {
-        RegistrationRead::Refused(refusal) => put_refused(out, at, refusal),
-        RegistrationRead::Info(info, texts) => {
+        Err(refusal) => put_refused(out, at, refusal),
+        Ok((info, texts)) => {
             let error = put_text(out, at, b"field\tvalue\n");
             let id = put_classes(info, out, error);
             let flag = put_texts(texts, payload, out, id);
@@ -44,21 +45,17 @@ fn put_texts(texts: RegistrationTexts, payload: &[u8], out: &mut [u8], at: usize
     requires { ListableTexts texts payload.now }
     ensures { Put out.old at (text_rows payload.now texts) out.new result }
 {
-    let id = texts.provider_id;
-    let name = texts.provider_name;
-    let roaming = texts.roaming_text;
-    let second = put_range_row(out, at, b"ProviderId", payload, id);
-    let third = put_range_row(out, second, b"ProviderName", payload, name);
-    put_range_row(out, third, b"RoamingText", payload, roaming)
+    let second = put_range_row(out, at, b"ProviderId", payload, texts.provider_id);
+    let third = put_range_row(out, second, b"ProviderName", payload, texts.provider_name);
+    put_range_row(out, third, b"RoamingText", payload, texts.roaming_text)
 }
 
 // The rows from the flag on.
 fn put_flags(info: Registration, out: &mut [u8], at: usize) -> usize
     ensures { Put out.old at (flag_rows info) out.new result }
 {
-    let form = info.form;
     let next = put_row(out, at, b"RegistrationFlag", info.registration_flag as u64);
-    match form {
+    match info.form {
         RegistrationForm::V1 => next,
         RegistrationForm::V2 {
             preferred_data_class,

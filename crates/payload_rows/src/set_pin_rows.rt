@@ -7,15 +7,16 @@ ghost use Rattle.payload_rows.specs.SetPins.{ListableTexts, number_rows, text_ro
 use crate::range_rows::put_range_row;
 use pairs::ZeroSize;
 use pin::set_pin;
-use pin::set_pin::{SetPin, SetPinRead, SetPinTexts};
+use pin::set_pin::{SetPin, SetPinTexts};
 use rows::{put_refused, put_row, put_text};
 
+#[tactic(auto, using(crate::proofs::SetPins::listable_texts), unfolding(crate::specs::SetPins::set_pin_text))]
 pub fn put(payload: &[u8], out: &mut [u8], at: usize) -> usize
     ensures { Put out.old at (set_pin_text payload.now (read_with Strict payload.now)) out.new result }
 {
     match set_pin::read_with(ZeroSize::Strict, payload) {
-        SetPinRead::Refused(refusal) => put_refused(out, at, refusal),
-        SetPinRead::Info(info, texts) => {
+        Err(refusal) => put_refused(out, at, refusal),
+        Ok((info, texts)) => {
             let numbers = put_text(out, at, b"field\tvalue\n");
             let pin = put_numbers(info, out, numbers);
             put_texts(texts, payload, out, pin)
@@ -34,8 +35,6 @@ fn put_texts(texts: SetPinTexts, payload: &[u8], out: &mut [u8], at: usize) -> u
     requires { ListableTexts texts payload.now }
     ensures { Put out.old at (text_rows payload.now texts) out.new result }
 {
-    let pin = texts.pin;
-    let new_pin = texts.new_pin;
-    let second = put_range_row(out, at, b"Pin", payload, pin);
-    put_range_row(out, second, b"NewPin", payload, new_pin)
+    let second = put_range_row(out, at, b"Pin", payload, texts.pin);
+    put_range_row(out, second, b"NewPin", payload, texts.new_pin)
 }

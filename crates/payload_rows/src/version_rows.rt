@@ -4,14 +4,15 @@ ghost use Rattle.rows.specs.Rows.{Put};
 ghost use Rattle.payload_rows.specs.Versions.{version_text};
 
 use rows::{put_refused, put_row, put_text};
-use version_info::VersionInfoRead;
+use version_info::VersionInfo;
 
+#[tactic(auto, unfolding(crate::specs::Versions::version_text))]
 pub fn put(payload: &[u8], out: &mut [u8], at: usize) -> usize
     ensures { Put out.old at (version_text (read_of payload.now)) out.new result }
 {
     match version_info::read(payload) {
-        VersionInfoRead::Refused(refusal) => put_refused(out, at, refusal),
-        VersionInfoRead::Info(info) => {
+        Err(refusal) => put_refused(out, at, refusal),
+        Ok(info) => {
             let mbim = put_text(out, at, b"field\tvalue\n");
             let extended = put_row(out, mbim, b"bcdMBIMVersion", info.bcd_mbim_version as u64);
             put_row(

@@ -8,7 +8,7 @@ use culvertroost::pins::{
 };
 use pin::pin_info::PinInfo;
 use pin::set_pin::SetPin;
-use sample_lines::answers::{Asked, few, least, plain, short, word_at};
+use sample_lines::answers::{Asked, few, plain, short, word_at};
 
 pub fn pin_read(question: u8, arguments: &[u8], input: &[u8]) -> Asked {
     match question {
@@ -59,7 +59,7 @@ fn pin_info(answer: PinInfoAnswer) -> Asked {
 // The two texts stand in the input one after another.
 pub fn set_pin_write(arguments: &[u8], input: &[u8], out: &mut [u8]) -> WrittenAnswer {
     let n = input.len();
-    let new_pin = least(word_at(arguments, 4) as usize, n);
+    let new_pin = end_of(0, word_at(arguments, 4) as usize, n);
     let end = end_of(new_pin, word_at(arguments, 5) as usize, n);
     let info = SetPin {
         pin_type: word_at(arguments, 2),

@@ -23,10 +23,7 @@ fn shown(answer: ReadingInfo) -> Asked {
 
 // A reading that has a value shows it.
 fn value_of(kind: u32, value: f32) -> u32 {
-    if kind < DBM {
-        return 0;
-    }
-    if BELOW_RANGE < kind {
+    if kind < DBM || BELOW_RANGE < kind {
         return 0;
     }
     doubled(value)
@@ -36,15 +33,13 @@ fn value_of(kind: u32, value: f32) -> u32 {
 fn doubled(value: f32) -> u32 {
     let sought = value * 2.0 + 1000.0;
     let mut number: f32 = 0.0;
-    let mut i: u32 = 0;
-    while i < 2000 {
+    for i in 0..2000 {
         if number == sought {
             return i;
         }
-        number = number + 1.0;
-        i += 1;
+        number += 1.0;
     }
-    i
+    2000
 }
 
 fn bars(code: u32) -> Asked {

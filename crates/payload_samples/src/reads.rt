@@ -118,15 +118,13 @@ fn signal(answer: SignalStateAnswer, list: &mut [u32; 1024]) -> Asked {
 
 // All 16 entries, 5 numbers each.
 fn put_entries(list: &mut [u32; 1024], entries: [RsrpSnr; 16]) {
-    let mut i: usize = 0;
-    while i < 16 {
+    for i in 0..16 {
         let entry = entries[i];
         list[5 * i] = entry.rsrp;
         list[5 * i + 1] = entry.snr;
         list[5 * i + 2] = entry.rsrp_threshold;
         list[5 * i + 3] = entry.snr_threshold;
         list[5 * i + 4] = entry.system_type;
-        i += 1;
     }
 }
 

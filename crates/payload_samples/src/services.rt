@@ -113,12 +113,9 @@ fn elements_of(arguments: &[u8], input: &[u8]) -> [ServiceElement; 32] {
     let first = element_at(arguments, 4, input, 0);
     let mut elements = [first; 32];
     let mut place = after_element(arguments, 4);
-    let mut i: usize = 1;
-    while i < 32 {
-        let element = element_at(arguments, place, input, 16 * i);
-        elements[i] = element;
+    for i in 1..32 {
+        elements[i] = element_at(arguments, place, input, 16 * i);
         place = after_element(arguments, place);
-        i += 1;
     }
     elements
 }
@@ -142,10 +139,8 @@ fn cids_at(arguments: &[u8], place: u32) -> [u32; 128]
     requires { place ≤ 131071 }
 {
     let mut cids = [0u32; 128];
-    let mut i: u32 = 0;
-    while i < 128 {
+    for i in 0..128 {
         cids[i as usize] = word_at(arguments, place + i);
-        i += 1;
     }
     cids
 }
@@ -155,21 +150,6 @@ fn after_element(arguments: &[u8], place: u32) -> u32
     requires { place ≤ 65535 }
     ensures { result ≤ 65535 }
 {
-    let count = word_at(arguments, place + 2);
-    if 128 < count {
-        return next_place(place, 128);
-    }
-    next_place(place, count)
-}
-
-fn next_place(place: u32, count: u32) -> u32
-    requires place_bound { place ≤ 65535 }
-    requires count_bound { count ≤ 128 }
-    ensures { result ≤ 65535 }
-{
-    let next = place + 3 + count;
-    if 65535 < next {
-        return 65535;
-    }
-    next
+    let count = word_at(arguments, place + 2).min(128);
+    (place + 3 + count).min(65535)
 }

@@ -11,7 +11,7 @@ use culvertroost::packets::cvr_packet_service_write;
 use culvertroost::registrations::cvr_registration_write;
 use culvertroost::signals::cvr_signal_state_write;
 use culvertroost::versions::cvr_version_info_write;
-use sample_lines::answers::{Asked, few, half_at, least, short, word_at, written};
+use sample_lines::answers::{Asked, few, half_at, short, word_at, written};
 use signal_state::RsrpSnr;
 use version_info::VersionInfo;
 use wire::u64_at;
@@ -62,7 +62,7 @@ fn packet_write(arguments: &[u8], out: &mut [u8]) -> WrittenAnswer {
 // The three texts stand in the input one after another.
 fn registration_write(arguments: &[u8], input: &[u8], out: &mut [u8]) -> WrittenAnswer {
     let n = input.len();
-    let name = least(word_at(arguments, 10) as usize, n);
+    let name = end_of(0, word_at(arguments, 10) as usize, n);
     let roaming = end_of(name, word_at(arguments, 11) as usize, n);
     let end = end_of(roaming, word_at(arguments, 12) as usize, n);
     let info = registration_info(arguments);
@@ -93,10 +93,7 @@ pub fn end_of(start: usize, size: usize, n: usize) -> usize
     requires { start ≤ n }
     ensures { (start ≤ result) × (result ≤ n) }
 {
-    if size < n - start {
-        return start + size;
-    }
-    n
+    start + size.min(n - start)
 }
 
 fn signal_write(arguments: &[u8], out: &mut [u8]) -> WrittenAnswer {
@@ -117,11 +114,8 @@ fn signal_write(arguments: &[u8], out: &mut [u8]) -> WrittenAnswer {
 fn entries_of(arguments: &[u8]) -> [RsrpSnr; 16] {
     let first = entry_at(arguments, 0);
     let mut entries = [first; 16];
-    let mut i: u32 = 1;
-    while i < 16 {
-        let entry = entry_at(arguments, i);
-        entries[i as usize] = entry;
-        i += 1;
+    for i in 1..16 {
+        entries[i as usize] = entry_at(arguments, i);
     }
     entries
 }

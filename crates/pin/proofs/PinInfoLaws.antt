@@ -4,19 +4,16 @@
 use mathlib.Core.Path.{◌≡◌, refl, sym}
 use mathlib.Core.List.{List, []}
 use Prim.Native.Nat.{ℕ}
-use native.Mathlib.Omega.{arith}
 use borrow.Author.Tests.{ltb-false, le-ltb}
 use lib.ListN.{length}
 use Rattle.wire.specs.Numbers.{u32_at}
 use Rattle.wire.proofs.Laws.{num_digits}
-use Rattle.protocol.specs.Verdict.{Kept, judge, first_of, exact_length}
-use Rattle.protocol.specs.declared.Verdict.{Verdict}
-use Rattle.protocol.specs.declared.Verdict.TheVariants.{Fits, Fault}
+use Rattle.protocol.specs.Verdict.{Kept, judge, first_of, exact_length, no_fault, Verdict}
 use Rattle.protocol.proofs.Verdicts.{fits_kept, kept_fits, then_kept, kept_then, exact_length_lem, length_exact, written_both, both_written, written_fits, written_front}
 use Rattle.pin.specs.declared.pin_info.PinInfo.{PinInfo}
-use Rattle.pin.specs.declared.pin_info.PinInfoRead.TheVariants.{Info}
 use Rattle.pin.specs.PinInfo.{last_type, record_at, rules, verdict_of, shown, read_of, bytes_of, write_of}
 use Rattle.pin.specs.PinInfoClaims.{InfoFits, Acceptable, OfWidth, Accepted, AcceptedExactly, WrittenExactly, RoundTrip}
+use Rattle.std.specs.Prelude.{Ok, Err}
 
 info_said : (i : PinInfo) → Kept (rules i) → InfoFits i
 unfolding rules
@@ -26,9 +23,9 @@ said_info : (i : PinInfo) → InfoFits i → Kept (rules i)
 unfolding rules
 said_info i f = (le-ltb last_type i.pin_type f.type, (le-ltb 1 i.pin_state f.state, tt))
 
-shows : (d : Verdict) (i j : PinInfo) → shown d i ≡ Info j → (d ≡ Fits) × (i ≡ j)
-shows Fits i j e = (refl, cc)
-shows (Fault r) i j e = let z : ◌≡◌ {A = ℕ} 0 1 = cc in absurd (omega arith)
+shows : (d : Verdict) (i j : PinInfo) → shown d i ≡ Ok j → (d ≡ no_fault) × (i ≡ j)
+shows (Ok _) i j e = (refl, cc)
+shows (Err r) i j e = absurd cc
 
 -- an accepted payload keeps the rules, and shows the record at its places
 pub accepted : Accepted
@@ -38,17 +35,17 @@ accepted s i e =
     let k = then_kept (exact_length 12 (length s)) (rules (record_at s)) d.0 in
     (record { long = exact_length_lem 12 (length s) k.0; info = info_said (record_at s) k.1 }, sym d.1)
 
-pub acceptable : (s : List ℕ) → Acceptable s → read_of s ≡ Info (record_at s)
+pub acceptable : (s : List ℕ) → Acceptable s → read_of s ≡ Ok (record_at s)
 unfolding read_of verdict_of
 acceptable s a =
-    let f : first_of (exact_length 12 (length s)) (judge (rules (record_at s))) ≡ Fits =
+    let f : first_of (exact_length 12 (length s)) (judge (rules (record_at s))) ≡ no_fault =
     kept_then (exact_length 12 (length s)) (rules (record_at s)) (length_exact 12 (length s) a.long) (said_info (record_at s) a.info) in
     rw f
 
 pub accepted_exactly : AcceptedExactly
 accepted_exactly s = (λ e. (accepted s (record_at s) e).0, acceptable s)
 
-pub said_verdict : (i : PinInfo) → InfoFits i → verdict_of i ≡ Fits
+pub said_verdict : (i : PinInfo) → InfoFits i → verdict_of i ≡ no_fault
 unfolding verdict_of
 said_verdict i f = kept_fits (rules i) (said_info i f)
 
@@ -70,7 +67,7 @@ record_back i w = λ j. record {
 }
 
 -- the bytes of a record that fits show the record
-pub bytes_read : (i : PinInfo) → OfWidth i → verdict_of i ≡ Fits → read_of (bytes_of i) ≡ Info i
+pub bytes_read : (i : PinInfo) → OfWidth i → verdict_of i ≡ no_fault → read_of (bytes_of i) ≡ Ok i
 unfolding read_of first_of bytes_of
 bytes_read i w e = rw (record_back i w, length_exact 12 12 refl, e)
 

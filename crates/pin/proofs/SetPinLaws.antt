@@ -2,15 +2,12 @@
 -- places; no text shown lies outside the payload or inside the fixed part. The reader's choice is a parameter, and the strict one refuses an offset
 -- beside a size of 0 and nothing else.
 -- Assumes nothing.
-use mathlib.Core.Path.{◌≡◌, refl, sym}
+use mathlib.Core.Path.{◌≡◌, refl, sym, ap}
 use mathlib.Core.List.{List}
 use Prim.Native.Nat.{ℕ}
-use native.Mathlib.Omega.{arith}
 use borrow.Author.Tests.{ltb-false, le-ltb}
 use lib.ListN.{length}
-use Rattle.protocol.specs.Verdict.{Kept, judge, first_of, open_length}
-use Rattle.protocol.specs.declared.Verdict.{Verdict}
-use Rattle.protocol.specs.declared.Verdict.TheVariants.{Fits, Fault}
+use Rattle.protocol.specs.Verdict.{Kept, judge, first_of, open_length, no_fault, Verdict}
 use Rattle.protocol.proofs.Verdicts.{left_fits, right_fits, fits_kept, kept_fits, open_length_lem, length_open, written_both, both_written}
 use Rattle.pairs.specs.Pair.{range_at}
 use Rattle.pairs.specs.declared.PairKind.TheVariants.{Text}
@@ -21,11 +18,11 @@ use Rattle.texts.specs.Claims.{TextsFit}
 use Rattle.texts.proofs.Rows.{texts_said, said_texts, said_sizes, strict_of_texts}
 use Rattle.pin.specs.declared.set_pin.SetPin.{SetPin}
 use Rattle.pin.specs.declared.set_pin.SetPinTexts.{SetPinTexts}
-use Rattle.pin.specs.declared.set_pin.SetPinRead.TheVariants.{Info}
 use Rattle.pin.specs.PinInfo.{last_type}
 use Rattle.pin.specs.SetPin.{fixed_part, record_at, text_rows, pairs_at, texts_at, number_rules, texts_verdict, shown, verdict_with, read_with, two, size_rules, written_verdict, bytes_of, write_of}
 use Rattle.pin.specs.SetPinClaims.{NumbersFit, Acceptable, Writable, Accepted, AcceptedExactly, EveryTextSafe, StrictTexts, StrictOfAccepted, StrictWithin, WrittenExactly}
 use Rattle.pin.proofs.SetPinParts.{parts, small}
+use Rattle.std.specs.Prelude.{Ok, Err}
 
 -- ---- the rules on numbers, the same for the reader and the writer
 
@@ -40,11 +37,11 @@ said_numbers p n = (le-ltb last_type p.pin_type n.type, (le-ltb 3 p.pin_operatio
 -- ---- the parts of the judgement
 
 record Kept-all (z : ZeroSize) (s : List ℕ) : Type 0 where
-  long : open_length fixed_part (length s) ≡ Fits
+  long : open_length fixed_part (length s) ≡ no_fault
   numbers : Kept (number_rules (record_at s))
   texts : TextsFit z fixed_part (length s) text_rows (pairs_at s)
 
-all_kept : (z : ZeroSize) (s : List ℕ) → verdict_with z s ≡ Fits → Kept-all z s
+all_kept : (z : ZeroSize) (s : List ℕ) → verdict_with z s ≡ no_fault → Kept-all z s
 unfolding verdict_with texts_verdict
 all_kept z s e =
     let n = length s in
@@ -55,7 +52,7 @@ all_kept z s e =
       texts = texts_said z fixed_part n text_rows (pairs_at s) (right_fits (judge (number_rules (record_at s))) _ fields);
     }
 
-kept_all : (z : ZeroSize) (s : List ℕ) → Kept-all z s → verdict_with z s ≡ Fits
+kept_all : (z : ZeroSize) (s : List ℕ) → Kept-all z s → verdict_with z s ≡ no_fault
 unfolding verdict_with texts_verdict first_of
 kept_all z s k =
     rw (
@@ -84,9 +81,11 @@ said_fields z s a = record {
 
 -- ---- accepted exactly when the rules hold
 
-shows : (d : Verdict) (p q : SetPin) (t u : SetPinTexts) → shown d p t ≡ Info q u → (d ≡ Fits) × ((p ≡ q) × (t ≡ u))
-shows Fits p q t u e = (refl, (cc, cc))
-shows (Fault r) p q t u e = let z : ◌≡◌ {A = ℕ} 0 1 = cc in absurd (omega arith)
+shows : (d : Verdict) (p q : SetPin) (t u : SetPinTexts) → shown d p t ≡ Ok (q, u) → (d ≡ no_fault) × ((p ≡ q) × (t ≡ u))
+shows (Ok _) p q t u e =
+    let h : ◌≡◌ {A = SetPin × SetPinTexts} (p, t) (q, u) = cc in
+    (refl, (ap (λ (x : SetPin × SetPinTexts). x.0) h, ap (λ (x : SetPin × SetPinTexts). x.1) h))
+shows (Err r) p q t u e = absurd cc
 
 -- an accepted payload keeps the rules, and shows the record and the texts at their places
 pub accepted : Accepted
@@ -95,9 +94,9 @@ accepted z s p t e =
     let d = shows (verdict_with z s) (record_at s) p (texts_at s) t e in
     (fields_said z s (all_kept z s d.0), (sym d.1.0, sym d.1.1))
 
-pub acceptable : (z : ZeroSize) (s : List ℕ) → Acceptable z s → read_with z s ≡ Info (record_at s) (texts_at s)
+pub acceptable : (z : ZeroSize) (s : List ℕ) → Acceptable z s → read_with z s ≡ Ok ((record_at s), (texts_at s))
 unfolding read_with
-acceptable z s a = let f : verdict_with z s ≡ Fits = kept_all z s (said_fields z s a) in rw f
+acceptable z s a = let f : verdict_with z s ≡ no_fault = kept_all z s (said_fields z s a) in rw f
 
 pub accepted_exactly : AcceptedExactly
 accepted_exactly z s = (λ e. (accepted z s (record_at s) (texts_at s) e).0, acceptable z s)
@@ -145,12 +144,12 @@ strict_within_default s p t e =
 
 -- ---- a writer accepts exactly what its rules allow, where it has room
 
-writable_said : (p : SetPin) (pin new : ℕ) → written_verdict p pin new ≡ Fits → Writable p pin new
+writable_said : (p : SetPin) (pin new : ℕ) → written_verdict p pin new ≡ no_fault → Writable p pin new
 writable_said p pin new e =
     let sizes = small p pin new e in
     record { numbers = numbers_said p (fits_kept (number_rules p) (parts p pin new e).numbers); pin = sizes.0; new = sizes.1.0 }
 
-said_writable : (p : SetPin) (pin new : ℕ) → Writable p pin new → written_verdict p pin new ≡ Fits
+said_writable : (p : SetPin) (pin new : ℕ) → Writable p pin new → written_verdict p pin new ≡ no_fault
 unfolding written_verdict size_rules first_of
 said_writable p pin new w =
     rw (

@@ -7,8 +7,7 @@ use native.Mathlib.Omega.{arith}
 use lib.ListN.{length}
 use Rattle.wire.specs.Numbers.{u32_at}
 use Rattle.wire.proofs.Laws.{num_digits}
-use Rattle.protocol.specs.Verdict.{judge, first_of, open_length}
-use Rattle.protocol.specs.declared.Verdict.TheVariants.{Fits}
+use Rattle.protocol.specs.Verdict.{judge, first_of, open_length, no_fault}
 use Rattle.protocol.proofs.Verdicts.{length_open, written_fits, written_front}
 use Rattle.pairs.specs.Pair.{range_bytes}
 use Rattle.pairs.specs.Claims.{shown_in}
@@ -18,10 +17,10 @@ use Rattle.texts.specs.Texts.{all_shown, end_of, ranges_bytes, texts_bytes}
 use Rattle.texts.proofs.Rows.{end_behind, laid_fit, laid_shown, laid_sized, ranges_back, texts_back}
 use Rattle.pin.specs.declared.set_pin.SetPin.{SetPin}
 use Rattle.pin.specs.declared.set_pin.SetPinTexts.{SetPinTexts}
-use Rattle.pin.specs.declared.set_pin.SetPinRead.TheVariants.{Info}
 use Rattle.pin.specs.SetPin.{fixed_part, record_at, text_rows, texts_of, pairs_at, texts_at, number_rules, texts_verdict, shown, verdict_with, read_with, two, size_rules, written_verdict, length_of, front_bytes, fixed_bytes, laid_for, bytes_of, write_of}
 use Rattle.pin.specs.SetPinClaims.{OfWidth, RoundTrip}
 use Rattle.pin.proofs.SetPinParts.{length_fixed, length_bytes, parts, end_most}
+use Rattle.std.specs.Prelude.{Ok}
 
 record_back : (p : SetPin) (x y : List ℕ) → OfWidth p → record_at (bytes_of p x y) ≡ p
 unfolding record_at u32_at bytes_of fixed_bytes front_bytes range_bytes
@@ -30,7 +29,7 @@ record_back p x y w = λ i. record {
   pin_operation = num_digits 4 p.pin_operation [] w.operation i;
 }
 
-module _ (p : SetPin) (x y : List ℕ) (ok : written_verdict p (length x) (length y) ≡ Fits) where
+module _ (p : SetPin) (x y : List ℕ) (ok : written_verdict p (length x) (length y) ≡ no_fault) where
   abbrev sizes : List ℕ
   sizes = two (length x) (length y)
 
@@ -49,18 +48,18 @@ module _ (p : SetPin) (x y : List ℕ) (ok : written_verdict p (length x) (lengt
   unfolding texts_at
   texts_shown = ap (λ (ps : List Range). texts_of (all_shown ps)) pairs_back ∙ ap texts_of (laid_shown fixed_part sizes)
 
-  texts_fit : (z : ZeroSize) → texts_verdict z (length_of (length x) (length y)) (laid_for x y) ≡ Fits
+  texts_fit : (z : ZeroSize) → texts_verdict z (length_of (length x) (length y)) (laid_for x y) ≡ no_fault
   unfolding texts_verdict size_rules
   texts_fit z =
       laid_fit z fixed_part (end_of fixed_part sizes) fixed_part text_rows sizes (parts p (length x) (length y) ok).sizes (omega arith) refl (omega arith)
 
-  length_fits : open_length fixed_part (length (bytes_of p x y)) ≡ Fits
+  length_fits : open_length fixed_part (length (bytes_of p x y)) ≡ no_fault
   length_fits =
       let most = end_most p (length x) (length y) ok in
       rw (length_bytes p x y) (length_open fixed_part (length_of (length x) (length y)) (end_behind fixed_part sizes) (omega arith))
 
   -- the bytes show the record
-  pub bytes_read : (z : ZeroSize) → OfWidth p → read_with z (bytes_of p x y) ≡ Info p laid_texts
+  pub bytes_read : (z : ZeroSize) → OfWidth p → read_with z (bytes_of p x y) ≡ Ok (p, laid_texts)
   unfolding read_with verdict_with first_of
   bytes_read z w =
       let r = record_back p x y w in

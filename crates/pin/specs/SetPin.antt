@@ -1,11 +1,9 @@
 -- The SET_PIN payload (document 02, order 2): "PinType 0, operation 4, pairs at 8 and 16, fixed part 24, each text at most 32 bytes". One form at both versions.
 -- In this order: the fields and their places; the rules, in the order in which they are judged; what a reader answers; what a writer gives.
-use Rattle.std.specs.Prelude.{ℕ, List, [], ◌∷◌, ◌++◌, ltb, length, get_or}
+use Rattle.std.specs.Prelude.{ℕ, List, [], ◌∷◌, ◌++◌, ltb, length, get_or, Ok, Err, Result}
 use Rattle.wire.specs.Numbers.{u32_at, digits}
 use Rattle.protocol.specs.Refusal.{outside_table}
-use Rattle.protocol.specs.Verdict.{Rule, rule, judge, first_of, open_length, Writing, writing}
-use Rattle.protocol.specs.declared.Verdict.{Verdict}
-use Rattle.protocol.specs.declared.Verdict.TheVariants.{Fits, Fault}
+use Rattle.protocol.specs.Verdict.{Rule, rule, judge, first_of, open_length, Writing, writing, Verdict}
 use Rattle.pairs.specs.Pair.{by_default, range}
 use Rattle.pairs.specs.declared.Range.{Range}
 use Rattle.pairs.specs.declared.ZeroSize.{ZeroSize}
@@ -14,8 +12,10 @@ use Rattle.texts.specs.Texts as pairs
 use Rattle.pin.specs.PinInfo.{last_type}
 use Rattle.pin.specs.declared.set_pin.SetPin.{SetPin}
 use Rattle.pin.specs.declared.set_pin.SetPinTexts.{SetPinTexts}
-use Rattle.pin.specs.declared.set_pin.SetPinRead.{SetPinRead}
-use Rattle.pin.specs.declared.set_pin.SetPinRead.TheVariants.{Info, Refused}
+use Rattle.protocol.specs.declared.Refusal.{Refusal}
+
+abbrev pub SetPinRead : Type 0
+SetPinRead = Result (SetPin × SetPinTexts) Refusal
 
 -- ---- fields and places
 
@@ -40,7 +40,7 @@ pairs_at s = ranges_at s text_rows
 unfoldable pub texts_at : List ℕ → SetPinTexts
 texts_at s = texts_of (all_shown (pairs_at s))
 
--- ---- rules: broken, number, place; the first broken one decides
+-- ---- rules: broken, reason, place; the first broken one decides
 
 -- "number tables as in MBIM 1.0": type 0 to 17, operation 0 to 3
 unfoldable pub number_rules : SetPin → List Rule
@@ -53,8 +53,8 @@ texts_verdict z n ps = pairs.texts_verdict z fixed_part n text_rows ps
 -- ---- what a reader answers
 
 abbrev pub shown : Verdict → SetPin → SetPinTexts → SetPinRead
-shown Fits p t = Info p t
-shown (Fault r) p t = Refused r
+shown (Ok _) p t = Ok (p, t)
+shown (Err r) p t = Err r
 
 unfoldable pub verdict_with : ZeroSize → List ℕ → Verdict
 verdict_with z s =

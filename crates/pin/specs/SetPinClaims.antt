@@ -1,8 +1,7 @@
 -- What is claimed of the SET_PIN payload beside the promises, whichever choice the reader makes: the rules in words of fields, what lies
 -- between the choices, widths.
-use Rattle.std.specs.Prelude.{ℕ, ◌≤◌, ◌<◌, ◌^◌, ◌≡◌, ◌↔◌, List, length, take}
+use Rattle.std.specs.Prelude.{ℕ, ◌≤◌, ◌<◌, ◌^◌, ◌≡◌, ◌↔◌, List, length, take, Ok}
 use Rattle.protocol.specs.Verdict.{judge}
-use Rattle.protocol.specs.declared.Written.TheVariants.{Length}
 use Rattle.pairs.specs.Pair.{range_at}
 use Rattle.pairs.specs.Claims.{SizeFits, PairFits, Safe, shown_in}
 use Rattle.pairs.specs.declared.PairKind.TheVariants.{Text}
@@ -11,7 +10,6 @@ use Rattle.pairs.specs.declared.ZeroSize.TheVariants.{Absent, Strict}
 use Rattle.texts.specs.Claims.{stray_rules}
 use Rattle.pin.specs.declared.set_pin.SetPin.{SetPin}
 use Rattle.pin.specs.declared.set_pin.SetPinTexts.{SetPinTexts}
-use Rattle.pin.specs.declared.set_pin.SetPinRead.TheVariants.{Info}
 use Rattle.pin.specs.SetPin.{fixed_part, record_at, text_rows, texts_of, pairs_at, texts_at, shown, read_with, bytes_of, write_of}
 
 -- ---- the rules in words of fields
@@ -42,7 +40,7 @@ pub record TextsSafe (n : ℕ) (t : SetPinTexts) : Type 0 where
 -- the bytes s show the record, and each range shown is the text
 pub record Returned (z : ZeroSize) (p : SetPin) (x y s : List ℕ) : Type 0 where
   pub texts : SetPinTexts
-  pub read : read_with z s ≡ Info p texts
+  pub read : read_with z s ≡ Ok (p, texts)
   pub pin : shown_in s texts.pin ≡ x
   pub new : shown_in s texts.new_pin ≡ y
 
@@ -54,18 +52,18 @@ pub record OfWidth (p : SetPin) : Type 0 where
 
 -- an accepted payload keeps the rules, and shows the record and the texts at their places
 abbrev pub Accepted : Type 0
-Accepted = (z : ZeroSize) (s : List ℕ) (p : SetPin) (t : SetPinTexts) → read_with z s ≡ Info p t → Acceptable z s × ((p ≡ record_at s) × (t ≡ texts_at s))
+Accepted = (z : ZeroSize) (s : List ℕ) (p : SetPin) (t : SetPinTexts) → read_with z s ≡ Ok (p, t) → Acceptable z s × ((p ≡ record_at s) × (t ≡ texts_at s))
 
 abbrev pub AcceptedExactly : Type 0
-AcceptedExactly = (z : ZeroSize) (s : List ℕ) → (read_with z s ≡ Info (record_at s) (texts_at s)) ↔ Acceptable z s
+AcceptedExactly = (z : ZeroSize) (s : List ℕ) → (read_with z s ≡ Ok ((record_at s), (texts_at s))) ↔ Acceptable z s
 
 -- each text shown is absent, or lies behind the fixed part, at a multiple of 4, and inside the payload
 abbrev pub EveryTextSafe : Type 0
-EveryTextSafe = (z : ZeroSize) (s : List ℕ) (p : SetPin) (t : SetPinTexts) → read_with z s ≡ Info p t → TextsSafe (length s) t
+EveryTextSafe = (z : ZeroSize) (s : List ℕ) (p : SetPin) (t : SetPinTexts) → read_with z s ≡ Ok (p, t) → TextsSafe (length s) t
 
 -- under the strict choice the texts shown are the pairs as they stand
 abbrev pub StrictTexts : Type 0
-StrictTexts = (s : List ℕ) (p : SetPin) (t : SetPinTexts) → read_with Strict s ≡ Info p t → t ≡ texts_of (pairs_at s)
+StrictTexts = (s : List ℕ) (p : SetPin) (t : SetPinTexts) → read_with Strict s ≡ Ok (p, t) → t ≡ texts_of (pairs_at s)
 
 -- of a payload that is accepted by default the strict choice shows the same, or refuses the first offset beside size 0 by 18
 abbrev pub StrictOfAccepted : Type 0
@@ -73,13 +71,13 @@ StrictOfAccepted = (s : List ℕ) → Acceptable Absent s → read_with Strict s
 
 -- what the strict choice accepts, the default shows as it does
 abbrev pub StrictWithin : Type 0
-StrictWithin = (s : List ℕ) (p : SetPin) (t : SetPinTexts) → read_with Strict s ≡ Info p t → read_with Absent s ≡ Info p t
+StrictWithin = (s : List ℕ) (p : SetPin) (t : SetPinTexts) → read_with Strict s ≡ Ok (p, t) → read_with Absent s ≡ Ok (p, t)
 
 abbrev pub WrittenExactly : Type 0
 WrittenExactly = (p : SetPin) (x y s : List ℕ)
-    → ((write_of p x y s).answer ≡ Length (length (bytes_of p x y))) ↔ (Writable p (length x) (length y) × (length (bytes_of p x y) ≤ length s))
+    → ((write_of p x y s).answer ≡ Ok (length (bytes_of p x y))) ↔ (Writable p (length x) (length y) × (length (bytes_of p x y) ≤ length s))
 
 -- what the writer puts into an output is the record with its texts
 abbrev pub RoundTrip : Type 0
-RoundTrip = (z : ZeroSize) (p : SetPin) (x y s : List ℕ) (n : ℕ) → OfWidth p → (write_of p x y s).answer ≡ Length n
+RoundTrip = (z : ZeroSize) (p : SetPin) (x y s : List ℕ) (n : ℕ) → OfWidth p → (write_of p x y s).answer ≡ Ok n
     → Returned z p x y (take n (write_of p x y s).output)

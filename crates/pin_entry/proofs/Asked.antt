@@ -16,8 +16,8 @@ use Rattle.pairs.specs.declared.ZeroSize.TheVariants.{Strict}
 use Rattle.pin.specs.SetPin.{pairs_at, read_with}
 use Rattle.pin.specs.declared.set_pin.SetPin.{SetPin}
 use Rattle.pin.specs.declared.set_pin.SetPinTexts.{SetPinTexts}
-use Rattle.pin.specs.declared.set_pin.SetPinRead.TheVariants.{Info}
 use Rattle.pin.proofs.SetPinLaws.{accepted, strict_texts}
+use Rattle.std.specs.Prelude.{Ok}
 
 part_fits : (fixed limit : ℕ) (s : List ℕ) (p : Range) → PairFits Strict Text fixed limit (length s) p → SizeFits Text limit (length (part_of s p))
 part_fits fixed limit s p f = go f.safe
@@ -28,9 +28,9 @@ part_fits fixed limit s p f = go f.safe
         let long : length (drop p.start s) ≡ length s - p.start = length-drop p.start s in
         rw (part_shown s p i.within, length-take-le p.length (drop p.start s) (omega (arith, i.within))) f.size
 
-pub new_fits : (s : List ℕ) (p : SetPin) (t : SetPinTexts) → read_with Strict s ≡ Info p t → SizeFits Text 32 (length (part_of s t.new_pin))
+pub new_fits : (s : List ℕ) (p : SetPin) (t : SetPinTexts) → read_with Strict s ≡ Ok (p, t) → SizeFits Text 32 (length (part_of s t.new_pin))
 unfolding pairs_at
 new_fits s p t e = rw (strict_texts s p t e) (part_fits 24 32 s (range_at s 16) (accepted Strict s p t e).0.new)
 
-pub new_short : (s : List ℕ) (p : SetPin) (t : SetPinTexts) → read_with Strict s ≡ Info p t → length (part_of s t.new_pin) ≤ 32
+pub new_short : (s : List ℕ) (p : SetPin) (t : SetPinTexts) → read_with Strict s ≡ Ok (p, t) → length (part_of s t.new_pin) ≤ 32
 new_short s p t e = (new_fits s p t e).small

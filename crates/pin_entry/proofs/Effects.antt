@@ -11,9 +11,11 @@ use lib.Dec.{eqb}
 use Rattle.protocol.specs.Status.{success, failure, no_device_support}
 use Rattle.pin_entry.specs.PinTable.{Row, Table, absent, put, filled, puk_of, is_puk, Call, enter_operation, same_text, Entry, unsupported, info, no_info, locked, usable, locked_with, locked_out, blocked, expected, one_less, accepted, failed, judged, entered}
 use Rattle.pin_entry.specs.declared.PinAnswer.{PinAnswer}
-use Rattle.pin_entry.specs.declared.PinAnswer.TheVariants.{Info, Failed, Refused}
+use Rattle.pin_entry.specs.declared.PinAnswer.TheVariants.{Info, Failed}
 use Rattle.pin_entry.specs.Claims.{Counts, Right, Effect, nothing, wrong, right_pin, right_puk}
 use Rattle.pin_entry.proofs.Text.{same_is, is_same}
+use Rattle.std.specs.Prelude.{Ok, Err, Result}
+use Rattle.protocol.specs.declared.Refusal.{Refusal}
 
 -- ---- rows
 
@@ -25,7 +27,7 @@ same_or_not j k = go (eqb j k) refl
     go false e = inr (eqb-false j k e)
 
 pub false_true : {A : Type 0} → false ≡ true → A
-false_true e = let z : ◌≡◌ {A = ℕ} 0 1 = cc in absurd (omega arith)
+false_true e = absurd cc
 
 module _ (t : Table) (k : ℕ) where
   -- a property of row j after a store at k
@@ -59,8 +61,8 @@ either P true p q = p
 either P false p q = q
 
 -- what holds of these four holds of every answer to an entry for a type that the table has
-judged_are : (Q : PinAnswer → Type 0) (t : Table) (k : ℕ) (pin new : List ℕ) → Q (Info failure no_info) → Q (Info success no_info)
-    → ((n : ℕ) → Q (Info failure (info k locked n))) → ((n : ℕ) → Q (Info failure (info (puk_of k) locked n))) → Q (judged t k pin new).answer
+judged_are : (Q : (Result PinAnswer Refusal) → Type 0) (t : Table) (k : ℕ) (pin new : List ℕ) → Q (Ok (Info failure no_info)) → Q (Ok (Info success no_info))
+    → ((n : ℕ) → Q (Ok (Info failure (info k locked n)))) → ((n : ℕ) → Q (Ok (Info failure (info (puk_of k) locked n)))) → Q (judged t k pin new).answer
 unfolding judged accepted failed blocked
 judged_are Q t k pin new bad good own puk =
     let P : Entry → Type 0 = λ e. Q e.answer in
@@ -71,8 +73,8 @@ judged_are Q t k pin new bad good own puk =
     (either P (eqb ((t k).tries - 1) 0) (either P (usable (u (puk_of k))) (puk (u (puk_of k)).tries) bad) (own ((t k).tries - 1)))))
 
 -- and with status 9 of every answer
-pub answers_are : (Q : PinAnswer → Type 0) (t : Table) (c : Call) → Q (Failed no_device_support) → Q (Info failure no_info) → Q (Info success no_info)
-    → ((n : ℕ) → Q (Info failure (info c.type locked n))) → ((n : ℕ) → Q (Info failure (info (puk_of c.type) locked n))) → Q (entered t c).answer
+pub answers_are : (Q : (Result PinAnswer Refusal) → Type 0) (t : Table) (c : Call) → Q (Ok (Failed no_device_support)) → Q (Ok (Info failure no_info)) → Q (Ok (Info success no_info))
+    → ((n : ℕ) → Q (Ok (Info failure (info c.type locked n)))) → ((n : ℕ) → Q (Ok (Info failure (info (puk_of c.type) locked n)))) → Q (entered t c).answer
 unfolding entered
 answers_are Q t c none bad good own puk =
     let P : Entry → Type 0 = λ e. Q e.answer in
@@ -81,10 +83,10 @@ answers_are Q t c none bad good own puk =
     (judged_are Q t c.type c.pin c.new bad good own puk))
 
 -- a status with PIN_INFO
-abbrev pub Shows : PinAnswer → Type 0
-Shows (Info status i) = Unit
-Shows (Failed status) = ⊥
-Shows (Refused r) = ⊥
+abbrev pub Shows : (Result PinAnswer Refusal) → Type 0
+Shows (Ok (Info status i)) = Unit
+Shows (Ok (Failed status)) = ⊥
+Shows (Err r) = ⊥
 
 judged_shows : (t : Table) (k : ℕ) (pin new : List ℕ) → Shows (judged t k pin new).answer
 judged_shows t k pin new = judged_are Shows t k pin new tt tt (λ n. tt) (λ n. tt)

@@ -2,38 +2,43 @@
 -- Assumes nothing.
 use Prim.Native.Nat.{ℕ, zero, suc, ◌+◌, ◌-◌, ◌≤◌, ◌<◌}
 use mathlib.Core.Path.{◌≡◌, refl, sym, ap, ◌∙◌, fun_ext}
+use mathlib.Core.Logic.{◌⊎◌, inl, inr}
 use mathlib.Core.Bool.{Bool, true, false, cond, ◌&&◌, ◌||◌}
 use mathlib.Core.List.{List, [], ◌∷◌}
 use native.Mathlib.Omega.{arith}
 use native.Mathlib.Numerals.{add-one}
-use borrow.Author.Tests.{eqb-true, eqb-false, leb-true, leb-false, lt-ltb}
+use borrow.Author.Tests.{eqb-true, eqb-false, leb-true, lt-ltb, le-ltb}
 use lib.Dec.{eqb, leb}
 use lib.ListN.{length, get_or, set, replicate, get_or-eq_default}
 use lib.Seq.{get_or-set_same, get_or-set_other}
+use Rattle.folds.specs.Folds.{first_fault}
+use Rattle.protocol.specs.Verdict.{Verdict, no_fault}
 use Rattle.pin_entry.specs.PinTable.{Row, Table, absent, empty, put, filled, puks, pins, puk_of, pin_of}
 use Rattle.pin_entry.specs.Claims.{PairsAgree}
-use Rattle.pin_entry.specs.Meaning.{row_of, no_row, row_from, put_at}
+use Rattle.pin_entry.specs.Meaning.{row_of, no_row, row_from, table_of, put_at}
 use Rattle.pin_entry.specs.declared.PinRow.{PinRow}
-
-pub row_at : (rows : List PinRow) (k : ℕ) → 0 < k → row_of (get_or rows (k - 1) no_row) ≡ row_from rows k
-row_at rows zero h = absurd (omega arith)
-row_at rows (suc i) h = let e : suc i - 1 ≡ i = omega arith in rw e
+use Rattle.pin_entry.specs.declared.PinTable.{PinTable}
 
 pub row_past : (rows : List PinRow) (k : ℕ) → length rows < k → row_from rows k ≡ absent
 row_past rows zero h = absurd (omega arith)
 row_past rows (suc i) h = ap row_of (get_or-eq_default rows no_row (omega arith))
 
 false_true : {A : Type 0} → false ≡ true → A
-false_true e = let z : ◌≡◌ {A = ℕ} 0 1 = cc in absurd (omega arith)
+false_true e = absurd cc
 
--- only a type of the table has a row that is present
-pub present_within : (rows : List PinRow) (k : ℕ) → (row_from rows k).present ≡ true → (0 < k) × (k ≤ length rows)
-present_within rows zero e = false_true e
-present_within rows (suc i) e = go (leb (suc i) (length rows)) refl
-  where
-    go : (b : Bool) → leb (suc i) (length rows) ≡ b → (0 < suc i) × (suc i ≤ length rows)
-    go true h = (omega arith, leb-true (suc i) (length rows) h)
-    go false h = false_true (sym (ap (λ (r : Row). r.present) (row_past rows (suc i) (leb-false (suc i) (length rows) h))) ∙ e)
+pub row_placed : (rows : List PinRow) (i k : ℕ) → i + 1 ≡ k → row_of (get_or rows i no_row) ≡ row_from rows k
+row_placed rows i zero e = absurd (omega arith)
+row_placed rows i (suc k) e = let d : i ≡ k = omega arith in rw d
+
+-- 0 and what is past the last are no types
+pub none_absent : (p : PinTable) → table_of p 0 ≡ absent
+unfolding table_of
+none_absent p = refl
+
+pub no_type : (p : PinTable) (k : ℕ) → length p.rows ≡ 17 → (k ≡ 0) ⊎ (17 < k) → table_of p k ≡ absent
+unfolding table_of
+no_type p k l (inl e) = rw e
+no_type p k l (inr h) = row_past p.rows k (omega arith)
 
 -- a row that is stored is the one of its type
 pub put_row : (rows : List PinRow) (k : ℕ) (r : PinRow) → 0 < k → k ≤ length rows → row_from (set rows (k - 1) r) ≡ put (row_from rows) k (row_of r)
@@ -50,6 +55,9 @@ put_row rows (suc i) r p q =
         rw z (ap row_of (get_or-set_same rows i r no_row (omega arith)))
     at (suc j) false e =
         ap row_of (get_or-set_other rows i j r no_row (λ z. eqb-false (suc j) (suc i) e (ap suc z)))
+
+pub row_put : (rows : List PinRow) (i k : ℕ) (r : PinRow) → i + 1 ≡ k → i < length rows → row_from (set rows i r) ≡ put (row_from rows) k (row_of r)
+row_put rows i k r e h = let d : k - 1 ≡ i = omega arith in rw d at (put_row rows k r (omega arith) (omega arith))
 
 split_both : (a b : Bool) → (a && b) ≡ true → (a ≡ true) × (b ≡ true)
 split_both true b e = (refl, e)
@@ -75,10 +83,27 @@ pub put_at_lem : (t : Table) (i : ℕ) (r : Row) → i < 17 → put_at t i r ≡
 unfolding put_at
 put_at_lem t i r h = rw (lt-ltb i 17 h, add-one i)
 
+pub put_within : (rows : List PinRow) (i : ℕ) (r : PinRow) → i < 17 → length rows ≡ 17 → row_from (set rows i r) ≡ put_at (row_from rows) i (row_of r)
+put_within rows i r h l = row_put rows i (i + 1) r refl (omega arith) ∙ sym (put_at_lem (row_from rows) i (row_of r) h)
+
+pub put_past : (t : Table) (i : ℕ) (r : Row) → 17 ≤ i → put_at t i r ≡ t
+unfolding put_at
+put_past t i r h = rw (le-ltb i 17 h)
+
+pub filled_none : (f : ℕ → Row) → filled f 0 ≡ empty
+unfolding filled
+filled_none f = refl
+
 -- one row more
 pub filled_next : (f : ℕ → Row) (i : ℕ) {t u : Table} → i < 17 → t ≡ filled f i → u ≡ put_at t i (f i) → u ≡ filled f (i + 1)
 unfolding filled
 filled_next f i {t} h p q = q ∙ put_at_lem t i (f i) h ∙ rw (p, add-one i)
+
+-- ---- rows judged
+
+pub none_judged : (f : ℕ → Verdict) → first_fault f 0 ≡ no_fault
+unfolding first_fault
+none_judged f = refl
 
 -- ---- the pairs
 
@@ -91,10 +116,6 @@ each : (f : ℕ → Bool) (l : List ℕ) → f 0 ≡ true → all_of f l ≡ tru
 each f [] z e k = z
 each f (x ∷ xs) z e zero = (split_both (f x) (all_of f xs) e).0
 each f (x ∷ xs) z e (suc k) = each f xs z (split_both (f x) (all_of f xs) e).1 k
-
-pub pin_within : (k : ℕ) → pin_of k ≤ 17
-unfolding pin_of
-pin_within k = leb-true (get_or pins k 0) 17 (each (λ x. leb x 17) pins refl refl k)
 
 pub puk_within : (k : ℕ) → puk_of k ≤ 17
 unfolding puk_of

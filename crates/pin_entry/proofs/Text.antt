@@ -1,6 +1,6 @@
--- Texts compared from the end to the front, and a text stored.
+-- Texts compared byte by byte, and a text stored.
 -- Assumes nothing.
-use Prim.Native.Nat.{ℕ, zero, suc, ◌+◌, ◌-◌, ◌≤◌, ◌<◌}
+use Prim.Native.Nat.{ℕ, zero, suc, ◌+◌, ◌≤◌, ◌<◌}
 use mathlib.Core.Path.{◌≡◌, refl, sym, ap, ◌∙◌}
 use mathlib.Core.Bool.{Bool, true, false, ◌&&◌}
 use mathlib.Core.List.{List, [], ◌∷◌}
@@ -8,20 +8,21 @@ use native.Mathlib.Omega.{arith}
 use borrow.Author.Tests.{eqb-true, eqb-false, eq-eqb}
 use lib.Dec.{eqb}
 use lib.ListN.{length, get_or, take, drop}
-use lib.Seq.{sets, sets-eq, take_at, drop-cons, drop-length, get_or-take, length-take-le}
+use lib.Seq.{sets, sets-eq, take_at, take_all, length-take-le}
+use native.Mathlib.Numerals.{add-one}
 use Rattle.pin_entry.specs.PinTable.{same_text}
 use Rattle.pin_entry.specs.Claims.{RightExactly}
 
 pub same_is : (a b : List ℕ) → same_text a b ≡ true → a ≡ b
 unfolding same_text
 same_is [] [] e = refl
-same_is [] (y ∷ ys) e = let z : ◌≡◌ {A = ℕ} 0 1 = cc in absurd (omega arith)
-same_is (x ∷ xs) [] e = let z : ◌≡◌ {A = ℕ} 0 1 = cc in absurd (omega arith)
+same_is [] (y ∷ ys) e = absurd cc
+same_is (x ∷ xs) [] e = absurd cc
 same_is (x ∷ xs) (y ∷ ys) e = go (eqb x y) refl e (same_is xs ys)
   where
     go : (b : Bool) → eqb x y ≡ b → (b && same_text xs ys) ≡ true → (same_text xs ys ≡ true → xs ≡ ys) → (x ∷ xs) ≡ (y ∷ ys)
     go true p q f = let h = eqb-true x y p in let t = f q in cc
-    go false p q f = let z : ◌≡◌ {A = ℕ} 0 1 = cc in absurd (omega arith)
+    go false p q f = absurd cc
 
 pub is_same : (a : List ℕ) → same_text a a ≡ true
 unfolding same_text
@@ -38,41 +39,44 @@ unlike a b n = go (same_text a b) refl
     go true e = absurd (n (same_is a b e))
     go false e = refl
 
--- ---- from the end to the front
+-- ---- byte by byte
 
--- what is found of the bytes from i on, where the lengths agree
-abbrev pub Found : List ℕ → List ℕ → ℕ → ℕ → Bool → Type 0
-Found a b n i same = length b ≡ n → same ≡ same_text (drop i (take n a)) (drop i b)
+joined : (x a b : Bool) → (x && (a && b)) ≡ ((x && a) && b)
+joined true a b = refl
+joined false a b = refl
 
-module _ (a b : List ℕ) (n : ℕ) (long : n ≤ length a) where
-  all_there : length (take n a) ≡ n
-  all_there = length-take-le n a long
+never : (x : Bool) → (x && false) ≡ false
+never true = refl
+never false = refl
 
-  pub begin : Found a b n n true
-  unfolding same_text
-  begin e =
-      let p : drop n (take n a) ≡ [] = rw all_there at (drop-length (take n a)) in
-      let q : drop n b ≡ [] = rw e at (drop-length b) in
-      rw (p, q)
+both_true : (x : Bool) → (x && true) ≡ x
+both_true true = refl
+both_true false = refl
 
-  pub turn : (i : ℕ) (same next : Bool) → 0 < i → i ≤ n → Found a b n i same → next ≡ (eqb (get_or a (i - 1) 0) (get_or b (i - 1) 0) && same) → Found a b n (i - 1) next
-  unfolding same_text
-  turn zero same next p q f g e = absurd (omega arith)
-  turn (suc i) same next p q f g e = go (omega arith) g
-    where
-      go : suc i - 1 ≡ i → next ≡ (eqb (get_or a (suc i - 1) 0) (get_or b (suc i - 1) 0) && same) → next ≡ same_text (drop (suc i - 1) (take n a)) (drop (suc i - 1) b)
-      go z h =
-          let h' = rw z at h in
-          let la : i < length (take n a) = omega (arith, all_there) in
-          let lb : i < length b = omega arith in
-          rw (z, drop-cons (take n a) i 0 la, drop-cons b i 0 lb, get_or-take n a i 0, ← f e) h'
+next : (a b : List ℕ) (i : ℕ) → i < length a → i < length b
+    → same_text (take (suc i) a) (take (suc i) b) ≡ (same_text (take i a) (take i b) && eqb (get_or a i 0) (get_or b i 0))
+unfolding same_text
+next [] b i p q = absurd (omega arith)
+next (x ∷ xs) [] i p q = absurd (omega arith)
+next (x ∷ xs) (y ∷ ys) zero p q = both_true (eqb x y)
+next (x ∷ xs) (y ∷ ys) (suc i) p q = rw (next xs ys i (omega arith) (omega arith)) (joined (eqb x y) (same_text (take i xs) (take i ys)) (eqb (get_or xs i 0) (get_or ys i 0)))
 
-  pub finish : (same r : Bool) → Found a b n 0 same → r ≡ (eqb n (length b) && same) → r ≡ same_text (take n a) b
-  finish same r f e = e ∙ go (eqb n (length b)) refl
-    where
-      go : (t : Bool) → eqb n (length b) ≡ t → (t && same) ≡ same_text (take n a) b
-      go true h = f (sym (eqb-true n (length b) h))
-      go false h = sym (unlike (take n a) b (λ z. eqb-false n (length b) h (sym all_there ∙ ap length z)))
+pub none_yet : same_text [] [] ≡ true
+unfolding same_text
+none_yet = refl
+
+pub one_more : (a b : List ℕ) (i : ℕ) → i < length a → i < length b
+    → same_text (take (i + 1) a) (take (i + 1) b) ≡ (same_text (take i a) (take i b) && eqb (get_or a i 0) (get_or b i 0))
+one_more a b i p q = rw add-one (next a b i p q)
+
+-- texts of other lengths differ
+pub all_seen : (a b : List ℕ) (n : ℕ) (same : Bool) → n ≤ length a → (length b ≡ n → same ≡ same_text (take n a) (take n b))
+    → (same && eqb n (length b)) ≡ same_text (take n a) b
+all_seen a b n same l h = go (eqb n (length b)) refl
+  where
+    go : (t : Bool) → eqb n (length b) ≡ t → (same && t) ≡ same_text (take n a) b
+    go true e = let z : length b ≡ n = omega (arith, eqb-true n (length b) e) in both_true same ∙ h z ∙ rw (take_all n b (omega arith))
+    go false e = never same ∙ sym (unlike (take n a) b (λ z. eqb-false n (length b) e (sym (length-take-le n a l) ∙ ap length z)))
 
 -- ---- a text stored
 

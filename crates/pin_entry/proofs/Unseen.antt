@@ -9,6 +9,7 @@ use Rattle.protocol.specs.Status.{failure}
 use Rattle.pin_entry.specs.PinTable.{Table, put, puk_of, pin_of, is_puk, Call, enter_operation, same_text, Entry, info, locked, blocked, expected, one_less, accepted, failed, judged, entered}
 use Rattle.pin_entry.specs.Claims.{Alike, SecretsUnseen}
 use Rattle.pin_entry.specs.declared.PinAnswer.TheVariants.{Info}
+use Rattle.std.specs.Prelude.{Ok}
 
 -- the same is answered
 record Told (x v : Entry) : Type 0 where
@@ -28,7 +29,7 @@ blocked_same : (t u : Table) (k : ℕ) → AllAlike t u → Told (blocked t k) (
 unfolding blocked
 blocked_same t u k h =
     let r = h (puk_of k) in
-    by (λ i. r.present i && not (eqb (r.tries i) 0)) (record { is = ap (λ (n : ℕ). Info failure (info (puk_of k) locked n)) r.tries }) (record { is = refl })
+    by (λ i. r.present i && not (eqb (r.tries i) 0)) (record { is = ap (λ (n : ℕ). Ok (Info failure (info (puk_of k) locked n))) r.tries }) (record { is = refl })
 
 less_alike : (t u : Table) (k : ℕ) → AllAlike t u → AllAlike (put t k (one_less (t k))) (put u k (one_less (u k)))
 less_alike t u k h j = go (eqb j k)
@@ -41,7 +42,7 @@ failed_same : (t u : Table) (k : ℕ) → AllAlike t u → Told (failed t k) (fa
 unfolding failed
 failed_same t u k h =
     let left : (t k).tries - 1 ≡ (u k).tries - 1 = ap (λ (n : ℕ). n - 1) (h k).tries in
-    by (ap (λ (n : ℕ). eqb n 0) left) (blocked_same (put t k (one_less (t k))) (put u k (one_less (u k))) k (less_alike t u k h)) (record { is = ap (λ (n : ℕ). Info failure (info k locked n)) left })
+    by (ap (λ (n : ℕ). eqb n 0) left) (blocked_same (put t k (one_less (t k))) (put u k (one_less (u k))) k (less_alike t u k h)) (record { is = ap (λ (n : ℕ). Ok (Info failure (info k locked n))) left })
 
 expected_same : (t u : Table) (k : ℕ) → AllAlike t u → expected t k ≡ expected u k
 unfolding expected

@@ -1,9 +1,10 @@
 -- Two worked runs of order 2 on the plain table: PIN1 (2) with 2 tries and its PUK (11) with 1, and DeviceSimPin (4), which has no PUK, with 1.
-use Rattle.std.specs.Prelude.{ℕ, ◌≡◌, true, false, List, [], ◌∷◌}
+use Rattle.std.specs.Prelude.{ℕ, ◌≡◌, true, false, List, [], ◌∷◌, Ok, Result}
 use Rattle.protocol.specs.Status.{no_device_support}
 use Rattle.pin_entry.specs.PinTable.{Table, empty, new_row, put, Asked, asks, call, info, answers_of}
 use Rattle.pin_entry.specs.declared.PinAnswer.{PinAnswer}
 use Rattle.pin_entry.specs.declared.PinAnswer.TheVariants.{Info, Failed}
+use Rattle.protocol.specs.declared.Refusal.{Refusal}
 
 abbrev pub secret : List ℕ
 secret = 49 ∷ 0 ∷ 50 ∷ 0 ∷ []
@@ -17,8 +18,8 @@ other = 48 ∷ 0 ∷ []
 abbrev pub start : Table
 start = put (put (put empty 2 (new_row true 2 secret)) 11 (new_row false 1 puk)) 4 (new_row true 1 secret)
 
-abbrev pub says : ℕ → ℕ → ℕ → ℕ → PinAnswer
-says status type state attempts = Info status (info type state attempts)
+abbrev pub says : ℕ → ℕ → ℕ → ℕ → Result PinAnswer Refusal
+says status type state attempts = Ok (Info status (info type state attempts))
 
 abbrev pub enters : ℕ → List ℕ → List ℕ → Asked
 enters type pin new = asks (call type 0 pin new)
@@ -37,10 +38,10 @@ calls =
     ∷ enters 4 secret []
     ∷ []
 
-abbrev pub answers : List PinAnswer
+abbrev pub answers : List (Result PinAnswer Refusal)
 answers =
-    Failed no_device_support
-    ∷ Failed no_device_support
+    Ok (Failed no_device_support)
+    ∷ Ok (Failed no_device_support)
     ∷ says 2 0 0 0
     ∷ says 2 2 1 1
     ∷ says 2 11 1 1
@@ -55,7 +56,7 @@ answers =
 abbrev pub lost_calls : List Asked
 lost_calls = enters 2 other [] ∷ enters 2 other [] ∷ enters 11 other other ∷ enters 11 puk other ∷ enters 2 secret [] ∷ []
 
-abbrev pub lost_answers : List PinAnswer
+abbrev pub lost_answers : List (Result PinAnswer Refusal)
 lost_answers = says 2 2 1 1 ∷ says 2 11 1 1 ∷ says 2 0 0 0 ∷ says 2 0 0 0 ∷ says 2 0 0 0 ∷ []
 
 -- ---- what is proved (proofs/Cases)

@@ -1,14 +1,13 @@
 -- What is claimed of entries beside the promise: the code's calls one after the other, and what an entry can change, in words of rows.
 -- In this order: a table just made; a run of the code; which entries count and which are right; what they change; what an answer tells of secrets; all of it.
-use Rattle.std.specs.Prelude.{ℕ, suc, ◌≤◌, ◌<◌, ◌≡◌, ◌⊎◌, ◌↔◌, true, false, List, [], ◌∷◌, map}
+use Rattle.std.specs.Prelude.{ℕ, suc, ◌≤◌, ◌<◌, ◌≡◌, ◌⊎◌, ◌↔◌, true, false, List, [], ◌∷◌, map, Ok, Err, Result}
 use Rattle.pin_entry.specs.PinTable.{Row, Table, put, puk_of, pin_of, is_puk, Call, same_text, enter_operation, Asked, asks, unread, entry, unsupported, expected, unblocked, entered_row, one_less, puk_table, entered, step, table_after, answers_of}
 use Rattle.pin_entry.specs.Meaning.{table_of, entry_of, asked_of, enter_of, making_of, made_of}
 use Rattle.pin_entry.specs.declared.PinTable.{PinTable}
 use Rattle.pin_entry.specs.declared.PinAnswer.{PinAnswer}
-use Rattle.pin_entry.specs.declared.PinAnswer.TheVariants.{Refused}
 use Rattle.pin_entry.specs.declared.Entered.{Entered}
 use Rattle.pin_entry.specs.declared.starts.PinStart.{PinStart}
-use Rattle.pin_entry.specs.declared.starts.PinsMade.{PinsMade}
+use Rattle.protocol.specs.declared.Refusal.{Refusal}
 
 -- ---- a table just made: "tries at their starting numbers", and no PIN is entered
 
@@ -19,13 +18,13 @@ pub record Fresh (t : Table) : Type 0 where
 -- ---- a run of the code
 
 -- each payload is given to the table as the one before left it, and gives what the promise of `enter` says
-pub data Run : PinTable → List (List ℕ) → List PinAnswer → PinTable → Type 0 where
+pub data Run : PinTable → List (List ℕ) → List (Result PinAnswer Refusal) → PinTable → Type 0 where
   ends : {p : PinTable} → Run p [] [] p
-  enters : {p q : PinTable} {s : List ℕ} {ss : List (List ℕ)} {xs : List PinAnswer} (r : Entered)
+  enters : {p q : PinTable} {s : List ℕ} {ss : List (List ℕ)} {xs : List (Result PinAnswer Refusal)} (r : Entered)
       → entry_of r ≡ enter_of (table_of p) s → Run r.table ss xs q → Run p (s ∷ ss) (r.answer ∷ xs) q
 
 -- "any sequence of entries answers as a plain table of secrets and tries does"
-pub record AsPlain (p : PinTable) (ss : List (List ℕ)) (xs : List PinAnswer) (q : PinTable) : Type 0 where
+pub record AsPlain (p : PinTable) (ss : List (List ℕ)) (xs : List (Result PinAnswer Refusal)) (q : PinTable) : Type 0 where
   pub answers : xs ≡ answers_of (table_of p) (map asked_of ss)
   pub table : table_of q ≡ table_after (table_of p) (map asked_of ss)
 
@@ -110,14 +109,14 @@ pub record CallClaims (t : Table) (c : Call) : Type 0 where
 -- a refused payload: its refusal, and the same table
 abbrev pub AskedClaims : Table → Asked → Type 0
 AskedClaims t (asks c) = CallClaims t c
-AskedClaims t (unread r) = step t (unread r) ≡ entry t (Refused r)
+AskedClaims t (unread r) = step t (unread r) ≡ entry t (Err r)
 
 -- each of a sequence, on the table that the ones before it left
 abbrev pub EachStep : Table → List Asked → Type 0
 EachStep t [] = Unit
 EachStep t (a ∷ rest) = AskedClaims t a × EachStep (step t a).table rest
 
-pub record RunClaims (p : PinTable) (ss : List (List ℕ)) (xs : List PinAnswer) (q : PinTable) : Type 0 where
+pub record RunClaims (p : PinTable) (ss : List (List ℕ)) (xs : List (Result PinAnswer Refusal)) (q : PinTable) : Type 0 where
   pub plain : AsPlain p ss xs q
   pub steps : EachStep (table_of p) (map asked_of ss)
   pub within : Within (table_of q)
@@ -143,4 +142,4 @@ MadeFresh = (rows : List PinStart) → Fresh (made_of rows).table
 
 -- from the table that `make` gives any sequence of payloads answers as the plain table, and what each can change is said above
 abbrev pub EveryRun : Type 0
-EveryRun = (rows : List PinStart) (m : PinsMade) → making_of m ≡ made_of rows → (ss : List (List ℕ)) (xs : List PinAnswer) (q : PinTable) → Run m.table ss xs q → RunClaims m.table ss xs q
+EveryRun = (rows : List PinStart) (p : PinTable) → making_of (Ok p) ≡ made_of rows → (ss : List (List ℕ)) (xs : List (Result PinAnswer Refusal)) (q : PinTable) → Run p ss xs q → RunClaims p ss xs q

@@ -1,22 +1,18 @@
 -- What the code's values mean: its table as a plain one, its answer as an entry on it, a payload as what it asks, and how a table is made.
-use Rattle.std.specs.Prelude.{ℕ, zero, suc, ◌+◌, ◌*◌, false, not, cond, List, [], ◌∷◌, eqb, ltb, get_or, take}
+use Rattle.std.specs.Prelude.{ℕ, zero, suc, ◌+◌, ◌*◌, false, not, cond, List, [], ◌∷◌, eqb, ltb, get_or, take, Ok, Err, Result}
 use Rattle.protocol.specs.Refusal.{wrong_size, outside_table}
-use Rattle.protocol.specs.Verdict.{Rule, rule, judge}
-use Rattle.protocol.specs.declared.Verdict.{Verdict}
-use Rattle.protocol.specs.declared.Verdict.TheVariants.{Fits, Fault}
+use Rattle.protocol.specs.Verdict.{Rule, rule, judge, no_fault, Verdict}
 use Rattle.folds.specs.Folds.{first_fault}
 use Rattle.pairs.specs.Pair.{unfit, part_of}
 use Rattle.pairs.specs.declared.PairKind.TheVariants.{Text}
 use Rattle.pairs.specs.declared.ZeroSize.TheVariants.{Strict}
-use Rattle.pin.specs.SetPin.{read_with}
-use Rattle.pin.specs.declared.set_pin.SetPinRead.{SetPinRead}
-use Rattle.pin.specs.declared.set_pin.SetPinRead.TheVariants as read
+use Rattle.pin.specs.SetPin.{read_with, SetPinRead}
 use Rattle.pin_entry.specs.PinTable.{Row, Table, absent, empty, new_row, put, filled, Asked, asks, unread, call, Entry, step}
 use Rattle.pin_entry.specs.declared.PinRow.{PinRow}
 use Rattle.pin_entry.specs.declared.PinTable.{PinTable}
 use Rattle.pin_entry.specs.declared.Entered.{Entered}
 use Rattle.pin_entry.specs.declared.starts.PinStart.{PinStart}
-use Rattle.pin_entry.specs.declared.starts.PinsMade.{PinsMade}
+use Rattle.protocol.specs.declared.Refusal.{Refusal}
 
 -- ---- a table
 
@@ -55,8 +51,8 @@ entry_of r = record { table = table_of r.table; answer = r.answer }
 
 -- a SET_PIN payload as what it asks: it is read by the strict choice
 abbrev pub asked_by : List ℕ → SetPinRead → Asked
-asked_by s (read.Info p x) = asks (call p.pin_type p.pin_operation (part_of s x.pin) (part_of s x.new_pin))
-asked_by s (read.Refused r) = unread r
+asked_by s (Ok (p, x)) = asks (call p.pin_type p.pin_operation (part_of s x.pin) (part_of s x.new_pin))
+asked_by s (Err r) = unread r
 
 unfoldable pub asked_of : List ℕ → Asked
 asked_of s = asked_by s (read_with Strict s)
@@ -99,12 +95,13 @@ pub record Making : Type 0 where
   pub verdict : Verdict
   pub table : Table
 
-abbrev pub making_of : PinsMade → Making
-making_of m = record { verdict = m.verdict; table = table_of m.table }
+abbrev pub making_of : Result PinTable Refusal → Making
+making_of (Ok p) = record { verdict = no_fault; table = table_of p }
+making_of (Err r) = record { verdict = Err r; table = empty }
 
 abbrev pub made_by : Verdict → List PinStart → Making
-made_by Fits rows = record { verdict = Fits; table = started rows }
-made_by (Fault r) rows = record { verdict = Fault r; table = empty }
+made_by (Ok _) rows = record { verdict = no_fault; table = started rows }
+made_by (Err r) rows = record { verdict = Err r; table = empty }
 
 unfoldable pub made_of : List PinStart → Making
 made_of rows = made_by (starts_verdict rows) rows

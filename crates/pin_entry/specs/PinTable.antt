@@ -1,11 +1,11 @@
 -- PIN entry on a plain table of secrets and tries (document 02, order 2; source document 004). Bytes, payloads and messages are not known here.
 -- In this order: the table; the pairs of PINs and PUKs; what is asked; the answers; what an entry comes to; any sequence of entries.
-use Rattle.std.specs.Prelude.{ℕ, zero, suc, ◌-◌, Bool, true, false, not, cond, ◌&&◌, List, [], ◌∷◌, eqb, get_or}
+use Rattle.std.specs.Prelude.{ℕ, zero, suc, ◌-◌, Bool, true, false, not, cond, ◌&&◌, List, [], ◌∷◌, eqb, get_or, Ok, Err, Result}
 use Rattle.protocol.specs.Status.{success, failure, no_device_support}
 use Rattle.protocol.specs.declared.Refusal.{Refusal}
 use Rattle.pin.specs.declared.pin_info.PinInfo.{PinInfo}
 use Rattle.pin_entry.specs.declared.PinAnswer.{PinAnswer}
-use Rattle.pin_entry.specs.declared.PinAnswer.TheVariants.{Info, Failed, Refused}
+use Rattle.pin_entry.specs.declared.PinAnswer.TheVariants.{Info, Failed}
 
 -- ---- the table
 
@@ -92,9 +92,9 @@ same_text (x ∷ xs) (y ∷ ys) = eqb x y && same_text xs ys
 -- the table after an entry, and its answer
 pub record Entry : Type 0 where
   pub table : Table
-  pub answer : PinAnswer
+  pub answer : Result PinAnswer Refusal
 
-abbrev pub entry : Table → PinAnswer → Entry
+abbrev pub entry : Table → (Result PinAnswer Refusal) → Entry
 entry t a = record { table = t; answer = a }
 
 abbrev pub info : ℕ → ℕ → ℕ → PinInfo
@@ -109,26 +109,26 @@ locked = 1
 
 -- "status 9, no payload"
 abbrev pub unsupported : Table → Entry
-unsupported t = entry t (Failed no_device_support)
+unsupported t = entry t (Ok (Failed no_device_support))
 
 -- "Disabled or not expected: status 2, type None"
 abbrev pub unexpected : Table → Entry
-unexpected t = entry t (Info failure no_info)
+unexpected t = entry t (Ok (Info failure no_info))
 
 -- "Right: status 0, type None"
 abbrev pub granted : Table → Entry
-granted t = entry t (Info success no_info)
+granted t = entry t (Ok (Info success no_info))
 
 -- "tries left: status 2, same type, locked, tries left"
 abbrev pub locked_with : Table → ℕ → ℕ → Entry
-locked_with t k tries = entry t (Info failure (info k locked tries))
+locked_with t k tries = entry t (Ok (Info failure (info k locked tries)))
 
 -- "Tries gone, now or before: status 2 with the PUK type, locked, and the PUK's tries, or all three 0 if there is no PUK or it is used up"
 abbrev pub usable : Row → Bool
 usable r = r.present && not (eqb r.tries 0)
 
 abbrev pub locked_out : Table → Entry
-locked_out t = entry t (Info failure no_info)
+locked_out t = entry t (Ok (Info failure no_info))
 
 unfoldable pub blocked : Table → ℕ → Entry
 blocked t k = cond (usable (t (puk_of k))) (locked_with t (puk_of k) (t (puk_of k)).tries) (locked_out t)
@@ -192,7 +192,7 @@ entered t c =
 -- "Refusals: as in 01 .. Neither changes the table"
 unfoldable pub step : Table → Asked → Entry
 step t (asks c) = entered t c
-step t (unread r) = entry t (Refused r)
+step t (unread r) = entry t (Err r)
 
 -- ---- any sequence of entries
 
@@ -200,6 +200,6 @@ unfoldable pub table_after : Table → List Asked → Table
 table_after t [] = t
 table_after t (a ∷ rest) = table_after (step t a).table rest
 
-unfoldable pub answers_of : Table → List Asked → List PinAnswer
+unfoldable pub answers_of : Table → List Asked → List (Result PinAnswer Refusal)
 answers_of t [] = []
 answers_of t (a ∷ rest) = (step t a).answer ∷ answers_of (step t a).table rest

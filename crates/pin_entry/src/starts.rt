@@ -6,10 +6,10 @@ ghost use Rattle.pin_entry.specs.Meaning.{row_of, table_of, start_rules, starts_
 use crate::{PinRow, PinTable, ROWS, absent_row, no_pins, with_row_at};
 use pairs::{PairKind, is_unfit};
 use pin::set_pin::MOST_TEXT;
-use protocol::{OUTSIDE_TABLE, Verdict, WRONG_SIZE, also};
+use protocol::{Reason, Refusal, Verdict, refuse_if};
 
 // A PIN or a PUK. `present` and `enabled` are 0 or 1; the first `secret_length` bytes of `secret`
-// count. Of a row that is not present nothing else is used.
+// count. Of a row that is not present nothing else is used. Numbers for flags: C interface.
 #[repr(C)]
 #[derive(Clone, Copy)]
 pub struct PinStart {
@@ -27,13 +27,6 @@ pub struct PinStarts {
     pub rows: [PinStart; 17],
 }
 
-// A table made, and the verdict on what it was made of; a refused one has no rows.
-#[derive(Clone, Copy)]
-pub struct PinsMade {
-    pub verdict: Verdict,
-    pub table: PinTable,
-}
-
 // The bytes of a row, and the places in it.
 const ROW_SIZE: usize = 48;
 
@@ -42,59 +35,48 @@ const ENABLED: usize = 4;
 const SECRET_LENGTH: usize = 12;
 
 // A table with no PIN entered and all tries at their starting numbers.
-pub fn make(starts: PinStarts) -> PinsMade
+#[tactic(auto, unfolding(crate::specs::Meaning::made_of))]
+pub fn make(starts: PinStarts) -> Result<PinTable, Refusal>
     ensures { making_of result ≡ made_of starts.rows }
 {
-    match judge_starts(starts) {
-        Verdict::Fits => PinsMade {
-            verdict: Verdict::Fits,
-            table: table_from(starts),
-        },
-        Verdict::Fault(refusal) => PinsMade {
-            verdict: Verdict::Fault(refusal),
-            table: no_pins(),
-        },
-    }
+    judge_starts(starts)?;
+    Ok(table_from(starts))
 }
 
 // The verdict on what a table is made of, row by row.
+#[tactic(auto, using(crate::proofs::Rows::none_judged, folds::proofs::Laws::fits_next, folds::proofs::Laws::fault_at), unfolding(crate::specs::Meaning::starts_verdict))]
 pub fn judge_starts(starts: PinStarts) -> Verdict
     ensures { result ≡ starts_verdict starts.rows }
 {
-    let mut i: usize = 0;
-    while i < ROWS {
-        if let Verdict::Fault(refusal) = judge_start(i * ROW_SIZE, starts.rows[i]) {
-            return Verdict::Fault(refusal);
-        }
-        i += 1;
+    for i in 0..ROWS {
+        judge_start(i * ROW_SIZE, starts.rows[i])?;
     }
-    Verdict::Fits
+    Ok(())
 }
 
 // The verdict on the row at a place.
+#[tactic(auto, unfolding(protocol::specs::Verdict::judge_from, protocol::specs::Verdict::first_of, protocol::specs::Verdict::fault_if))]
 fn judge_start(at: usize, start: PinStart) -> Verdict
     requires { at ≤ 768 }
     ensures { result ≡ judge (start_rules at start) }
 {
-    let present = also(Verdict::Fits, 1 < start.present, OUTSIDE_TABLE, at);
-    let enabled = also(present, 1 < start.enabled, OUTSIDE_TABLE, at + ENABLED);
-    let size = start.secret_length as usize;
-    also(
-        enabled,
-        is_unfit(PairKind::Text, MOST_TEXT as u32, size),
-        WRONG_SIZE,
-        at + SECRET_LENGTH,
-    )
+    let unfit = is_unfit(
+        PairKind::Text,
+        MOST_TEXT as u32,
+        start.secret_length as usize,
+    );
+    refuse_if(1 < start.present, Reason::OutsideTable, at)?;
+    refuse_if(1 < start.enabled, Reason::OutsideTable, at + ENABLED)?;
+    refuse_if(unfit, Reason::WrongSize, at + SECRET_LENGTH)
 }
 
+#[tactic(auto, using(crate::proofs::Rows::filled_none, crate::proofs::Rows::filled_next))]
 fn table_from(starts: PinStarts) -> PinTable
     ensures { table_of result ≡ started starts.rows }
 {
     let mut table = no_pins();
-    let mut i: usize = 0;
-    while i < ROWS {
+    for i in 0..ROWS {
         table = with_row_at(table, i, row_from(starts.rows[i]));
-        i += 1;
     }
     table
 }

@@ -10,19 +10,13 @@ use borrow.Author.Tests.{le-ltb, lt-ltb, ne_eqb}
 use lib.Dec.{eqb}
 use lib.ListN.{length}
 use Rattle.protocol.specs.MessageType.{SET}
-use Rattle.protocol.specs.Service.{basic_connect, id_at, same_id, among, kind_of}
+use Rattle.protocol.specs.Service.{basic_connect, id_at, same_id, among, kind_of, Carried}
 use Rattle.wire.specs.Numbers.{u32_at}
-use Rattle.protocol.specs.Verdict.{judge, judge_from, first_of, fault_if, with_room, given, writing}
+use Rattle.protocol.specs.Verdict.{judge, judge_from, first_of, fault_if, with_room, given, writing, no_fault, Verdict, Written}
 use Rattle.protocol.specs.declared.Version.{Version}
-use Rattle.protocol.specs.declared.Written.{Written}
-use Rattle.protocol.specs.declared.Written.TheVariants as written
 use Rattle.protocol.specs.declared.service.Kind.TheVariants as kinds
-use Rattle.protocol.specs.declared.service.Carried.{Carried}
-use Rattle.protocol.specs.declared.service.Carried.TheVariants as carried
-use Rattle.version_info.specs.VersionInfo.{read_of}
+use Rattle.version_info.specs.VersionInfo.{read_of, VersionInfoRead}
 use Rattle.version_info.specs.VersionInfo as version_info
-use Rattle.version_info.specs.declared.VersionInfoRead.{VersionInfoRead}
-use Rattle.version_info.specs.declared.VersionInfoRead.TheVariants as version
 use Rattle.message.specs.declared.MessageHeader.{MessageHeader}
 use Rattle.handshake.specs.Versions.{version_of, info_of}
 use Rattle.handshake.specs.Commands.{role_of_kind, role_of}
@@ -32,14 +26,10 @@ use Rattle.modem.specs.Modem as modem
 use Rattle.modem.specs.declared.Modem.{Modem}
 use Rattle.modem.specs.declared.ModemStage.{ModemStage}
 use Rattle.modem.specs.declared.ModemStage.TheVariants.{Start, Listed, Settled}
-use Rattle.protocol.specs.declared.Verdict.{Verdict}
-use Rattle.protocol.specs.declared.Verdict.TheVariants.{Fits, Fault}
 use Rattle.protocol.proofs.Tests.{and_both}
 use Rattle.pairs.specs.declared.ZeroSize.TheVariants.{Strict}
 use Rattle.pin.specs.PinInfo.{rules, verdict_of, bytes_of, write_of}
-use Rattle.pin.specs.SetPin.{read_with}
-use Rattle.pin.specs.declared.set_pin.SetPinRead.{SetPinRead}
-use Rattle.pin.specs.declared.set_pin.SetPinRead.TheVariants as read
+use Rattle.pin.specs.SetPin.{read_with, SetPinRead}
 use Rattle.pin.proofs.PinInfoLaws.{said_verdict}
 use Rattle.pin.proofs.SetPinLaws.{accepted}
 use Rattle.pin_entry.specs.PinTable.{Table, puk_of, info, locked, step, table_after}
@@ -51,6 +41,8 @@ use Rattle.pin_entry.proofs.Runs.{hidden_same}
 use Rattle.pin_entry.proofs.Effects.{false_true, answers_are}
 use Rattle.pin_modem.specs.PinModem.{serves_pin, is_entry, reply_of, serve_by, serve_of, receive_by, receive_of}
 use Rattle.pin_modem.specs.Claims.{OthersAsWithout, NoRoom, RefusedFails, PinSet, WaitingFails, FirstReaches, SettledReaches, Message, alone, alone_after, reaching, ends, after_all, ApartFromEachOther}
+use Rattle.std.specs.Prelude.{Ok, Err, Result}
+use Rattle.protocol.specs.declared.Refusal.{Refusal}
 
 pub others_as_without : OthersAsWithout
 unfolding receive_of
@@ -58,12 +50,12 @@ others_as_without x t h s out e = rw e
 
 -- ---- what an answer shows can be written
 
-abbrev Writable : PinAnswer → Type 0
-Writable (pin.Info status i) = verdict_of i ≡ Fits
-Writable (pin.Failed status) = Unit
-Writable (pin.Refused r) = Unit
+abbrev Writable : (Result PinAnswer Refusal) → Type 0
+Writable (Ok (pin.Info status i)) = verdict_of i ≡ no_fault
+Writable (Ok (pin.Failed status)) = Unit
+Writable (Err r) = Unit
 
-type_fits : (k n : ℕ) → k ≤ 17 → verdict_of (info k locked n) ≡ Fits
+type_fits : (k n : ℕ) → k ≤ 17 → verdict_of (info k locked n) ≡ no_fault
 type_fits k n l = said_verdict (info k locked n) (record { type = l; state = omega arith })
 
 answer_writable : (t : Table) (s : List ℕ) → Writable (enter_of t s).answer
@@ -71,18 +63,18 @@ unfolding enter_of asked_of step verdict_of rules judge_from first_of fault_if
 answer_writable t s = go (read_with Strict s) refl
   where
     go : (r : SetPinRead) → read_with Strict s ≡ r → Writable (step t (asked_by s r)).answer
-    go (read.Info p x) e =
+    go (Ok (p, x)) e =
         let a = accepted Strict s p x e in
         let l : p.pin_type ≤ 17 = rw a.1.0 a.0.numbers.type in
         answers_are Writable t _ tt refl refl (λ n. type_fits p.pin_type n l) (λ n. type_fits (puk_of p.pin_type) n (puk_within p.pin_type))
-    go (read.Refused r) e = tt
+    go (Err r) e = tt
 
 -- ---- an entry
 
 pub no_room : NoRoom
 unfolding serve_of serve_by reply_of write_of bytes_of writing with_room given first_of fault_if
 no_room x y t s out status i e l =
-    let w : verdict_of i ≡ Fits = rw e at (answer_writable t s) in
+    let w : verdict_of i ≡ no_fault = rw e at (answer_writable t s) in
     rw (e, w, lt-ltb (length out) 12 l)
 
 pub refused_fails : RefusedFails
@@ -95,25 +87,25 @@ entry_after : (x y : Modem) (t : Table) (s out : List ℕ) → 12 ≤ length out
 unfolding serve_of serve_by reply_of write_of bytes_of writing with_room given first_of fault_if
 entry_after x y t s out l = go (enter_of t s).answer (answer_writable t s)
   where
-    go : (a : PinAnswer) → Writable a → ((serve_by a x t y (enter_of t s).table out).serving.modem ≡ y) × ((serve_by a x t y (enter_of t s).table out).serving.table ≡ (enter_of t s).table)
-    go (pin.Info status i) w = rw (w, le-ltb (length out) 12 l) (refl, refl)
-    go (pin.Failed status) w = (refl, refl)
-    go (pin.Refused r) w = (refl, refl)
+    go : (a : (Result PinAnswer Refusal)) → Writable a → ((serve_by a x t y (enter_of t s).table out).serving.modem ≡ y) × ((serve_by a x t y (enter_of t s).table out).serving.table ≡ (enter_of t s).table)
+    go (Ok (pin.Info status i)) w = rw (w, le-ltb (length out) 12 l) (refl, refl)
+    go (Ok (pin.Failed status)) w = (refl, refl)
+    go (Err r) w = (refl, refl)
 
 -- ---- which PIN commands reach the table
 
 -- a PIN command is no question of the handshake
-pin_kind : kind_of (id_at basic_connect 0) 4 ≡ carried.Payload kinds.PinInfo
+pin_kind : kind_of (id_at basic_connect 0) 4 ≡ Ok kinds.PinInfo
 unfolding kind_of among same_id id_at u32_at basic_connect
 pin_kind = refl
 
-pin_command : (x : Modem) (h : MessageHeader) (s out : List ℕ) → PinSet h → modem.receive_of x h s out ≡ modem.plain (modem.other_at x.stage x (carried.Payload kinds.PinInfo)) out
+pin_command : (x : Modem) (h : MessageHeader) (s out : List ℕ) → PinSet h → modem.receive_of x h s out ≡ modem.plain (modem.other_at x.stage x (Ok kinds.PinInfo)) out
 unfolding modem.receive_of modem.receive_by modem.command_of modem.command_by role_of role_of_kind judge_from first_of fault_if
 pin_command x h s out p = rw (p.command, ne_eqb h.transaction 0 (λ e. omega (arith, e, p.numbered)), p.service, p.cid, pin_kind) refl
 
 -- a PIN command to a modem at a stage
 at_stage : (x : Modem) (t : Table) (h : MessageHeader) (s out : List ℕ) (g : ModemStage) → PinSet h → x.stage ≡ g
-    → receive_of x t h s out ≡ (let c = modem.plain (modem.other_at g x (carried.Payload kinds.PinInfo)) out in receive_by (is_entry h c.step.answer) c x t s)
+    → receive_of x t h s out ≡ (let c = modem.plain (modem.other_at g x (Ok kinds.PinInfo)) out in receive_by (is_entry h c.step.answer) c x t s)
 unfolding receive_of
 at_stage x t h s out g p e = rw (pin_command x h s out p, e)
 
@@ -138,14 +130,14 @@ unfolding modem.version_of_command modem.answer_by modem.give_of modem.gave
 version_no_entry x type s out = by_test (modem.can_answer x type)
   where
     by_written : (w : Written) (v : Version) → serves_pin (modem.gave_by w x v).answer ≡ false
-    by_written (written.Length n) v = refl
-    by_written (written.Refused r) v = refl
+    by_written (Ok n) v = refl
+    by_written (Err r) v = refl
 
     by_read : (r : VersionInfoRead) → serves_pin (modem.answer_by x r out).step.answer ≡ false
-    by_read (version.Info i) =
+    by_read (Ok i) =
         let v : Version = modem.answer_of x (version_of i.bcd_mbim_extended_version) in
         by_written (version_info.write_of (info_of v) out).answer v
-    by_read (version.Refused r) = refl
+    by_read (Err r) = refl
 
     by_test : (b : Bool) → serves_pin (cond b (modem.answer_by x (read_of s) out) (modem.plain (modem.failed x) out)).step.answer ≡ false
     by_test true = by_read (read_of s)
@@ -162,8 +154,8 @@ entry_output x h s out = by_verdict (judge (modem.command_rules h))
     by_role role.Other c e = refl
 
     by_verdict : (v : Verdict) → serves_pin (modem.receive_by v x h s out).step.answer ≡ true → (modem.receive_by v x h s out).output ≡ out
-    by_verdict Fits e = by_role (role_of (kind_of h.service h.cid)) (kind_of h.service h.cid) e
-    by_verdict (Fault r) e = refl
+    by_verdict (Ok _) e = by_role (role_of (kind_of h.service h.cid)) (kind_of h.service h.cid) e
+    by_verdict (Err r) e = refl
 
 -- end and table after a message
 module _ (x : Modem) (t : Table) (m : Message) (l : 12 ≤ length m.output) where

@@ -1,6 +1,6 @@
 -- What is claimed of the modem's end with a table of PINs beside the promises: the handshake's own rules come first, and PINs don't disturb it.
 -- In this order: a message that is no entry, and one that is; which PIN commands reach the table; any messages one after the other.
-use Rattle.std.specs.Prelude.{ℕ, ◌≤◌, ◌<◌, ◌≡◌, ◌⊎◌, false, cond, List, [], ◌∷◌, map, length}
+use Rattle.std.specs.Prelude.{ℕ, ◌≤◌, ◌<◌, ◌≡◌, ◌⊎◌, false, cond, List, [], ◌∷◌, map, length, Ok, Err}
 use Rattle.protocol.specs.Refusal.{refusal, output_too_small}
 use Rattle.protocol.specs.MessageType.{COMMAND, SET}
 use Rattle.protocol.specs.Service.{basic_connect, id_at}
@@ -18,7 +18,7 @@ use Rattle.pin.specs.declared.pin_info.PinInfo.{PinInfo}
 use Rattle.pin_entry.specs.PinTable.{Table, table_after}
 use Rattle.pin_entry.specs.Meaning.{asked_of, enter_of}
 use Rattle.pin_entry.specs.declared.PinAnswer.TheVariants as pin
-use Rattle.pin_modem.specs.PinModem.{is_entry, serving, served, serve_of, receive_of}
+use Rattle.pin_modem.specs.PinModem.{as_modem, is_entry, serving, served, serve_of, receive_of}
 use Rattle.pin_modem.specs.declared.PinModemAnswer.TheVariants.{Modem as AsModem}
 
 -- ---- a message that is no entry, and one that is
@@ -27,17 +27,17 @@ use Rattle.pin_modem.specs.declared.PinModemAnswer.TheVariants.{Modem as AsModem
 abbrev pub OthersAsWithout : Type 0
 OthersAsWithout = (x : Modem) (t : Table) (h : MessageHeader) (s out : List ℕ) → is_entry h (modem.receive_of x h s out).step.answer ≡ false
     → receive_of x t h s out
-    ≡ served (serving (modem.receive_of x h s out).step.modem t (AsModem (modem.receive_of x h s out).step.answer)) (modem.receive_of x h s out).output
+    ≡ served (serving (modem.receive_of x h s out).step.modem t (as_modem (modem.receive_of x h s out).step.answer)) (modem.receive_of x h s out).output
 
 -- "Too little room for the reply": 11 at 12, and end, table and output are as they were
 abbrev pub NoRoom : Type 0
-NoRoom = (x y : Modem) (t : Table) (s out : List ℕ) (status : ℕ) (i : PinInfo) → (enter_of t s).answer ≡ pin.Info status i → length out < 12
-    → serve_of x y t s out ≡ served (serving x t (AsModem (answer.Refused (refusal output_too_small 12)))) out
+NoRoom = (x y : Modem) (t : Table) (s out : List ℕ) (status : ℕ) (i : PinInfo) → (enter_of t s).answer ≡ Ok (pin.Info status i) → length out < 12
+    → serve_of x y t s out ≡ served (serving x t (Err (refusal output_too_small 12))) out
 
 -- a payload that is refused: status 9 without a payload, and the table stays
 abbrev pub RefusedFails : Type 0
-RefusedFails = (x y : Modem) (t : Table) (s out : List ℕ) (r : Refusal) → (enter_of t s).answer ≡ pin.Refused r
-    → serve_of x y t s out ≡ served (serving y t (AsModem (answer.Failed no_device_support))) out
+RefusedFails = (x y : Modem) (t : Table) (s out : List ℕ) (r : Refusal) → (enter_of t s).answer ≡ Err r
+    → serve_of x y t s out ≡ served (serving y t (Ok (AsModem (answer.Failed no_device_support)))) out
 
 -- ---- which PIN commands reach the table
 
@@ -56,7 +56,7 @@ Waits x = (x.stage ≡ Start) ⊎ ((x.stage ≡ Listed) × (x.advertised ≡ V2)
 -- a modem that waits answers status 9, and nothing changes
 abbrev pub WaitingFails : Type 0
 WaitingFails = (x : Modem) (t : Table) (h : MessageHeader) (s out : List ℕ) → PinSet h → Waits x
-    → receive_of x t h s out ≡ served (serving x t (AsModem (answer.Failed no_device_support))) out
+    → receive_of x t h s out ≡ served (serving x t (Ok (AsModem (answer.Failed no_device_support)))) out
 
 -- advertised 1.00, the command settles the modem and then reaches the table
 abbrev pub FirstReaches : Type 0

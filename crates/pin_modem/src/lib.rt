@@ -2,19 +2,20 @@
 // Everything else is as the modem's end answers it.
 #![tactic(auto)]
 
-ghost use Rattle.std.specs.Prelude.{◌≡◌};
-ghost use Rattle.pin_entry.specs.Meaning.{table_of, enter_of};
-ghost use Rattle.pin_modem.specs.PinModem.{is_pin, serves_pin, is_entry, serving_of, reply_of, serve_of, receive_of};
+ghost use Rattle.std.specs.Prelude.{◌≡◌, Ok};
+ghost use Rattle.pin_entry.specs.Meaning.{table_of};
+ghost use Rattle.modem.specs.declared.ModemAnswer.TheVariants.{Failed};
+ghost use Rattle.pin_modem.specs.PinModem.{is_entry, serving, serving_of, serve_of, receive_of};
+ghost use Rattle.pin_modem.specs.declared.PinModemAnswer.TheVariants.{Modem as AsModem};
 
 use message::MessageHeader;
-use modem::{Modem, ModemAnswer, ModemStep};
+use modem::{Modem, ModemAnswer};
 use pin::pin_info;
-use pin::pin_info::PinInfo;
-use pin_entry::{Entered, PinAnswer, PinTable, enter};
+use pin_entry::{PinAnswer, PinTable, enter};
+use protocol::Refusal;
 use protocol::message_type::SET;
 use protocol::service::Kind;
 use protocol::status::NO_DEVICE_SUPPORT;
-use protocol::{Refusal, Written};
 
 // What a message is answered.
 #[derive(Clone, Copy)]
@@ -30,11 +31,12 @@ pub enum PinModemAnswer {
 pub struct PinModemStep {
     pub modem: Modem,
     pub table: PinTable,
-    pub answer: PinModemAnswer,
+    pub answer: Result<PinModemAnswer, Refusal>,
 }
 
 // A received message, which is to be a COMMAND of a transaction. Where it is refused, end and table
 // stay as they were.
+#[tactic(auto, unfolding(crate::specs::PinModem::receive_of))]
 pub fn receive(
     modem: Modem,
     table: PinTable,
@@ -46,50 +48,26 @@ pub fn receive(
     ensures out_after { out.new ≡ (receive_of modem (table_of table) message information.now out.old).output }
 {
     let step = modem::receive(modem, message, information, out);
-    let after = step.modem;
-    let answer = step.answer;
-    if is_entry(message, answer) {
-        return serve(modem, after, table, information, out);
+    if is_entry(message, step.answer) {
+        return serve(modem, step.modem, table, information, out);
     }
     PinModemStep {
-        modem: after,
+        modem: step.modem,
         table,
-        answer: PinModemAnswer::Modem(answer),
+        answer: step.answer.map(PinModemAnswer::Modem),
     }
 }
 
 // Whether a message that the modem's end answers so is an entry.
-pub fn is_entry(message: MessageHeader, answer: ModemAnswer) -> bool
+#[tactic(auto, unfolding(crate::specs::PinModem::is_entry))]
+pub fn is_entry(message: MessageHeader, answer: Result<ModemAnswer, Refusal>) -> bool
     ensures { result ≡ is_entry message answer }
 {
-    if message.word != SET {
-        return false;
-    }
-    match answer {
-        ModemAnswer::Serve(kind) => is_pin(kind),
-        ModemAnswer::Version(_) => false,
-        ModemAnswer::Unknown(_) => false,
-        ModemAnswer::Failed(_) => false,
-        ModemAnswer::Refused(_) => false,
-    }
-}
-
-// Whether a command's answers are those of CID 4.
-fn is_pin(kind: Kind) -> bool
-    ensures { result ≡ is_pin kind }
-{
-    match kind {
-        Kind::RegisterState => false,
-        Kind::PacketService => false,
-        Kind::SignalState => false,
-        Kind::DeviceServices => false,
-        Kind::VersionInfo => false,
-        Kind::SetPin => false,
-        Kind::PinInfo => true,
-    }
+    message.word == SET && matches!(answer, Ok(ModemAnswer::Serve(Kind::PinInfo)))
 }
 
 // An entry: the end before and after the handshake's rules, the table and the payload.
+#[tactic(auto, unfolding(crate::specs::PinModem::serve_of, crate::specs::PinModem::serve_by, crate::specs::PinModem::reply_of))]
 pub fn serve(
     before: Modem,
     after: Modem,
@@ -101,30 +79,31 @@ pub fn serve(
     ensures out_after { out.new ≡ (serve_of before after (table_of table) payload.now out.old).output }
 {
     let entered = enter(table, payload);
-    let next = entered.table;
-    let answer = entered.answer;
-    match answer {
-        PinAnswer::Info { status, info } => match pin_info::write(info, out) {
-            Written::Length(length) => PinModemStep {
+    match entered.answer {
+        Ok(PinAnswer::Info { status, info }) => match pin_info::write(info, out) {
+            Ok(length) => PinModemStep {
                 modem: after,
-                table: next,
-                answer: PinModemAnswer::Pin { status, length },
+                table: entered.table,
+                answer: Ok(PinModemAnswer::Pin { status, length }),
             },
-            Written::Refused(refusal) => PinModemStep {
+            Err(refusal) => PinModemStep {
                 modem: before,
                 table,
-                answer: PinModemAnswer::Modem(ModemAnswer::Refused(refusal)),
+                answer: Err(refusal),
             },
         },
-        PinAnswer::Failed(status) => PinModemStep {
-            modem: after,
-            table: next,
-            answer: PinModemAnswer::Modem(ModemAnswer::Failed(status)),
-        },
-        PinAnswer::Refused(_) => PinModemStep {
-            modem: after,
-            table: next,
-            answer: PinModemAnswer::Modem(ModemAnswer::Failed(NO_DEVICE_SUPPORT)),
-        },
+        Ok(PinAnswer::Failed(status)) => failed(after, entered.table, status),
+        Err(_) => failed(after, entered.table, NO_DEVICE_SUPPORT),
+    }
+}
+
+// A status without a payload.
+fn failed(modem: Modem, table: PinTable, status: u32) -> PinModemStep
+    ensures { serving_of result ≡ serving modem (table_of table) (Ok (AsModem (Failed status))) }
+{
+    PinModemStep {
+        modem,
+        table,
+        answer: Ok(PinModemAnswer::Modem(ModemAnswer::Failed(status))),
     }
 }

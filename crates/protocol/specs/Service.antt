@@ -1,13 +1,15 @@
 -- Known services and their CIDs (document 01, "Known services"; CID 4 by document 02, order 2): "service ids are 16 bytes in printed order".
 -- In this order: the ids as printed; an id as four words; the CIDs of each service; what a service and a CID stand for.
-use Rattle.std.specs.Prelude.{ℕ, ◌+◌, Bool, cond, ◌&&◌, List, [], ◌∷◌, ◌++◌, eqb}
+use Rattle.std.specs.Prelude.{ℕ, ◌+◌, Bool, cond, ◌&&◌, List, [], ◌∷◌, ◌++◌, eqb, Ok, Err, Result}
 use Rattle.wire.specs.Numbers.{u32_at, digits}
 use Rattle.protocol.specs.Refusal.{refusal, unknown}
 use Rattle.protocol.specs.declared.service.ServiceId.{ServiceId}
 use Rattle.protocol.specs.declared.service.Kind.{Kind}
 use Rattle.protocol.specs.declared.service.Kind.TheVariants.{RegisterState, PacketService, SignalState, DeviceServices, VersionInfo, PinInfo}
-use Rattle.protocol.specs.declared.service.Carried.{Carried}
-use Rattle.protocol.specs.declared.service.Carried.TheVariants.{Payload, Refused}
+use Rattle.protocol.specs.declared.Refusal.{Refusal}
+
+abbrev pub Carried : Type 0
+Carried = Result Kind Refusal
 
 -- ---- the ids, as printed
 
@@ -50,11 +52,11 @@ extensions_cids = row 15 VersionInfo ∷ []
 -- ---- what a service and a CID stand for: the service is judged, then the CID
 
 unfoldable pub among : ℕ → List Row → Carried
-among cid [] = Refused (refusal unknown 36)
-among cid (r ∷ rs) = cond (eqb cid r.cid) (Payload r.kind) (among cid rs)
+among cid [] = Err (refusal unknown 36)
+among cid (r ∷ rs) = cond (eqb cid r.cid) (Ok r.kind) (among cid rs)
 
 unfoldable pub kind_of : ServiceId → ℕ → Carried
 kind_of id cid =
     cond (same_id id (id_at basic_connect 0)) (among cid basic_connect_cids)
     (cond (same_id id (id_at extensions 0)) (among cid extensions_cids)
-    (Refused (refusal unknown 20)))
+    (Err (refusal unknown 20)))

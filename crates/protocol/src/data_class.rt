@@ -12,6 +12,7 @@ pub fn is_only_classes(version: Version, field: u32) -> bool
 }
 
 // Whether the field is 0 or one class.
+#[tactic(auto, using(crate::proofs::Classes::counted, crate::proofs::Classes::outside))]
 pub fn is_one_class_or_none(version: Version, field: u32) -> bool
     ensures { result ≡ one_class_or_none version field }
 {
@@ -23,6 +24,7 @@ pub fn is_one_class_or_none(version: Version, field: u32) -> bool
 }
 
 // Whether the field is one class.
+#[tactic(auto, using(crate::proofs::Classes::counted_one, crate::proofs::Classes::outside_one))]
 pub fn is_one_class(version: Version, field: u32) -> bool
     ensures { result ≡ one_class version field }
 {
@@ -33,6 +35,7 @@ pub fn is_one_class(version: Version, field: u32) -> bool
     false
 }
 
+#[tactic(auto, unfolding(crate::specs::DataClass::class_bits, crate::specs::DataClass::sum_of_bits, crate::specs::DataClass::mask_of))]
 fn mask(version: Version) -> u32
     ensures { result ≡ mask_of version }
 {

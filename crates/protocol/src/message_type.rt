@@ -2,6 +2,8 @@
 ghost use Rattle.std.specs.Prelude.{◌≡◌};
 ghost use Rattle.protocol.specs.MessageType.{is_whole, is_fragmented};
 
+// Numbers and no enum: a header may have any type, from the line or from C, and what it is not is a refusal
+// (`is_whole`, `is_fragmented`).
 pub const OPEN: u32 = 1;
 
 pub const CLOSE: u32 = 2;
@@ -25,6 +27,7 @@ pub const QUERY: u32 = 0;
 
 pub const SET: u32 = 1;
 
+#[tactic(auto, unfolding(crate::specs::MessageType::is_whole))]
 pub fn is_whole(message_type: u32) -> bool
     ensures { result ≡ is_whole message_type }
 {
@@ -39,6 +42,7 @@ pub fn is_whole(message_type: u32) -> bool
     }
 }
 
+#[tactic(auto, unfolding(crate::specs::MessageType::is_fragmented))]
 pub fn is_fragmented(message_type: u32) -> bool
     ensures { result ≡ is_fragmented message_type }
 {

@@ -3,12 +3,12 @@ ghost use Rattle.std.specs.Prelude.{◌≡◌};
 ghost use Rattle.std.proofs.lemmas.List.Edits.{sets};
 ghost use Rattle.protocol.specs.Service.{basic_connect, extensions, id_at, id_bytes, same_id, basic_connect_cids, extensions_cids, among, kind_of};
 
-use crate::{Refusal, UNKNOWN};
+use crate::{Reason, Refusal};
 use wire::{put_u32, u32_at};
 
 // The 16 bytes of a service id in printed order, as four little-endian words.
 #[repr(C)]
-#[derive(Clone, Copy)]
+#[derive(Clone, Copy, PartialEq, Eq)]
 pub struct ServiceId {
     pub word0: u32,
     pub word1: u32,
@@ -28,17 +28,10 @@ pub enum Kind {
     PinInfo,
 }
 
-// What a service and a CID stand for: the payload that its answers carry.
-#[derive(Clone, Copy)]
-pub enum Carried {
-    Payload(Kind),
-    Refused(Refusal),
-}
-
 // The bytes of an id.
 const ID_SIZE: usize = 16;
 
-// CIDs of Basic Connect.
+// CIDs of Basic Connect. A CID is any number until `kind_of` judges it; from there on it is a Kind.
 pub const PIN: u32 = 4;
 
 pub const REGISTER_STATE: u32 = 9;
@@ -52,6 +45,8 @@ pub const DEVICE_SERVICES: u32 = 16;
 // CIDs of the extensions.
 pub const VERSION: u32 = 15;
 
+#[tactic(auto, unfolding(crate::specs::Service::basic_connect, crate::specs::Service::id_at, wire::specs::Numbers::u32_at))]
+// The two ids are two constants with a proof each; nothing else is the same.
 pub fn basic_connect_id() -> ServiceId
     ensures { result ≡ id_at basic_connect 0 }
 {
@@ -63,6 +58,7 @@ pub fn basic_connect_id() -> ServiceId
     }
 }
 
+#[tactic(auto, unfolding(crate::specs::Service::extensions, crate::specs::Service::id_at, wire::specs::Numbers::u32_at))]
 pub fn extensions_id() -> ServiceId
     ensures { result ≡ id_at extensions 0 }
 {
@@ -103,6 +99,7 @@ pub fn id_at(s: &[u8], at: usize) -> ServiceId
     }
 }
 
+#[tactic(auto, using(wire::proofs::Laws::sets_out, crate::proofs::Services::four_words))]
 pub fn put_id(out: &mut [u8], at: usize, id: ServiceId)
     ensures { out.new ≡ sets out.old at (id_bytes id) }
 {
@@ -115,23 +112,16 @@ pub fn put_id(out: &mut [u8], at: usize, id: ServiceId)
     put_u32(out, at + 12, id.word3);
 }
 
+#[tactic(auto, unfolding(crate::specs::Service::same_id))]
 pub fn is_same_id(a: ServiceId, b: ServiceId) -> bool
     ensures { result ≡ same_id a b }
 {
-    if a.word0 != b.word0 {
-        return false;
-    }
-    if a.word1 != b.word1 {
-        return false;
-    }
-    if a.word2 != b.word2 {
-        return false;
-    }
-    a.word3 == b.word3
+    a == b
 }
 
 // The payload of a known service and CID: the service is judged, then the CID.
-pub fn kind_of(id: ServiceId, cid: u32) -> Carried
+#[tactic(auto, unfolding(crate::specs::Service::kind_of))]
+pub fn kind_of(id: ServiceId, cid: u32) -> Result<Kind, Refusal>
     ensures { result ≡ kind_of id cid }
 {
     if is_same_id(id, basic_connect_id()) {
@@ -140,35 +130,37 @@ pub fn kind_of(id: ServiceId, cid: u32) -> Carried
     if is_same_id(id, extensions_id()) {
         return extensions_kind(cid);
     }
-    Carried::Refused(Refusal {
-        number: UNKNOWN,
+    Err(Refusal {
+        reason: Reason::Unknown,
         place: 20,
     })
 }
 
-fn basic_connect_kind(cid: u32) -> Carried
+#[tactic(auto, unfolding(crate::specs::Service::among))]
+fn basic_connect_kind(cid: u32) -> Result<Kind, Refusal>
     ensures { result ≡ among cid basic_connect_cids }
 {
     match cid {
-        PIN => Carried::Payload(Kind::PinInfo),
-        REGISTER_STATE => Carried::Payload(Kind::RegisterState),
-        PACKET_SERVICE => Carried::Payload(Kind::PacketService),
-        SIGNAL_STATE => Carried::Payload(Kind::SignalState),
-        DEVICE_SERVICES => Carried::Payload(Kind::DeviceServices),
-        _ => Carried::Refused(Refusal {
-            number: UNKNOWN,
+        PIN => Ok(Kind::PinInfo),
+        REGISTER_STATE => Ok(Kind::RegisterState),
+        PACKET_SERVICE => Ok(Kind::PacketService),
+        SIGNAL_STATE => Ok(Kind::SignalState),
+        DEVICE_SERVICES => Ok(Kind::DeviceServices),
+        _ => Err(Refusal {
+            reason: Reason::Unknown,
             place: 36,
         }),
     }
 }
 
-fn extensions_kind(cid: u32) -> Carried
+#[tactic(auto, unfolding(crate::specs::Service::among))]
+fn extensions_kind(cid: u32) -> Result<Kind, Refusal>
     ensures { result ≡ among cid extensions_cids }
 {
     match cid {
-        VERSION => Carried::Payload(Kind::VersionInfo),
-        _ => Carried::Refused(Refusal {
-            number: UNKNOWN,
+        VERSION => Ok(Kind::VersionInfo),
+        _ => Err(Refusal {
+            reason: Reason::Unknown,
             place: 36,
         }),
     }

@@ -1,21 +1,18 @@
 -- A payload is accepted exactly when it meets the rules in words of fields, and then the record and the texts shown are those at their
 -- places; no text shown lies outside the payload or inside the fixed part. The reader's choice is a parameter.
 -- Assumes nothing.
-use mathlib.Core.Path.{◌≡◌, refl, sym}
+use mathlib.Core.Path.{◌≡◌, refl, sym, ap}
 use mathlib.Core.Logic.{◌⊎◌, ⊎_map}
 use mathlib.Core.Bool.{Bool, false, not, ◌||◌}
 use mathlib.Core.List.{List, [], ◌∷◌}
 use Prim.Native.Nat.{ℕ, ◌≤◌}
-use native.Mathlib.Omega.{arith}
 use borrow.Author.Tests.{ltb-false, le-ltb}
 use lib.Bits.{bit_and}
 use lib.Dec.{eqb, ltb}
 use lib.ListN.{length}
 use Rattle.protocol.specs.Refusal.{contradiction}
-use Rattle.protocol.specs.Verdict.{Kept, rule, judge, first_of, open_length}
+use Rattle.protocol.specs.Verdict.{Kept, rule, judge, first_of, open_length, no_fault, Verdict}
 use Rattle.protocol.specs.DataClass.{mask_of}
-use Rattle.protocol.specs.declared.Verdict.{Verdict}
-use Rattle.protocol.specs.declared.Verdict.TheVariants.{Fits, Fault}
 use Rattle.protocol.specs.declared.Version.{Version}
 use Rattle.protocol.specs.declared.Version.TheVariants.{V2}
 use Rattle.protocol.proofs.Tests.{and_cases, cases_and, or_none, none_or, equal_kept, kept_equal}
@@ -29,10 +26,10 @@ use Rattle.registration.specs.declared.RegistrationForm.{RegistrationForm}
 use Rattle.registration.specs.declared.RegistrationForm.TheVariants.{V1 as Form1, V2 as Form2}
 use Rattle.registration.specs.declared.Registration.{Registration}
 use Rattle.registration.specs.declared.RegistrationTexts.{RegistrationTexts}
-use Rattle.registration.specs.declared.RegistrationRead.TheVariants.{Info}
 use Rattle.registration.specs.Registration.{fixed_part, record_at, text_rows, pairs_at, texts_at, front_rules, texts_verdict, unregistered, preferred_rules, back_rules, shown, verdict_with, read_with, version_of, three, size_rules, written_verdict, bytes_of, write_of}
 use Rattle.registration.proofs.Laws.{parts, small}
 use Rattle.registration.specs.Claims.{FormFits, NumbersFit, Acceptable, Writable, Accepted, AcceptedExactly, EveryTextSafe, WrittenExactly}
+use Rattle.std.specs.Prelude.{Ok, Err}
 
 -- ---- each rule as a fact
 
@@ -94,12 +91,12 @@ module _ (p : Registration) where
 -- ---- the parts of the judgement
 
 pub record Kept-all (v : Version) (z : ZeroSize) (s : List ℕ) : Type 0 where
-  pub long : open_length (fixed_part v) (length s) ≡ Fits
+  pub long : open_length (fixed_part v) (length s) ≡ no_fault
   pub front : Kept (front_rules v (record_at v s))
   pub texts : TextsFit z (fixed_part v) (length s) text_rows (pairs_at s)
   pub back : Kept (back_rules (record_at v s))
 
-pub all_kept : (v : Version) (z : ZeroSize) (s : List ℕ) → verdict_with v z s ≡ Fits → Kept-all v z s
+pub all_kept : (v : Version) (z : ZeroSize) (s : List ℕ) → verdict_with v z s ≡ no_fault → Kept-all v z s
 unfolding verdict_with texts_verdict
 all_kept v z s e =
     let f = fixed_part v in
@@ -113,7 +110,7 @@ all_kept v z s e =
       back = fits_kept (back_rules (record_at v s)) (right_fits (texts_verdict z f n (pairs_at s)) _ later);
     }
 
-pub kept_all : (v : Version) (z : ZeroSize) (s : List ℕ) → Kept-all v z s → verdict_with v z s ≡ Fits
+pub kept_all : (v : Version) (z : ZeroSize) (s : List ℕ) → Kept-all v z s → verdict_with v z s ≡ no_fault
 unfolding verdict_with texts_verdict first_of
 kept_all v z s k =
     rw (
@@ -147,9 +144,11 @@ said_fields v z s a = record {
 
 -- ---- accepted exactly when the rules hold
 
-shows : (d : Verdict) (p q : Registration) (t u : RegistrationTexts) → shown d p t ≡ Info q u → (d ≡ Fits) × ((p ≡ q) × (t ≡ u))
-shows Fits p q t u e = (refl, (cc, cc))
-shows (Fault r) p q t u e = let z : ◌≡◌ {A = ℕ} 0 1 = cc in absurd (omega arith)
+shows : (d : Verdict) (p q : Registration) (t u : RegistrationTexts) → shown d p t ≡ Ok (q, u) → (d ≡ no_fault) × ((p ≡ q) × (t ≡ u))
+shows (Ok _) p q t u e =
+    let h : ◌≡◌ {A = Registration × RegistrationTexts} (p, t) (q, u) = cc in
+    (refl, (ap (λ (x : Registration × RegistrationTexts). x.0) h, ap (λ (x : Registration × RegistrationTexts). x.1) h))
+shows (Err r) p q t u e = absurd cc
 
 -- an accepted payload keeps the rules, and shows the record and the texts at their places
 pub accepted : Accepted
@@ -158,9 +157,9 @@ accepted v z s p t e =
     let d = shows (verdict_with v z s) (record_at v s) p (texts_at s) t e in
     (fields_said v z s (all_kept v z s d.0), (sym d.1.0, sym d.1.1))
 
-pub acceptable : (v : Version) (z : ZeroSize) (s : List ℕ) → Acceptable v z s → read_with v z s ≡ Info (record_at v s) (texts_at s)
+pub acceptable : (v : Version) (z : ZeroSize) (s : List ℕ) → Acceptable v z s → read_with v z s ≡ Ok ((record_at v s), (texts_at s))
 unfolding read_with
-acceptable v z s a = let f : verdict_with v z s ≡ Fits = kept_all v z s (said_fields v z s a) in rw f
+acceptable v z s a = let f : verdict_with v z s ≡ no_fault = kept_all v z s (said_fields v z s a) in rw f
 
 pub accepted_exactly : AcceptedExactly
 accepted_exactly v z s = (λ e. (accepted v z s (record_at v s) (texts_at s) e).0, acceptable v z s)
@@ -181,7 +180,7 @@ every_text_safe v z s p t e =
 
 -- ---- a writer accepts exactly what its rules allow, where it has room
 
-writable_said : (p : Registration) (id name roaming : ℕ) → written_verdict p id name roaming ≡ Fits → Writable p id name roaming
+writable_said : (p : Registration) (id name roaming : ℕ) → written_verdict p id name roaming ≡ no_fault → Writable p id name roaming
 writable_said p id name roaming e =
     let k = parts p id name roaming e in
     let sizes = small p id name roaming e in
@@ -192,7 +191,7 @@ writable_said p id name roaming e =
       roaming = sizes.1.1.0;
     }
 
-said_writable : (p : Registration) (id name roaming : ℕ) → Writable p id name roaming → written_verdict p id name roaming ≡ Fits
+said_writable : (p : Registration) (id name roaming : ℕ) → Writable p id name roaming → written_verdict p id name roaming ≡ no_fault
 unfolding written_verdict size_rules first_of
 said_writable p id name roaming w =
     rw (

@@ -6,13 +6,10 @@ use mathlib.Core.Logic.{◌⊎◌, inl, inr}
 use mathlib.Core.Bool.{Bool, true, false}
 use mathlib.Core.List.{List, [], ◌∷◌}
 use Prim.Native.Nat.{ℕ}
-use native.Mathlib.Omega.{arith}
 use lib.ListN.{length}
 use Rattle.protocol.specs.Refusal.{refusal, offset_with_zero_size}
-use Rattle.protocol.specs.Verdict.{rule, judge, judge_from, fault_if, first_of, open_length}
+use Rattle.protocol.specs.Verdict.{rule, judge, judge_from, fault_if, first_of, open_length, no_fault, Verdict}
 use Rattle.protocol.specs.declared.Refusal.{Refusal}
-use Rattle.protocol.specs.declared.Verdict.{Verdict}
-use Rattle.protocol.specs.declared.Verdict.TheVariants.{Fits, Fault}
 use Rattle.protocol.specs.declared.Version.{Version}
 use Rattle.protocol.proofs.Verdicts.{last_fits, kept_fits}
 use Rattle.pairs.specs.declared.PairKind.TheVariants.{Text}
@@ -22,10 +19,10 @@ use Rattle.pairs.specs.Pair.{range_at, offset_without_size}
 use Rattle.pairs.proofs.Laws.{stray_said, said_stray, fits_by_default, strict_shown, reached_same, reached_fault}
 use Rattle.texts.specs.Claims.{stray_rules}
 use Rattle.texts.proofs.Rows.{texts_said, said_texts, strict_of_texts}
-use Rattle.registration.specs.declared.RegistrationRead.TheVariants.{Refused}
 use Rattle.registration.specs.Registration.{fixed_part, record_at, text_rows, pairs_at, texts_at, front_rules, texts_verdict, back_rules, shown, head_verdict, verdict_with, choice_verdict, read_with}
 use Rattle.registration.specs.Claims.{Acceptable, StrayOffset, OnlyByDefault, StrictTexts, StrictOfAccepted, BetweenChoices, StrictWithin}
 use Rattle.registration.proofs.Acceptance.{accepted, acceptable, said_fields}
+use Rattle.std.specs.Prelude.{Ok, Err}
 
 pub strict_of_accepted : StrictOfAccepted
 unfolding read_with verdict_with texts_verdict first_of
@@ -68,8 +65,8 @@ strict_within_default v s p t e =
 
 first_within : (a b c : Verdict) → first_of (first_of a b) c ≡ first_of a (first_of b c)
 unfolding first_of
-first_within Fits b c = refl
-first_within (Fault r) b c = refl
+first_within (Ok _) b c = refl
+first_within (Err r) b c = refl
 
 module _ (v : Version) (z : ZeroSize) (s : List ℕ) where
   abbrev pairs : ZeroSize → Verdict
@@ -80,7 +77,7 @@ module _ (v : Version) (z : ZeroSize) (s : List ℕ) where
   unfolding verdict_with head_verdict
   in_parts y = sym (first_within (open_length (fixed_part v) (length s)) (judge (front_rules v (record_at v s))) _)
 
-  pairs_by_default : pairs z ≡ Fits → pairs Absent ≡ Fits
+  pairs_by_default : pairs z ≡ no_fault → pairs Absent ≡ no_fault
   unfolding texts_verdict pairs_at
   pairs_by_default e =
       let n = length s in
@@ -88,11 +85,11 @@ module _ (v : Version) (z : ZeroSize) (s : List ℕ) where
       said_texts Absent (fixed_part v) n text_rows (pairs_at s)
       (fits_by_default z Text (fixed_part v) 12 n _ k.0, (fits_by_default z Text (fixed_part v) 40 n _ k.1.0, (fits_by_default z Text (fixed_part v) 126 n _ k.1.1.0, tt)))
 
-  pub read_judged : choice_verdict v z s ≡ Fits → read_with v Absent s ≡ read_with v z s
+  pub read_judged : choice_verdict v z s ≡ no_fault → read_with v Absent s ≡ read_with v z s
   unfolding read_with
   read_judged e = ap (λ (d : Verdict). shown d (record_at v s) (texts_at s)) (in_parts Absent ∙ reached_same (head_verdict v s) (pairs z) (pairs Absent) _ e pairs_by_default ∙ sym (in_parts z))
 
-  pub read_faulted : (r : Refusal) → choice_verdict v z s ≡ Fault r → Refused r ≡ read_with v z s
+  pub read_faulted : (r : Refusal) → choice_verdict v z s ≡ Err r → Err r ≡ read_with v z s
   unfolding read_with
   read_faulted r e = sym (ap (λ (d : Verdict). shown d (record_at v s) (texts_at s)) (in_parts z ∙ reached_fault (head_verdict v s) (pairs z) _ r e))
 
@@ -100,7 +97,7 @@ module _ (v : Version) (z : ZeroSize) (s : List ℕ) where
 
 record Faulty (v : Verdict) : Type 0 where
   refusal : Refusal
-  is : v ≡ Fault refusal
+  is : v ≡ Err refusal
 
 -- the verdict by what is tested: whether a pair has an offset beside size 0
 abbrev stray_in : (id name roaming : Bool) → Verdict
@@ -115,11 +112,11 @@ unfolding judge_from fault_if first_of
 faulty true b c h = record { refusal = refusal offset_with_zero_size 20; is = refl }
 faulty false true c h = record { refusal = refusal offset_with_zero_size 28; is = refl }
 faulty false false true h = record { refusal = refusal offset_with_zero_size 36; is = refl }
-faulty false false false (inl e) = let z : ◌≡◌ {A = ℕ} 0 1 = cc in absurd (omega arith)
-faulty false false false (inr (inl e)) = let z : ◌≡◌ {A = ℕ} 0 1 = cc in absurd (omega arith)
-faulty false false false (inr (inr e)) = let z : ◌≡◌ {A = ℕ} 0 1 = cc in absurd (omega arith)
+faulty false false false (inl e) = absurd cc
+faulty false false false (inr (inl e)) = absurd cc
+faulty false false false (inr (inr e)) = absurd cc
 
-any_faulty : (a b c : Bool) → (stray_in a b c ≡ Fits → ⊥) → Any a b c
+any_faulty : (a b c : Bool) → (stray_in a b c ≡ no_fault → ⊥) → Any a b c
 unfolding judge_from fault_if first_of
 any_faulty true b c h = inl refl
 any_faulty false true c h = inr (inl refl)
@@ -134,7 +131,7 @@ module _ (s : List ℕ) where
   unfolding pairs_at
   strays_same = refl
 
-  stray_offset : (strays ≡ Fits → ⊥) → StrayOffset s
+  stray_offset : (strays ≡ no_fault → ⊥) → StrayOffset s
   stray_offset h = by_pair (any_faulty _ _ _ h)
     where
       by_pair : Any (offset_without_size (range_at s 20)) (offset_without_size (range_at s 28)) (offset_without_size (range_at s 36)) → StrayOffset s
@@ -152,9 +149,9 @@ module _ (v : Version) (s : List ℕ) where
   strict_by a = rw (← strays_same s) (strict_of_accepted v s a)
 
   -- a reader that refuses has found a fault
-  none_shown : (d : Verdict) (r : Refusal) → shown d (record_at v s) (texts_at s) ≡ Refused r → d ≡ Fits → ⊥
-  none_shown Fits r e f = let z : ◌≡◌ {A = ℕ} 0 1 = cc in omega arith
-  none_shown (Fault q) r e f = let z : ◌≡◌ {A = ℕ} 0 1 = cc in omega arith
+  none_shown : (d : Verdict) (r : Refusal) → shown d (record_at v s) (texts_at s) ≡ Err r → d ≡ no_fault → ⊥
+  none_shown (Ok _) r e f = cc
+  none_shown (Err q) r e f = cc
 
   between_said : OnlyByDefault v s → Acceptable v Absent s × StrayOffset s
   between_said o =

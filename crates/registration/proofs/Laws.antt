@@ -1,13 +1,16 @@
 -- The length of the bytes, and what is known of a record and texts that fit.
 -- Assumes nothing.
-use mathlib.Core.Path.{◌≡◌, refl}
+use mathlib.Core.Path.{◌≡◌, refl, ◌∙◌}
 use mathlib.Core.List.{List, ◌++◌}
 use Prim.Native.Nat.{ℕ, ◌%◌, ◌≤◌}
 use native.Mathlib.Omega.{arith}
 use lib.ListN.{length, length-append}
+use lib.Seq.{sets}
+use native.Mathlib.Nat.{zero-add}
+use Rattle.wire.specs.Output.{over}
+use Rattle.wire.proofs.Laws.{sets_then, sets_over}
 use Rattle.wire.specs.Numbers.{digits}
-use Rattle.protocol.specs.Verdict.{Kept, judge}
-use Rattle.protocol.specs.declared.Verdict.TheVariants.{Fits}
+use Rattle.protocol.specs.Verdict.{Kept, judge, no_fault}
 use Rattle.protocol.specs.declared.Version.{Version}
 use Rattle.protocol.specs.declared.Version.TheVariants.{V1, V2}
 use Rattle.protocol.proofs.Verdicts.{left_fits, right_fits, fits_kept}
@@ -48,14 +51,23 @@ length_bytes p x y z =
     let ts = three x y z in
     omega (arith, length-append f (pairs.texts_bytes ts), length_fixed p (laid_for p x y z), length_texts (fixed_part (version_of p)) ts)
 
+-- the fixed part, and the texts behind it, are the bytes
+pub stored : (p : Registration) (x y z s : List ℕ) → length (bytes_of p x y z) ≤ length s
+    → sets (sets s 0 (fixed_with p (laid_for p x y z))) (fixed_part (version_of p)) (pairs.texts_bytes (three x y z)) ≡ over (bytes_of p x y z) s
+unfolding bytes_of
+stored p x y z s h =
+    let t = laid_for p x y z in
+    let n = fixed_part (version_of p) in
+    sets_then (fixed_with p t) (pairs.texts_bytes (three x y z)) 0 n s (length_fixed p t) refl (rw (zero-add n)) ∙ sets_over _ s h
+
 -- ---- what is written fits in each part
 
 pub record Parts (p : Registration) (id name roaming : ℕ) : Type 0 where
-  pub front : judge (front_rules (version_of p) p) ≡ Fits
+  pub front : judge (front_rules (version_of p) p) ≡ no_fault
   pub sizes : Kept (size_rules id name roaming)
-  pub back : judge (back_rules p) ≡ Fits
+  pub back : judge (back_rules p) ≡ no_fault
 
-pub parts : (p : Registration) (id name roaming : ℕ) → written_verdict p id name roaming ≡ Fits → Parts p id name roaming
+pub parts : (p : Registration) (id name roaming : ℕ) → written_verdict p id name roaming ≡ no_fault → Parts p id name roaming
 unfolding written_verdict
 parts p id name roaming e =
     let r = right_fits (judge (front_rules (version_of p) p)) _ e in
@@ -65,14 +77,14 @@ parts p id name roaming e =
       back = right_fits (judge (size_rules id name roaming)) _ r;
     }
 
-pub small : (p : Registration) (id name roaming : ℕ) → written_verdict p id name roaming ≡ Fits → SizesFit text_rows (three id name roaming)
+pub small : (p : Registration) (id name roaming : ℕ) → written_verdict p id name roaming ≡ no_fault → SizesFit text_rows (three id name roaming)
 unfolding size_rules
 small p id name roaming e = sizes_said text_rows (three id name roaming) (parts p id name roaming e).sizes
 
 -- what is written is far below 4,096 bytes, so number 5 is never given
-pub end_most : (p : Registration) (id name roaming : ℕ) → written_verdict p id name roaming ≡ Fits → length_of (version_of p) id name roaming ≤ 232
+pub end_most : (p : Registration) (id name roaming : ℕ) → written_verdict p id name roaming ≡ no_fault → length_of (version_of p) id name roaming ≤ 232
 end_most p id name roaming e =
     end_within (fixed_part (version_of p)) 52 text_rows (three id name roaming) (small p id name roaming e) (omega arith) (fixed_small (version_of p))
 
-pub bytes_most : (p : Registration) (x y z : List ℕ) → written_verdict p (length x) (length y) (length z) ≡ Fits → length (bytes_of p x y z) ≤ 232
+pub bytes_most : (p : Registration) (x y z : List ℕ) → written_verdict p (length x) (length y) (length z) ≡ no_fault → length (bytes_of p x y z) ≤ 232
 bytes_most p x y z e = omega (arith, length_bytes p x y z, end_most p (length x) (length y) (length z) e)

@@ -7,8 +7,7 @@ use native.Mathlib.Omega.{arith}
 use lib.ListN.{length}
 use Rattle.wire.specs.Numbers.{u32_at, digits}
 use Rattle.wire.proofs.Laws.{num_digits}
-use Rattle.protocol.specs.Verdict.{judge, first_of, open_length}
-use Rattle.protocol.specs.declared.Verdict.TheVariants.{Fits}
+use Rattle.protocol.specs.Verdict.{judge, first_of, open_length, no_fault}
 use Rattle.protocol.specs.declared.Version.{Version}
 use Rattle.protocol.proofs.Verdicts.{length_open, written_fits, written_front}
 use Rattle.pairs.specs.Pair.{range_bytes}
@@ -22,10 +21,10 @@ use Rattle.registration.specs.declared.RegistrationForm.{RegistrationForm}
 use Rattle.registration.specs.declared.RegistrationForm.TheVariants.{V1 as Form1, V2 as Form2}
 use Rattle.registration.specs.declared.Registration.{Registration}
 use Rattle.registration.specs.declared.RegistrationTexts.{RegistrationTexts}
-use Rattle.registration.specs.declared.RegistrationRead.TheVariants.{Info}
 use Rattle.registration.specs.Registration.{fixed_part, form_at, record_at, text_rows, texts_of, pairs_at, texts_at, front_rules, texts_verdict, back_rules, shown, verdict_with, read_with, version_in, version_of, three, size_rules, written_verdict, laid_texts, laid_for, length_of, front_bytes, texts_bytes, preferred_bytes, back_bytes, fixed_bytes, fixed_with, bytes_of, write_of}
 use Rattle.registration.specs.Claims.{in_form, FormOfWidth, OfWidth, RoundTrip}
 use Rattle.registration.proofs.Laws.{fixed_four, length_fixed, length_bytes, parts, end_most}
+use Rattle.std.specs.Prelude.{Ok}
 
 -- ---- the fixed part, whatever follows
 
@@ -57,7 +56,7 @@ form_back p t rest = by_form p.form
 
 -- ---- a payload as the writer lays it out
 
-module _ (p : Registration) (x y z : List ℕ) (ok : written_verdict p (length x) (length y) (length z) ≡ Fits) where
+module _ (p : Registration) (x y z : List ℕ) (ok : written_verdict p (length x) (length y) (length z) ≡ no_fault) where
   abbrev sizes : List ℕ
   sizes = three (length x) (length y) (length z)
 
@@ -80,13 +79,13 @@ module _ (p : Registration) (x y z : List ℕ) (ok : written_verdict p (length x
 
   -- the pairs fit at each version whose fixed part is no longer than the writer's
   texts_fit : (v : Version) (choice : ZeroSize) → fixed_part v ≤ fixed_part (version_of p)
-      → texts_verdict choice (fixed_part v) (length_of (version_of p) (length x) (length y) (length z)) placed ≡ Fits
+      → texts_verdict choice (fixed_part v) (length_of (version_of p) (length x) (length y) (length z)) placed ≡ no_fault
   unfolding texts_verdict size_rules
   texts_fit v choice h =
       let f = fixed_part (version_of p) in
       laid_fit choice (fixed_part v) (end_of f sizes) f text_rows sizes (parts p (length x) (length y) (length z) ok).sizes h (fixed_four (version_of p)) (omega arith)
 
-  pub length_fits : (v : Version) → fixed_part v ≤ length_of (version_of p) (length x) (length y) (length z) → open_length (fixed_part v) (length (bytes_of p x y z)) ≡ Fits
+  pub length_fits : (v : Version) → fixed_part v ≤ length_of (version_of p) (length x) (length y) (length z) → open_length (fixed_part v) (length (bytes_of p x y z)) ≡ no_fault
   length_fits v h =
       let most = end_most p (length x) (length y) (length z) ok in
       rw (length_bytes p x y z) (length_open (fixed_part v) (length_of (version_of p) (length x) (length y) (length z)) h (omega arith))
@@ -109,7 +108,7 @@ module _ (p : Registration) (x y z : List ℕ) (ok : written_verdict p (length x
       ∙ (λ i. shown (first_of (judge (front_rules v p)) (first_of (t i) (judge (back_rules (in_form f p))))) (in_form f p) (laid_for p x y z))
 
   -- read at the record's version: the record
-  pub bytes_read : (choice : ZeroSize) → OfWidth p → read_with (version_of p) choice (bytes_of p x y z) ≡ Info p (laid_for p x y z)
+  pub bytes_read : (choice : ZeroSize) → OfWidth p → read_with (version_of p) choice (bytes_of p x y z) ≡ Ok (p, (laid_for p x y z))
   unfolding first_of bytes_of
   bytes_read choice s =
       let k = parts p (length x) (length y) (length z) ok in

@@ -1,9 +1,9 @@
 -- What is claimed of the REGISTER_STATE payload beside the promises, whichever choice the reader makes: the rules in words of fields, what
 -- lies between the choices, what the other version shows, widths.
-use Rattle.std.specs.Prelude.{ℕ, ◌≤◌, ◌<◌, ◌^◌, ◌≡◌, ◌⊎◌, ◌↔◌, cond, List, length, take}
+use Rattle.std.specs.Prelude.{ℕ, ◌≤◌, ◌<◌, ◌^◌, ◌≡◌, ◌⊎◌, ◌↔◌, cond, List, length, take, Ok, Err}
 use Rattle.std.specs.Int.Bits.{bit_and}
 use Rattle.protocol.specs.Refusal.{refusal, too_short, outside_table}
-use Rattle.protocol.specs.Verdict.{judge}
+use Rattle.protocol.specs.Verdict.{judge, no_fault}
 use Rattle.protocol.specs.DataClass.{mask_of, only_classes}
 use Rattle.protocol.specs.declared.Refusal.{Refusal}
 use Rattle.protocol.specs.declared.Version.{Version}
@@ -18,11 +18,7 @@ use Rattle.registration.specs.declared.RegistrationForm.{RegistrationForm}
 use Rattle.registration.specs.declared.RegistrationForm.TheVariants.{V1 as Form1, V2 as Form2}
 use Rattle.registration.specs.declared.Registration.{Registration}
 use Rattle.registration.specs.declared.RegistrationTexts.{RegistrationTexts}
-use Rattle.registration.specs.declared.RegistrationRead.{RegistrationRead}
-use Rattle.registration.specs.declared.RegistrationRead.TheVariants.{Info, Refused}
-use Rattle.registration.specs.Registration.{fixed_part, record_at, text_rows, texts_of, pairs_at, texts_at, shown, read_with, version_of, three, bytes_of, write_of, laid_for, written_verdict}
-use Rattle.protocol.specs.declared.Written.TheVariants.{Length}
-use Rattle.protocol.specs.declared.Verdict.TheVariants.{Fits}
+use Rattle.registration.specs.Registration.{fixed_part, record_at, text_rows, texts_of, pairs_at, texts_at, shown, read_with, version_of, three, bytes_of, write_of, laid_for, written_verdict, RegistrationRead}
 
 -- ---- the rules in words of fields
 
@@ -59,9 +55,9 @@ StrayOffset s = OffsetWithZeroSize (range_at s 20) ⊎ (OffsetWithZeroSize (rang
 
 -- accepted by default and refused by the strict choice
 pub record OnlyByDefault (v : Version) (s : List ℕ) : Type 0 where
-  pub accepted : read_with v Absent s ≡ Info (record_at v s) (texts_at s)
+  pub accepted : read_with v Absent s ≡ Ok ((record_at v s), (texts_at s))
   pub refusal : Refusal
-  pub refused : read_with v Strict s ≡ Refused refusal
+  pub refused : read_with v Strict s ≡ Err refusal
 
 -- what a writer accepts, by the sizes a, b and c of the texts
 pub record Writable (p : Registration) (a b c : ℕ) : Type 0 where
@@ -82,7 +78,7 @@ pub record TextsSafe (fixed n : ℕ) (t : RegistrationTexts) : Type 0 where
 -- the bytes s, read at the record's version, show the record, and each range shown is the text
 pub record Returned (choice : ZeroSize) (p : Registration) (x y z : List ℕ) (s : List ℕ) : Type 0 where
   pub texts : RegistrationTexts
-  pub read : read_with (version_of p) choice s ≡ Info p texts
+  pub read : read_with (version_of p) choice s ≡ Ok (p, texts)
   pub id : shown_in s texts.provider_id ≡ x
   pub name : shown_in s texts.provider_name ≡ y
   pub roaming : shown_in s texts.roaming_text ≡ z
@@ -103,7 +99,7 @@ in_form f p = record {
 
 -- bytes of 2.00 at 1.00: the shared fields and the texts, unless a class is one of 2.00 only
 abbrev pub shown_earlier : Registration → RegistrationTexts → RegistrationRead
-shown_earlier p t = cond (only_classes V1 p.available_data_class) (Info (in_form Form1 p) t) (Refused (refusal outside_table 12))
+shown_earlier p t = cond (only_classes V1 p.available_data_class) (Ok ((in_form Form1 p), t)) (Err (refusal outside_table 12))
 
 -- bytes of 1.00 at 2.00, by the sizes of the texts: the first one there lies in the larger fixed part; with none it is the length
 abbrev pub refused_later : ℕ → ℕ → ℕ → Refusal
@@ -128,20 +124,20 @@ pub record OfWidth (p : Registration) : Type 0 where
 
 -- an accepted payload keeps the rules, and shows the record and the texts at their places
 abbrev pub Accepted : Type 0
-Accepted = (v : Version) (z : ZeroSize) (s : List ℕ) (p : Registration) (t : RegistrationTexts) → read_with v z s ≡ Info p t
+Accepted = (v : Version) (z : ZeroSize) (s : List ℕ) (p : Registration) (t : RegistrationTexts) → read_with v z s ≡ Ok (p, t)
     → Acceptable v z s × ((p ≡ record_at v s) × (t ≡ texts_at s))
 
 abbrev pub AcceptedExactly : Type 0
-AcceptedExactly = (v : Version) (z : ZeroSize) (s : List ℕ) → (read_with v z s ≡ Info (record_at v s) (texts_at s)) ↔ Acceptable v z s
+AcceptedExactly = (v : Version) (z : ZeroSize) (s : List ℕ) → (read_with v z s ≡ Ok ((record_at v s), (texts_at s))) ↔ Acceptable v z s
 
 -- each text shown is absent, or lies behind the fixed part, at a multiple of 4, and inside the payload
 abbrev pub EveryTextSafe : Type 0
-EveryTextSafe = (v : Version) (z : ZeroSize) (s : List ℕ) (p : Registration) (t : RegistrationTexts) → read_with v z s ≡ Info p t
+EveryTextSafe = (v : Version) (z : ZeroSize) (s : List ℕ) (p : Registration) (t : RegistrationTexts) → read_with v z s ≡ Ok (p, t)
     → TextsSafe (fixed_part v) (length s) t
 
 -- under the strict choice the texts shown are the pairs as they stand, as before order 10
 abbrev pub StrictTexts : Type 0
-StrictTexts = (v : Version) (s : List ℕ) (p : Registration) (t : RegistrationTexts) → read_with v Strict s ≡ Info p t → t ≡ texts_of (pairs_at s)
+StrictTexts = (v : Version) (s : List ℕ) (p : Registration) (t : RegistrationTexts) → read_with v Strict s ≡ Ok (p, t) → t ≡ texts_of (pairs_at s)
 
 -- of a payload that is accepted by default the strict choice shows the same, or refuses the first offset beside size 0 by 18
 abbrev pub StrictOfAccepted : Type 0
@@ -154,21 +150,21 @@ BetweenChoices = (v : Version) (s : List ℕ) → OnlyByDefault v s ↔ (Accepta
 
 -- what the strict choice accepts, the default shows as it does
 abbrev pub StrictWithin : Type 0
-StrictWithin = (v : Version) (s : List ℕ) (p : Registration) (t : RegistrationTexts) → read_with v Strict s ≡ Info p t → read_with v Absent s ≡ Info p t
+StrictWithin = (v : Version) (s : List ℕ) (p : Registration) (t : RegistrationTexts) → read_with v Strict s ≡ Ok (p, t) → read_with v Absent s ≡ Ok (p, t)
 
 abbrev pub WrittenExactly : Type 0
 WrittenExactly = (p : Registration) (x y z s : List ℕ)
-    → ((write_of p x y z s).answer ≡ Length (length (bytes_of p x y z))) ↔ (Writable p (length x) (length y) (length z) × (length (bytes_of p x y z) ≤ length s))
+    → ((write_of p x y z s).answer ≡ Ok (length (bytes_of p x y z))) ↔ (Writable p (length x) (length y) (length z) × (length (bytes_of p x y z) ≤ length s))
 
 -- what the writer puts into an output, read at the record's version, is the record with its texts
 abbrev pub RoundTrip : Type 0
-RoundTrip = (choice : ZeroSize) (p : Registration) (x y z s : List ℕ) (n : ℕ) → OfWidth p → (write_of p x y z s).answer ≡ Length n
+RoundTrip = (choice : ZeroSize) (p : Registration) (x y z s : List ℕ) (n : ℕ) → OfWidth p → (write_of p x y z s).answer ≡ Ok n
     → Returned choice p x y z (take n (write_of p x y z s).output)
 
 abbrev pub LaterReadEarlier : Type 0
-LaterReadEarlier = (choice : ZeroSize) (p : Registration) (x y z : List ℕ) → version_of p ≡ V2 → OfWidth p → written_verdict p (length x) (length y) (length z) ≡ Fits
+LaterReadEarlier = (choice : ZeroSize) (p : Registration) (x y z : List ℕ) → version_of p ≡ V2 → OfWidth p → written_verdict p (length x) (length y) (length z) ≡ no_fault
     → read_with V1 choice (bytes_of p x y z) ≡ shown_earlier p (laid_for p x y z)
 
 abbrev pub EarlierReadLater : Type 0
-EarlierReadLater = (choice : ZeroSize) (p : Registration) (x y z : List ℕ) → version_of p ≡ V1 → OfWidth p → written_verdict p (length x) (length y) (length z) ≡ Fits
-    → read_with V2 choice (bytes_of p x y z) ≡ Refused (refused_later (length x) (length y) (length z))
+EarlierReadLater = (choice : ZeroSize) (p : Registration) (x y z : List ℕ) → version_of p ≡ V1 → OfWidth p → written_verdict p (length x) (length y) (length z) ≡ no_fault
+    → read_with V2 choice (bytes_of p x y z) ≡ Err (refused_later (length x) (length y) (length z))

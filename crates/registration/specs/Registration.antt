@@ -1,12 +1,10 @@
 -- The REGISTER_STATE payload (document 01, "Registration"; document 02, order 10; source 000, MBIM_REGISTRATION_STATE_INFO_V2).
 -- In this order: the fields and their places; the rules, in the order in which they are judged; what a reader answers; what a writer gives.
-use Rattle.std.specs.Prelude.{ℕ, Bool, not, ◌&&◌, ◌||◌, List, [], ◌∷◌, ◌++◌, ltb, eqb, length, get_or}
+use Rattle.std.specs.Prelude.{ℕ, Bool, not, ◌&&◌, ◌||◌, List, [], ◌∷◌, ◌++◌, ltb, eqb, length, get_or, Ok, Err, Result}
 use Rattle.wire.specs.Numbers.{u32_at, digits}
 use Rattle.protocol.specs.Refusal.{outside_table, contradiction}
-use Rattle.protocol.specs.Verdict.{Rule, rule, judge, first_of, open_length, Writing, writing}
+use Rattle.protocol.specs.Verdict.{Rule, rule, judge, first_of, open_length, Writing, writing, Verdict}
 use Rattle.protocol.specs.DataClass.{only_classes}
-use Rattle.protocol.specs.declared.Verdict.{Verdict}
-use Rattle.protocol.specs.declared.Verdict.TheVariants.{Fits, Fault}
 use Rattle.protocol.specs.declared.Version.{Version}
 use Rattle.protocol.specs.declared.Version.TheVariants.{V1, V2}
 use Rattle.pairs.specs.Pair.{by_default, reached, range}
@@ -18,8 +16,10 @@ use Rattle.registration.specs.declared.RegistrationForm.{RegistrationForm}
 use Rattle.registration.specs.declared.RegistrationForm.TheVariants.{V1 as Form1, V2 as Form2}
 use Rattle.registration.specs.declared.Registration.{Registration}
 use Rattle.registration.specs.declared.RegistrationTexts.{RegistrationTexts}
-use Rattle.registration.specs.declared.RegistrationRead.{RegistrationRead}
-use Rattle.registration.specs.declared.RegistrationRead.TheVariants.{Info, Refused}
+use Rattle.protocol.specs.declared.Refusal.{Refusal}
+
+abbrev pub RegistrationRead : Type 0
+RegistrationRead = Result (Registration × RegistrationTexts) Refusal
 
 -- ---- fields and places
 
@@ -63,7 +63,7 @@ pairs_at s = ranges_at s text_rows
 unfoldable pub texts_at : List ℕ → RegistrationTexts
 texts_at s = texts_of (all_shown (pairs_at s))
 
--- ---- rules: broken, number, place; the first broken one decides
+-- ---- rules: broken, reason, place; the first broken one decides
 
 -- state 0 to 6, mode 0 to 2, the classes of the version, cellular class within mask 3
 unfoldable pub front_rules : Version → Registration → List Rule
@@ -96,8 +96,8 @@ back_rules p =
 -- ---- what a reader answers
 
 abbrev pub shown : Verdict → Registration → RegistrationTexts → RegistrationRead
-shown Fits p t = Info p t
-shown (Fault r) p t = Refused r
+shown (Ok _) p t = Ok (p, t)
+shown (Err r) p t = Err r
 
 -- before the pairs: the length and the numbers in front of them
 unfoldable pub head_verdict : Version → List ℕ → Verdict

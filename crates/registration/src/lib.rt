@@ -2,16 +2,13 @@
 // `registration_writer`. Texts are shown as ranges of the payload; what stands in one is not judged.
 #![tactic(auto)]
 
-ghost use Rattle.std.specs.Prelude.{◌≡◌, length};
-ghost use Rattle.protocol.specs.Verdict.{first_of, judge};
-ghost use Rattle.protocol.specs.declared.Verdict.TheVariants.{Fits};
-ghost use Rattle.registration.specs.Registration.{fixed_part, form_at, record_at, pairs_at, texts_at, front_rules, texts_verdict, unregistered, back_rules, head_verdict, choice_verdict, read_with, read_of, version_of};
+ghost use Rattle.std.specs.Prelude.{◌≡◌};
+ghost use Rattle.protocol.specs.Verdict.{judge};
+ghost use Rattle.registration.specs.Registration.{fixed_part, form_at, record_at, texts_at, front_rules, unregistered, back_rules, head_verdict, choice_verdict, read_with, read_of, version_of};
 
 use pairs::{Range, ZeroSize};
 use protocol::data_class::is_only_classes;
-use protocol::{
-    CONTRADICTION, OUTSIDE_TABLE, Refusal, Verdict, Version, also, first, judge_open_length,
-};
+use protocol::{Reason, Refusal, Verdict, Version, judge_open_length, refuse_if};
 use texts::{judge_texts, judged_text};
 use wire::u32_at;
 
@@ -22,6 +19,8 @@ pub enum RegistrationForm {
     V2 { preferred_data_class: u32 },
 }
 
+// States, modes and flags as numbers, as they stand in the payload: C interface. Reader and writer
+// judge them.
 #[derive(Clone, Copy)]
 pub struct Registration {
     pub nw_error: u32,
@@ -39,12 +38,6 @@ pub struct RegistrationTexts {
     pub provider_id: Range,
     pub provider_name: Range,
     pub roaming_text: Range,
-}
-
-#[derive(Clone, Copy)]
-pub enum RegistrationRead {
-    Info(Registration, RegistrationTexts),
-    Refused(Refusal),
 }
 
 pub const NW_ERROR: usize = 0;
@@ -86,70 +79,59 @@ const CELLULAR_CLASS_MASK: u32 = 3;
 
 const REGISTRATION_FLAG_MASK: u32 = 3;
 
-// By the caller's choice. Where it finds no fault, the answer is the one by default.
-pub fn read_with(version: Version, zero_size: ZeroSize, payload: &[u8]) -> RegistrationRead
-    ensures { result ≡ read_with version zero_size payload.now }
+// By default.
+pub fn read(version: Version, payload: &[u8]) -> Result<(Registration, RegistrationTexts), Refusal>
+    ensures { result ≡ read_of version payload.now }
 {
-    match judge_choice(version, zero_size, payload) {
-        Verdict::Fits => read(version, payload),
-        Verdict::Fault(refusal) => RegistrationRead::Refused(refusal),
-    }
+    read_with(version, ZeroSize::Absent, payload)
 }
 
-// The fault of the pairs by a choice, where nothing judged before them is at fault.
+// By the caller's choice. The length is judged first, so that the reads after it need no test of
+// their own.
+#[tactic(auto, unfolding(crate::specs::Registration::read_with, crate::specs::Registration::verdict_with, crate::specs::Registration::texts_verdict, crate::specs::Registration::pairs_at, protocol::specs::Verdict::first_of))]
+pub fn read_with(
+    version: Version,
+    zero_size: ZeroSize,
+    payload: &[u8],
+) -> Result<(Registration, RegistrationTexts), Refusal>
+    ensures { result ≡ read_with version zero_size payload.now }
+{
+    let fixed = fixed_part(version);
+    judge_open_length(fixed as usize, payload.len())?;
+    let info = record_at(version, payload);
+    judge_front(version, info)?;
+    judge_texts(zero_size, payload, fixed, &TEXTS)?;
+    judge_back(info)?;
+    Ok((info, texts_at(payload)))
+}
+
+// The fault of the pairs by a choice, where nothing judged before them is at fault. Where it finds
+// none, the choice's answer is the one by default.
+#[tactic(auto, unfolding(crate::specs::Registration::texts_verdict, crate::specs::Registration::pairs_at))]
 pub fn judge_choice(version: Version, zero_size: ZeroSize, payload: &[u8]) -> Verdict
     ensures { result ≡ choice_verdict version zero_size payload.now }
 {
-    match judge_head(version, payload) {
-        Verdict::Fits => judge_texts(zero_size, payload, fixed_part(version), &TEXTS),
-        Verdict::Fault(_) => Verdict::Fits,
+    if judge_head(version, payload).is_err() {
+        return Ok(());
     }
+    judge_texts(zero_size, payload, fixed_part(version), &TEXTS)
 }
 
 // The length, and the numbers in front of the pairs.
+#[tactic(auto, unfolding(crate::specs::Registration::head_verdict, protocol::specs::Verdict::first_of))]
 fn judge_head(version: Version, payload: &[u8]) -> Verdict
     ensures { result ≡ head_verdict version payload.now }
 {
-    let length = judge_open_length(fixed_part(version) as usize, payload.len());
-    let front = Registration {
-        nw_error: 0,
-        register_state: u32_at(payload, REGISTER_STATE),
-        register_mode: u32_at(payload, REGISTER_MODE),
-        available_data_class: u32_at(payload, AVAILABLE_DATA_CLASS),
-        cellular_class: u32_at(payload, CELLULAR_CLASS),
-        registration_flag: 0,
-        form: RegistrationForm::V1,
-    };
-    first(length, judge_front(version, front))
-}
-
-// By default. The length is judged first, so that the reads after it need no test of their own.
-pub fn read(version: Version, payload: &[u8]) -> RegistrationRead
-    ensures { result ≡ read_of version payload.now }
-{
-    let length = judge_open_length(fixed_part(version) as usize, payload.len());
-    if let Verdict::Fault(refusal) = length {
-        return RegistrationRead::Refused(refusal);
-    }
-    let info = record_at(version, payload);
-    match judge_fields(version, ZeroSize::Absent, payload, info) {
-        Verdict::Fits => {
-            let texts = texts_at(payload);
-            RegistrationRead::Info(info, texts)
-        }
-        Verdict::Fault(refusal) => RegistrationRead::Refused(refusal),
-    }
+    judge_open_length(fixed_part(version) as usize, payload.len())?;
+    judge_front(version, record_at(version, payload))
 }
 
 pub fn version_of(info: Registration) -> Version
     ensures { result ≡ version_of info }
 {
-    let form = info.form;
-    match form {
+    match info.form {
         RegistrationForm::V1 => Version::V1,
-        RegistrationForm::V2 {
-            preferred_data_class: _,
-        } => Version::V2,
+        RegistrationForm::V2 { .. } => Version::V2,
     }
 }
 
@@ -162,10 +144,10 @@ pub fn fixed_part(version: Version) -> u16
     }
 }
 
+#[tactic(auto, unfolding(crate::specs::Registration::record_at))]
 fn record_at(version: Version, s: &[u8]) -> Registration
     ensures { result ≡ record_at version s.now }
 {
-    let form = form_at(version, s);
     Registration {
         nw_error: u32_at(s, NW_ERROR),
         register_state: u32_at(s, REGISTER_STATE),
@@ -173,7 +155,7 @@ fn record_at(version: Version, s: &[u8]) -> Registration
         available_data_class: u32_at(s, AVAILABLE_DATA_CLASS),
         cellular_class: u32_at(s, CELLULAR_CLASS),
         registration_flag: u32_at(s, REGISTRATION_FLAG),
-        form,
+        form: form_at(version, s),
     }
 }
 
@@ -188,105 +170,73 @@ fn form_at(version: Version, s: &[u8]) -> RegistrationForm
     }
 }
 
+#[tactic(auto, unfolding(crate::specs::Registration::texts_at, crate::specs::Registration::pairs_at))]
 fn texts_at(s: &[u8]) -> RegistrationTexts
     ensures { result ≡ texts_at s.now }
 {
-    let provider_id = judged_text(s, &TEXTS, 0);
-    let provider_name = judged_text(s, &TEXTS, 1);
-    let roaming_text = judged_text(s, &TEXTS, 2);
     RegistrationTexts {
-        provider_id,
-        provider_name,
-        roaming_text,
+        provider_id: judged_text(s, &TEXTS, 0),
+        provider_name: judged_text(s, &TEXTS, 1),
+        roaming_text: judged_text(s, &TEXTS, 2),
     }
-}
-
-// The fields of a payload whose record is `info`.
-fn judge_fields(
-    version: Version,
-    zero_size: ZeroSize,
-    payload: &[u8],
-    info: Registration,
-) -> Verdict
-    ensures { result ≡ first_of (judge (front_rules version info)) (first_of (texts_verdict zero_size (fixed_part version) (length payload.now) (pairs_at payload.now)) (judge (back_rules info))) }
-{
-    if let Verdict::Fault(refusal) = judge_front(version, info) {
-        return Verdict::Fault(refusal);
-    }
-    let fixed = fixed_part(version);
-    if let Verdict::Fault(refusal) = judge_texts(zero_size, payload, fixed, &TEXTS) {
-        return Verdict::Fault(refusal);
-    }
-    judge_back(info)
 }
 
 // The numbers before the pairs, the same for the reader and the writer.
+#[tactic(auto, unfolding(crate::specs::Registration::front_rules, protocol::specs::Verdict::judge_from, protocol::specs::Verdict::first_of, protocol::specs::Verdict::fault_if))]
 pub fn judge_front(version: Version, info: Registration) -> Verdict
     ensures { result ≡ judge (front_rules version info) }
 {
-    let state_known = also(
-        Verdict::Fits,
+    let class = info.available_data_class;
+    refuse_if(
         LAST_STATE < info.register_state,
-        OUTSIDE_TABLE,
+        Reason::OutsideTable,
         REGISTER_STATE,
-    );
-    let mode_known = also(
-        state_known,
+    )?;
+    refuse_if(
         LAST_MODE < info.register_mode,
-        OUTSIDE_TABLE,
+        Reason::OutsideTable,
         REGISTER_MODE,
-    );
-    let class_known = also(
-        mode_known,
-        !is_only_classes(version, info.available_data_class),
-        OUTSIDE_TABLE,
+    )?;
+    refuse_if(
+        !is_only_classes(version, class),
+        Reason::OutsideTable,
         AVAILABLE_DATA_CLASS,
-    );
-    also(
-        class_known,
+    )?;
+    refuse_if(
         CELLULAR_CLASS_MASK < info.cellular_class,
-        OUTSIDE_TABLE,
+        Reason::OutsideTable,
         CELLULAR_CLASS,
     )
 }
 
 // The numbers after the pairs, and last what contradicts.
+#[tactic(auto, unfolding(crate::specs::Registration::back_rules, protocol::specs::Verdict::judge_from, protocol::specs::Verdict::first_of, protocol::specs::Verdict::fault_if))]
 pub fn judge_back(info: Registration) -> Verdict
     ensures { result ≡ judge (back_rules info) }
 {
-    let form = info.form;
     let stray = is_unregistered(info.register_state, info.available_data_class);
-    let flag_known = also(
-        Verdict::Fits,
-        REGISTRATION_FLAG_MASK < info.registration_flag,
-        OUTSIDE_TABLE,
+    let flag = info.registration_flag;
+    refuse_if(
+        REGISTRATION_FLAG_MASK < flag,
+        Reason::OutsideTable,
         REGISTRATION_FLAG,
-    );
-    match form {
-        RegistrationForm::V1 => also(flag_known, stray, CONTRADICTION, AVAILABLE_DATA_CLASS),
-        RegistrationForm::V2 {
-            preferred_data_class,
-        } => {
-            let preferred_known = also(
-                flag_known,
-                !is_only_classes(Version::V2, preferred_data_class),
-                OUTSIDE_TABLE,
-                PREFERRED_DATA_CLASS,
-            );
-            also(preferred_known, stray, CONTRADICTION, AVAILABLE_DATA_CLASS)
-        }
+    )?;
+    if let RegistrationForm::V2 {
+        preferred_data_class: class,
+    } = info.form
+    {
+        refuse_if(
+            !is_only_classes(Version::V2, class),
+            Reason::OutsideTable,
+            PREFERRED_DATA_CLASS,
+        )?;
     }
+    refuse_if(stray, Reason::Contradiction, AVAILABLE_DATA_CLASS)
 }
 
 // Whether there is a class without a registered state.
 fn is_unregistered(state: u32, class: u32) -> bool
     ensures { result ≡ unregistered state class }
 {
-    if class == 0 {
-        return false;
-    }
-    if state < HOME {
-        return true;
-    }
-    PARTNER < state
+    class != 0 && (state < HOME || PARTNER < state)
 }

@@ -6,13 +6,13 @@ use Rattle.ascii.specs.Ascii.{line_feed, ascii}
 use Rattle.protocol.specs.declared.Version.{Version}
 use Rattle.protocol.specs.declared.Version.TheVariants.{V1, V2}
 use Rattle.text_parts.specs.Hex.{HexDigits}
-use Rattle.request_line.specs.declared.ListingKind.{ListingKind}
-use Rattle.request_line.specs.declared.ListingKind.TheVariants.{PacketService, Version as VersionKind, Registration, SignalState, DeviceServices, SetPin, PinInfo}
+use Rattle.protocol.specs.declared.service.Kind.{Kind}
+use Rattle.protocol.specs.declared.service.Kind.TheVariants.{PacketService, VersionInfo, RegisterState, SignalState, DeviceServices, SetPin, PinInfo}
 
-abbrev pub kind_text : ListingKind → List ℕ
+abbrev pub kind_text : Kind → List ℕ
 kind_text PacketService = ascii "packet_service\t"
-kind_text VersionKind = ascii "version\t"
-kind_text Registration = ascii "registration\t"
+kind_text VersionInfo = ascii "version\t"
+kind_text RegisterState = ascii "registration\t"
 kind_text SignalState = ascii "signal_state\t"
 kind_text DeviceServices = ascii "device_services\t"
 kind_text SetPin = ascii "set_pin\t"
@@ -26,13 +26,13 @@ version_text V2 = ascii "2.00\t"
 abbrev pub most_digits : ℕ
 most_digits = 16384
 
-abbrev pub text_of : ListingKind → Version → List ℕ → List ℕ
+abbrev pub text_of : Kind → Version → List ℕ → List ℕ
 text_of kind version hex = kind_text kind ++ (version_text version ++ (hex ++ (line_feed ∷ [])))
 
 abbrev pub Good : List ℕ → Type 0
-Good s = (kind : ListingKind) × (version : Version) × (hex : List ℕ) × HexDigits most_digits hex × (s ≡ text_of kind version hex)
+Good s = (kind : Kind) × (version : Version) × (hex : List ℕ) × HexDigits most_digits hex × (s ≡ text_of kind version hex)
 
 -- of this kind and version, with n digits from a place on
-abbrev pub GoodWith : List ℕ → ListingKind → Version → ℕ → ℕ → Type 0
+abbrev pub GoodWith : List ℕ → Kind → Version → ℕ → ℕ → Type 0
 GoodWith s kind version from n =
     (hex : List ℕ) × HexDigits most_digits hex × (s ≡ text_of kind version hex) × (from ≡ length (kind_text kind) + length (version_text version)) × (n ≡ length hex)

@@ -1,126 +1,85 @@
 // One request line: kind, tab, version, tab, the payload in hexadecimal, line feed.
 #![tactic(auto)]
 
-ghost use Rattle.std.specs.Prelude.{◌≡◌, ◌≤◌};
+ghost use Rattle.std.specs.Prelude.{◌≡◌, ◌≤◌, Err, length};
 ghost use Rattle.text_parts.specs.Words.{reach_from};
-ghost use Rattle.request_line.specs.Request.{kind_words, version_words, kind_of, kind_length, version_of, payload_at, request_of};
+ghost use Rattle.request_line.specs.Good.{kind_text};
+ghost use Rattle.request_line.specs.Request.{kind_words, version_words, request_of};
 
 use protocol::Version;
-use text_parts::{LineEnd, Reached, also_word, line_end_at};
+use protocol::service::Kind;
+use text_parts::{also_word, line_end_at};
 
-// What a listing can be asked of.
+// What a line asks for: its payload's digits stand from `from` on.
 #[derive(Clone, Copy)]
-pub enum ListingKind {
-    PacketService,
-    Version,
-    Registration,
-    SignalState,
-    DeviceServices,
-    SetPin,
-    PinInfo,
-}
-
-#[derive(Clone, Copy)]
-pub enum Request {
-    // The payload's digits stand in the line from `from` on.
-    Payload {
-        kind: ListingKind,
-        version: Version,
-        from: usize,
-        digits: usize,
-    },
-    // The first column where no good line can go on or end.
-    BadLine(usize),
+pub struct Request {
+    pub kind: Kind,
+    pub version: Version,
+    pub from: usize,
+    pub digits: usize,
 }
 
 // The most digits of a line: those of 8,192 bytes.
 const MOST_DIGITS: usize = 16384;
 
-pub fn request_of(line: &[u8]) -> Request
+// The kinds, as their words are tried.
+const KINDS: [Kind; 7] = [
+    Kind::PacketService,
+    Kind::VersionInfo,
+    Kind::RegisterState,
+    Kind::SignalState,
+    Kind::DeviceServices,
+    Kind::SetPin,
+    Kind::PinInfo,
+];
+
+#[tactic(auto, unfolding(crate::specs::Request::request_of, crate::specs::Request::payload_at))]
+pub fn request_of(line: &[u8]) -> Result<Request, usize>
     ensures { result ≡ request_of line.now }
 {
-    match kind_at(line) {
-        Reached::Column(column) => Request::BadLine(column),
-        Reached::Word(number) => {
-            let kind = kind_of(number);
-            let at = kind_length(kind);
-            match version_at(line, at) {
-                Reached::Column(column) => Request::BadLine(column),
-                Reached::Word(number) => payload_at(line, kind, version_of(number), at + 5),
-            }
-        }
-    }
+    let kind = kind_at(line)?;
+    let at = kind_text(kind).len();
+    let version = version_at(line, at)?;
+    let from = at + 5;
+    let digits = line_end_at(line, from, MOST_DIGITS)?;
+    Ok(Request {
+        kind,
+        version,
+        from,
+        digits,
+    })
 }
 
-// The rest of a line whose payload begins at `from`.
-fn payload_at(line: &[u8], kind: ListingKind, version: Version, from: usize) -> Request
-    ensures { result ≡ payload_at line.now kind version from }
+fn kind_at(line: &[u8]) -> Result<Kind, usize>
+    ensures { result ≡ reach_from (Err 0) line.now 0 kind_words }
 {
-    match line_end_at(line, from, MOST_DIGITS) {
-        LineEnd::Column(column) => Request::BadLine(column),
-        LineEnd::Digits(digits) => Request::Payload {
-            kind,
-            version,
-            from,
-            digits,
-        },
+    let mut reached = Err(0);
+    for kind in KINDS {
+        reached = also_word(reached, line, 0, kind_text(kind), kind);
     }
+    reached
 }
 
-fn kind_at(line: &[u8]) -> Reached
-    ensures { result ≡ reach_from (Reached.Column 0) line.now 0 kind_words }
-{
-    let packet = also_word(Reached::Column(0), line, 0, b"packet_service\t", 0);
-    let version = also_word(packet, line, 0, b"version\t", 1);
-    let registration = also_word(version, line, 0, b"registration\t", 2);
-    let signal = also_word(registration, line, 0, b"signal_state\t", 3);
-    let services = also_word(signal, line, 0, b"device_services\t", 4);
-    let set_pin = also_word(services, line, 0, b"set_pin\t", 5);
-    also_word(set_pin, line, 0, b"pin_info\t", 6)
-}
-
-fn kind_of(number: u32) -> ListingKind
-    ensures { result ≡ kind_of number }
-{
-    match number {
-        0 => ListingKind::PacketService,
-        1 => ListingKind::Version,
-        2 => ListingKind::Registration,
-        3 => ListingKind::SignalState,
-        4 => ListingKind::DeviceServices,
-        5 => ListingKind::SetPin,
-        _ => ListingKind::PinInfo,
-    }
-}
-
-// The length of a kind's word, with its tab.
-fn kind_length(kind: ListingKind) -> usize
-    ensures { (result ≡ kind_length kind) × (result ≤ 16) }
+// A kind's word, with its tab.
+pub fn kind_text(kind: Kind) -> &'static [u8]
+    ensures value { result.now ≡ kind_text kind }
+    ensures short { length result.now ≤ 16 }
 {
     match kind {
-        ListingKind::PacketService => 15,
-        ListingKind::Version => 8,
-        ListingKind::Registration => 13,
-        ListingKind::SignalState => 13,
-        ListingKind::DeviceServices => 16,
-        ListingKind::SetPin => 8,
-        ListingKind::PinInfo => 9,
+        Kind::PacketService => b"packet_service\t",
+        Kind::VersionInfo => b"version\t",
+        Kind::RegisterState => b"registration\t",
+        Kind::SignalState => b"signal_state\t",
+        Kind::DeviceServices => b"device_services\t",
+        Kind::SetPin => b"set_pin\t",
+        Kind::PinInfo => b"pin_info\t",
     }
 }
 
-fn version_at(line: &[u8], at: usize) -> Reached
+fn version_at(line: &[u8], at: usize) -> Result<Version, usize>
     requires { at ≤ 16 }
-    ensures { result ≡ reach_from (Reached.Column at) line.now at version_words }
+    ensures { result ≡ reach_from (Err at) line.now at version_words }
 {
-    let first = also_word(Reached::Column(at), line, at, b"1.00\t", 0);
-    also_word(first, line, at, b"2.00\t", 1)
-}
-
-fn version_of(number: u32) -> Version
-    ensures { result ≡ version_of number }
-{
-    if number == 0 {
-        return Version::V1;
-    }
-    Version::V2
+    let first = also_word(Err(at), line, at, b"1.00\t", Version::V1);
+    also_word(first, line, at, b"2.00\t", Version::V2)
 }

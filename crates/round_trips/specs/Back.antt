@@ -1,10 +1,7 @@
 -- What was written reads back: of n bytes at the front of an output, the reader shows the record, at its version where it has two forms, and by either choice.
-use Rattle.std.specs.Prelude.{ℕ, ◌≡◌, List, take}
-use Rattle.protocol.specs.declared.Written.{Written}
-use Rattle.protocol.specs.declared.Written.TheVariants.{Length, Refused}
+use Rattle.std.specs.Prelude.{ℕ, ◌≡◌, List, take, Ok, Err}
 use Rattle.packet_service.specs.PacketService as packet
 use Rattle.packet_service.specs.declared.PacketService.{PacketService}
-use Rattle.packet_service.specs.declared.PacketServiceRead.TheVariants as packet_read
 use Rattle.pairs.specs.declared.ZeroSize.{ZeroSize}
 use Rattle.registration.specs.Claims.{Returned}
 use Rattle.registration.specs.declared.Registration.{Registration}
@@ -12,33 +9,32 @@ use Rattle.signal_state.specs.SignalState as signal
 use Rattle.signal_state.specs.Claims.{kept_in}
 use Rattle.signal_state.specs.declared.RsrpSnr.{RsrpSnr}
 use Rattle.signal_state.specs.declared.SignalState.{SignalState}
-use Rattle.signal_state.specs.declared.SignalStateRead.TheVariants as signal_read
 use Rattle.pin.specs.SetPinClaims.{Returned as SetPinReturned}
 use Rattle.pin.specs.declared.set_pin.SetPin.{SetPin}
 use Rattle.pin.specs.PinInfo as pin_info
 use Rattle.pin.specs.declared.pin_info.PinInfo.{PinInfo}
-use Rattle.pin.specs.declared.pin_info.PinInfoRead.TheVariants as pin_info_read
+use Rattle.protocol.specs.Verdict.{Written}
 
 abbrev pub PacketBack : Written → PacketService → List ℕ → Type 0
-PacketBack (Length n) p s = packet.read_of (packet.version_of p) (take n s) ≡ packet_read.Info p
-PacketBack (Refused r) p s = Unit
+PacketBack (Ok n) p s = packet.read_of (packet.version_of p) (take n s) ≡ Ok p
+PacketBack (Err r) p s = Unit
 
 -- with its three texts
 abbrev pub RegistrationBack : Written → Registration → List ℕ → List ℕ → List ℕ → List ℕ → Type 0
-RegistrationBack (Length n) p x y z s = (choice : ZeroSize) → Returned choice p x y z (take n s)
-RegistrationBack (Refused r) p x y z s = Unit
+RegistrationBack (Ok n) p x y z s = (choice : ZeroSize) → Returned choice p x y z (take n s)
+RegistrationBack (Err r) p x y z s = Unit
 
 -- with its entries, zero past the count
 abbrev pub SignalBack : Written → SignalState → List RsrpSnr → List ℕ → Type 0
-SignalBack (Length n) p es s =
-    (choice : ZeroSize) → signal.read_with (signal.version_of p) choice (take n s) ≡ record { answer = signal_read.Info p; entries = kept_in p.form es }
-SignalBack (Refused r) p es s = Unit
+SignalBack (Ok n) p es s =
+    (choice : ZeroSize) → signal.read_with (signal.version_of p) choice (take n s) ≡ record { answer = Ok p; entries = kept_in p.form es }
+SignalBack (Err r) p es s = Unit
 
 -- with its two texts
 abbrev pub SetPinBack : Written → SetPin → List ℕ → List ℕ → List ℕ → Type 0
-SetPinBack (Length n) p x y s = (choice : ZeroSize) → SetPinReturned choice p x y (take n s)
-SetPinBack (Refused r) p x y s = Unit
+SetPinBack (Ok n) p x y s = (choice : ZeroSize) → SetPinReturned choice p x y (take n s)
+SetPinBack (Err r) p x y s = Unit
 
 abbrev pub PinInfoBack : Written → PinInfo → List ℕ → Type 0
-PinInfoBack (Length n) i s = pin_info.read_of (take n s) ≡ pin_info_read.Info i
-PinInfoBack (Refused r) i s = Unit
+PinInfoBack (Ok n) i s = pin_info.read_of (take n s) ≡ Ok i
+PinInfoBack (Err r) i s = Unit

@@ -19,6 +19,7 @@ use protocol::Written;
 use registration::Registration;
 use signal_state::{RsrpSnr, SignalState};
 
+#[tactic(auto, using(crate::proofs::Returned::packet_returned, crate::proofs::Owned::packet_of_width))]
 pub fn write_packet_service(info: PacketService, out: &mut [u8]) -> Written
     ensures value { result ≡ (packet_written info out.old).answer }
     ensures out_after { out.new ≡ (packet_written info out.old).output }
@@ -27,6 +28,7 @@ pub fn write_packet_service(info: PacketService, out: &mut [u8]) -> Written
     packet_service::write(info, out)
 }
 
+#[tactic(auto, using(crate::proofs::Returned::registration_returned, crate::proofs::Owned::registration_of_width))]
 pub fn write_registration(
     info: Registration,
     provider_id: &[u8],
@@ -41,6 +43,7 @@ pub fn write_registration(
     registration_writer::write(info, provider_id, provider_name, roaming_text, out)
 }
 
+#[tactic(auto, using(crate::proofs::Returned::signal_returned, crate::proofs::Owned::signal_of_width, crate::proofs::Owned::entries_of_width))]
 pub fn write_signal_state(info: SignalState, entries: [RsrpSnr; 16], out: &mut [u8]) -> Written
     ensures value { result ≡ (signal_written info entries out.old).answer }
     ensures out_after { out.new ≡ (signal_written info entries out.old).output }
@@ -49,6 +52,7 @@ pub fn write_signal_state(info: SignalState, entries: [RsrpSnr; 16], out: &mut [
     signal_writer::write(info, entries, out)
 }
 
+#[tactic(auto, using(crate::proofs::Returned::set_pin_returned, crate::proofs::Owned::set_pin_of_width))]
 pub fn write_set_pin(info: SetPin, pin: &[u8], new_pin: &[u8], out: &mut [u8]) -> Written
     ensures value { result ≡ (set_pin_written info pin.now new_pin.now out.old).answer }
     ensures out_after { out.new ≡ (set_pin_written info pin.now new_pin.now out.old).output }
@@ -57,6 +61,7 @@ pub fn write_set_pin(info: SetPin, pin: &[u8], new_pin: &[u8], out: &mut [u8]) -
     set_pin::write(info, pin, new_pin, out)
 }
 
+#[tactic(auto, using(crate::proofs::Returned::pin_info_returned, crate::proofs::Owned::pin_info_of_width))]
 pub fn write_pin_info(info: PinInfo, out: &mut [u8]) -> Written
     ensures value { result ≡ (pin_info_written info out.old).answer }
     ensures out_after { out.new ≡ (pin_info_written info out.old).output }

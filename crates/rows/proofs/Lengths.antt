@@ -9,6 +9,7 @@ use Rattle.ascii.specs.Ascii.{ascii}
 use Rattle.ascii.proofs.Laws.{length_decimal, length_hexed}
 use Rattle.folds.specs.Folds.{joined}
 use Rattle.protocol.specs.declared.Refusal.{Refusal}
+use Rattle.protocol.specs.Refusal.{number_of}
 use Rattle.rows.specs.Rows.{field, row, indexed_row, text_row, refusal_line, refused_line}
 
 pub field_le : (v : ℕ) → length (field v) ≤ 21
@@ -29,7 +30,7 @@ text_le name text h k = simp length-append (omega (arith, length_hexed (length t
 
 pub refusal_le : (name : List ℕ) (r : Refusal) → length name ≤ 50 → length (refusal_line name r) ≤ 93
 unfolding refusal_line
-refusal_le name r h = simp length-append (omega (arith, field_le r.number, field_le r.place))
+refusal_le name r h = simp length-append (omega (arith, field_le (number_of r.reason), field_le r.place))
 
 pub refused_le : (r : Refusal) → length (refused_line r) ≤ 93
 refused_le r = refusal_le (ascii "refused") r (omega arith)

@@ -3,6 +3,7 @@
 use Rattle.std.specs.Prelude.{ℕ, ◌+◌, ◌-◌, min, ◌≡◌, List, [], ◌∷◌, ◌++◌, length}
 use Rattle.std.proofs.lemmas.List.Edits.{sets}
 use Rattle.protocol.specs.declared.Refusal.{Refusal}
+use Rattle.protocol.specs.Refusal.{number_of}
 use Rattle.ascii.specs.Ascii.{tab, line_feed, ascii, decimal, hexed}
 
 -- ---- the rows
@@ -27,7 +28,7 @@ text_row name text = name ++ ((tab ∷ []) ++ (hexed text ++ (line_feed ∷ []))
 
 -- a refusal's number and place behind a name; "a refusal is one line: refused, number, place"
 unfoldable pub refusal_line : List ℕ → Refusal → List ℕ
-refusal_line name r = name ++ (field r.number ++ (field r.place ++ (line_feed ∷ [])))
+refusal_line name r = name ++ (field (number_of r.reason) ++ (field r.place ++ (line_feed ∷ [])))
 
 abbrev pub refused_line : Refusal → List ℕ
 refused_line r = refusal_line (ascii "refused") r

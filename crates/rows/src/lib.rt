@@ -1,5 +1,7 @@
 // Rows of text, one behind the other: a name, a tab, a value, a line feed. Each is put at any place
-// of any output; what has no room is dropped. It knows no payload.
+// of any output; what has no room is dropped. It knows no payload. (Output and place stay two
+// parameters: of a struct that borrows the output each function would also have to say that it keeps
+// the borrow.)
 #![tactic(auto)]
 
 ghost use Rattle.std.specs.Prelude.{◌≡◌, ◌+◌, ◌-◌, min};
@@ -53,7 +55,7 @@ pub fn put_refusal(out: &mut [u8], at: usize, name: &[u8], refusal: Refusal) -> 
     ensures { Put out.old at (refusal_line name.now refusal) out.new result }
 {
     let number = put_text(out, at, name);
-    let place = put_field(out, number, refusal.number as u64);
+    let place = put_field(out, number, u64::from(u32::from(refusal.reason)));
     let end = put_field(out, place, refusal.place as u64);
     put_text(out, end, b"\n")
 }
@@ -78,10 +80,8 @@ pub fn put_digits(out: &mut [u8], at: usize, text: &[u8]) -> usize
     ensures { Put out.old at (hexed text.now) out.new result }
 {
     let mut next = at;
-    let mut i: usize = 0;
-    while i < text.len() {
-        next = put_pair(out, next, text[i]);
-        i += 1;
+    for &b in text {
+        next = put_pair(out, next, b);
     }
     next
 }
@@ -104,11 +104,5 @@ fn put_pair(out: &mut [u8], at: usize, b: u8) -> usize
 fn behind(length: usize, at: usize, n: usize) -> usize
     ensures { result ≡ at + min n (length - at) }
 {
-    if length <= at {
-        return at;
-    }
-    if length - at < n {
-        return length;
-    }
-    at + n
+    at + n.min(length.saturating_sub(at))
 }

@@ -1,8 +1,8 @@
 -- Fields of a sample line (docs/samples.md): "A field is bytes, each two hexadecimal digits."
 -- In this order: where a line ends; the field at a place of a line; the five fields; what a call left, and what its line says.
-use Rattle.std.specs.Prelude.{ℕ, zero, suc, ◌+◌, ◌*◌, ◌/◌, ◌%◌, min, Bool, cond, not, ◌&&◌, List, leb, eqb, length, get_or, take, drop}
+use Rattle.std.specs.Prelude.{ℕ, zero, suc, ◌+◌, ◌*◌, ◌/◌, ◌%◌, min, Bool, cond, ◌&&◌, List, leb, eqb, length, get_or, take, drop}
 use Rattle.wire.specs.Numbers.{u32_at}
-use Rattle.folds.specs.Folds.{any_of}
+use Rattle.std.specs.List.{list_all, range_with_len}
 use Rattle.ascii.specs.Ascii.{hex_run, unhexed, tab, line_feed, through}
 use Rattle.sample_lines.specs.declared.answers.Asked.{Asked}
 
@@ -65,15 +65,15 @@ untouched_word = 2863311530
 
 -- the first n words are those of s from the word `at` on
 unfoldable pub same_words : List ℕ → ℕ → List ℕ → ℕ → Bool
-same_words words n s at = not (any_of (λ k. not (eqb (get_or words k 0) (u32_at s (4 * (at + k))))) n)
+same_words words n s at = list_all (λ k. eqb (get_or words k 0) (u32_at s (4 * (at + k)))) (range_with_len 0 n)
 
 -- the first n bytes are the same
 unfoldable pub same_bytes : List ℕ → List ℕ → ℕ → Bool
-same_bytes s t n = not (any_of (λ k. not (eqb (get_or s k 0) (get_or t k 0))) n)
+same_bytes s t n = list_all (λ k. eqb (get_or s k 0) (get_or t k 0)) (range_with_len 0 n)
 
 -- nothing but b from a place on
 unfoldable pub filled_with : List ℕ → ℕ → ℕ → Bool
-filled_with s from b = not (any_of (λ k. leb from k && not (eqb (get_or s k 0) b)) (length s))
+filled_with s from b = list_all (λ x. eqb x b) (drop from s)
 
 -- the list's numbers are those behind the first `count` of the answer, in which nothing else stands; past them the list is as it was
 unfoldable pub is_listed : ℕ → ℕ → List ℕ → List ℕ → Bool

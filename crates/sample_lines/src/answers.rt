@@ -31,17 +31,20 @@ pub fn half_at(arguments: &[u8], place: u32) -> u16
 pub fn least(a: usize, b: usize) -> usize
     ensures { result ≡ min a b }
 {
-    if a < b { a } else { b }
+    a.min(b)
+}
+
+// The front of what is lent: as much of it as the size says.
+pub fn lent<T>(memory: &mut [T], size: u32) -> &mut [T] {
+    let n = least(size as usize, memory.len());
+    &mut memory[..n]
 }
 
 // A number as a word; the largest word stands for all that are none.
 pub fn short(n: usize) -> u32
     ensures { result ≡ as_word n }
 {
-    if 4294967295 < n {
-        return 4294967295;
-    }
-    n as u32
+    u32::try_from(n).unwrap_or(u32::MAX)
 }
 
 // The numbers of an answer that has three at most beside a refusal's number and place.

@@ -10,10 +10,8 @@ use native.Mathlib.Omega.{arith}
 use borrow.Author.Tests.{eq-eqb, eqb-true}
 use lib.ListN.{length}
 use Rattle.protocol.specs.declared.Refusal.{Refusal}
-use Rattle.protocol.specs.declared.Verdict.{Verdict}
-use Rattle.protocol.specs.declared.Verdict.TheVariants.{Fits, Fault}
 use Rattle.protocol.specs.declared.service.ServiceId.{ServiceId}
-use Rattle.protocol.specs.Verdict.{first_of}
+use Rattle.protocol.specs.Verdict.{first_of, no_fault, Verdict}
 use Rattle.protocol.proofs.Tests.{and_both, both_and}
 use Rattle.folds.specs.Folds.{any_of, first_index}
 use Rattle.folds.proofs.Laws.{any_at, none_each, index_below, index_first, fault_at, each_fits}
@@ -23,11 +21,11 @@ use Rattle.device_services.proofs.Acceptance.{element_said, said_element}
 use Rattle.services_query.specs.ServicesQuery.{is_of, is_cid, has_cid, holds}
 use Rattle.services_query.specs.Claims.{Held}
 use Rattle.services_query.proofs.Answers.{serves_said, said_serves, listed_exactly, not_listed_exactly}
-use Rattle.services_ask.specs.declared.PositionAnswer.{PositionAnswer}
-use Rattle.services_ask.specs.declared.PositionAnswer.TheVariants.{Listed, NotListed, Refused}
-use Rattle.services_ask.specs.ServicesAsk.{match_in, judged, element_says, or_else, first_said, position_with}
+use Rattle.services_ask.specs.declared.Position.{Position}
+use Rattle.services_ask.specs.ServicesAsk.{PositionAnswer, position, match_in, judged, element_says, or_else, first_said, position_with}
 use Rattle.services_ask.proofs.Laws.{order, silent_each}
 use Rattle.services_ask.specs.Claims.{Match, Reached, NoneBefore, AskedExactly, Asked}
+use Rattle.std.specs.Prelude.{Some, None, Ok, Err}
 
 -- ---- of any answers
 
@@ -35,10 +33,10 @@ use Rattle.services_ask.specs.Claims.{Match, Reached, NoneBefore, AskedExactly, 
 record Ended (f : ℕ → PositionAnswer) (n : ℕ) (a : PositionAnswer) : Type 0 where
   at : ℕ
   below : at < n
-  before : first_said f at ≡ NotListed
+  before : first_said f at ≡ Ok None
   says : f at ≡ a
 
-ended : (f : ℕ → PositionAnswer) (n : ℕ) (a : PositionAnswer) → (a ≡ NotListed → ⊥) → first_said f n ≡ a → Ended f n a
+ended : (f : ℕ → PositionAnswer) (n : ℕ) (a : PositionAnswer) → (a ≡ Ok None → ⊥) → first_said f n ≡ a → Ended f n a
 unfolding first_said
 ended f zero a some e = absurd (some (sym e))
 ended f (suc n) a some e = by_first (ended f n a some) (first_said f n) refl e
@@ -47,26 +45,26 @@ ended f (suc n) a some e = by_first (ended f n a some) (first_said f n) refl e
     further h = let l : h.at < n = h.below in record { at = h.at; below = omega arith; before = h.before; says = h.says }
 
     by_first : (first_said f n ≡ a → Ended f n a) → (x : PositionAnswer) → first_said f n ≡ x → or_else x (f n) ≡ a → Ended f (suc n) a
-    by_first rest (Listed i k) q e = further (rest (q ∙ e))
-    by_first rest NotListed q e = record { at = n; below = omega arith; before = q; says = e }
-    by_first rest (Refused r) q e = further (rest (q ∙ e))
+    by_first rest (Ok (Some p)) q e = further (rest (q ∙ e))
+    by_first rest (Ok None) q e = record { at = n; below = omega arith; before = q; says = e }
+    by_first rest (Err r) q e = further (rest (q ∙ e))
 
 -- ---- of a verdict and an answer behind it
 
-judged_listed : (d : Verdict) (a : PositionAnswer) (i k : ℕ) → judged d a ≡ Listed i k → (d ≡ Fits) × (a ≡ Listed i k)
-judged_listed Fits a i k e = (refl, e)
-judged_listed (Fault r) a i k e = let z : ◌≡◌ {A = ℕ} 0 1 = cc in absurd (omega arith)
+judged_listed : (d : Verdict) (a : PositionAnswer) (i k : ℕ) → judged d a ≡ Ok (Some (position i k)) → (d ≡ no_fault) × (a ≡ Ok (Some (position i k)))
+judged_listed (Ok _) a i k e = (refl, e)
+judged_listed (Err r) a i k e = cc
 
-judged_none : (d : Verdict) (a : PositionAnswer) → judged d a ≡ NotListed → (d ≡ Fits) × (a ≡ NotListed)
-judged_none Fits a e = (refl, e)
-judged_none (Fault r) a e = let z : ◌≡◌ {A = ℕ} 0 1 = cc in absurd (omega arith)
+judged_none : (d : Verdict) (a : PositionAnswer) → judged d a ≡ Ok None → (d ≡ no_fault) × (a ≡ Ok None)
+judged_none (Ok _) a e = (refl, e)
+judged_none (Err r) a e = cc
 
-judged_refused : (d : Verdict) (a : PositionAnswer) (r : Refusal) → judged d a ≡ Refused r → (d ≡ Fault r) ⊎ ((d ≡ Fits) × (a ≡ Refused r))
-judged_refused Fits a r e = inr (refl, e)
-judged_refused (Fault x) a r e = let z : x ≡ r = cc in inl (ap Fault z)
+judged_refused : (d : Verdict) (a : PositionAnswer) (r : Refusal) → judged d a ≡ Err r → (d ≡ Err r) ⊎ ((d ≡ no_fault) × (a ≡ Err r))
+judged_refused (Ok _) a r e = inr (refl, e)
+judged_refused (Err x) a r e = let z : x ≡ r = cc in inl (ap Err z)
 
-fits_fault : {A : Type 0} {d : Verdict} {r : Refusal} → d ≡ Fits → d ≡ Fault r → A
-fits_fault e q = let z : ◌≡◌ {A = ℕ} 0 1 = cc in absurd (omega arith)
+fits_fault : {A : Type 0} {d : Verdict} {r : Refusal} → d ≡ no_fault → d ≡ Err r → A
+fits_fault e q = cc
 
 -- ---- of an element
 
@@ -85,12 +83,12 @@ module _ (s : List ℕ) (service : ServiceId) (cid : ℕ) where
       (both_and (is_of s service i) _ (said_serves s service i m.serves) (any_at (test i) (cid_count_at s (offset_of s i)) k m.counted t), t)
 
   -- an element that says nothing has no match
-  no_match : (i : ℕ) → match_in s service cid i ≡ NotListed → (k : ℕ) → Match s service cid i k → ⊥
+  no_match : (i : ℕ) → match_in s service cid i ≡ Ok None → (k : ℕ) → Match s service cid i k → ⊥
   unfolding match_in
   no_match i e k m = by_held (met i k m).0 e
     where
-      by_held : holds s service cid i ≡ true → cond (holds s service cid i) (Listed i (first i)) NotListed ≡ NotListed → ⊥
-      by_held q e = let y : Listed i (first i) ≡ NotListed = rw q at e in let z : ◌≡◌ {A = ℕ} 0 1 = cc in absurd (omega arith)
+      by_held : holds s service cid i ≡ true → cond {A = PositionAnswer} (holds s service cid i) (Ok (Some (position i (first i)))) (Ok None) ≡ Ok None → ⊥
+      by_held q e = let y : ◌≡◌ {A = PositionAnswer} (Ok (Some (position i (first i)))) (Ok None) = rw q at e in cc
 
   record FirstIn (i j k : ℕ) : Type 0 where
     same : i ≡ j
@@ -110,25 +108,25 @@ module _ (s : List ℕ) (service : ServiceId) (cid : ℕ) where
       }
     where
       earlier : (l : ℕ) → l < first i → any_of (test i) (first i) ≡ false → test i l ≡ true → ⊥
-      earlier l y none t = let n = none_each (test i) (first i) none l y in let w : ◌≡◌ {A = Bool} true false = cc in let z : ◌≡◌ {A = ℕ} 0 1 = cc in absurd (omega arith)
+      earlier l y none t = let n = none_each (test i) (first i) none l y in cc
 
   -- an element that says a position has its first match there
-  first_match : (i j k : ℕ) → i < count_of s → match_in s service cid i ≡ Listed j k → FirstIn i j k
+  first_match : (i j k : ℕ) → i < count_of s → match_in s service cid i ≡ Ok (Some (position j k)) → FirstIn i j k
   unfolding match_in
   first_match i j k below e = by_held (holds s service cid i) refl e
     where
-      by_held : (b : Bool) → holds s service cid i ≡ b → cond b (Listed i (first i)) NotListed ≡ Listed j k → FirstIn i j k
-      by_held true q e = let x : first i ≡ k = cc in let y : i ≡ j = cc in let h = first_held i below q in record { same = y; match = rw (← x) h.match; before = rw (← x) h.before }
-      by_held false q e = let z : ◌≡◌ {A = ℕ} 0 1 = cc in absurd (omega arith)
+      by_held : (b : Bool) → holds s service cid i ≡ b → cond {A = PositionAnswer} b (Ok (Some (position i (first i)))) (Ok None) ≡ Ok (Some (position j k)) → FirstIn i j k
+      by_held true q e = let p : position i (first i) ≡ position j k = cc in let x = ap (λ (p : Position). p.cid_number) p in let y = ap (λ (p : Position). p.element_number) p in let h = first_held i below q in record { same = y; match = rw (← x) h.match; before = rw (← x) h.before }
+      by_held false q e = cc
 
   -- and it never refuses
-  no_refusal : (i : ℕ) (r : Refusal) → match_in s service cid i ≡ Refused r → ⊥
+  no_refusal : (i : ℕ) (r : Refusal) → match_in s service cid i ≡ Err r → ⊥
   unfolding match_in
   no_refusal i r = by_held (holds s service cid i)
     where
-      by_held : (b : Bool) → cond b (Listed i (first i)) NotListed ≡ Refused r → ⊥
-      by_held true e = let z : ◌≡◌ {A = ℕ} 0 1 = cc in absurd (omega arith)
-      by_held false e = let z : ◌≡◌ {A = ℕ} 0 1 = cc in absurd (omega arith)
+      by_held : (b : Bool) → cond {A = PositionAnswer} b (Ok (Some (position i (first i)))) (Ok None) ≡ Err r → ⊥
+      by_held true e = cc
+      by_held false e = cc
 
 -- ---- what each answer says
 
@@ -146,49 +144,49 @@ module _ (z : ZeroSize) (s : List ℕ) (service : ServiceId) (cid : ℕ) where
   answer = position_with z s service cid
 
   -- elements that say nothing are good and have no match
-  quiet : (n : ℕ) → first_said says n ≡ NotListed → (j : ℕ) → j < n → (verdict j ≡ Fits) × ((l : ℕ) → Match s service cid j l → ⊥)
+  quiet : (n : ℕ) → first_said says n ≡ Ok None → (j : ℕ) → j < n → (verdict j ≡ no_fault) × ((l : ℕ) → Match s service cid j l → ⊥)
   unfolding element_says
   quiet n e j l =
       let k = judged_none (verdict j) (match_in s service cid j) (silent_each says n e j l) in
       (k.0, no_match s service cid j k.1)
 
   -- the walk ends at element j with its CID k
-  ends_at : (j k : ℕ) → length_verdict (length s) (count_of s) ≡ Fits → first_said says j ≡ NotListed → verdict j ≡ Fits → Match s service cid j k
+  ends_at : (j k : ℕ) → length_verdict (length s) (count_of s) ≡ no_fault → first_said says j ≡ Ok None → verdict j ≡ no_fault → Match s service cid j k
       → ((l : ℕ) → Match s service cid j l → k ≤ l) → Reached s service cid j k × NoneBefore s service cid j k
   ends_at j k long e f m first = (
     record { long = long; good = λ i l. ⊎_elim (λ q. rw q (element_said z s fixed j f)) (λ q. element_said z s fixed i (quiet j e i q).0) (eq-or-lt_of_le l); match = m },
     λ i l x. ⊎_elim (λ q. absurd ((quiet j e i q).1 l x)) (λ q. ⊎_elim (λ p. inr (p, first l (rw p x))) inl (eq-or-lt_of_le q)) (order i j),
   )
 
-  listed_said : (i k : ℕ) → answer ≡ Listed i k → Reached s service cid i k × NoneBefore s service cid i k
+  listed_said : (i k : ℕ) → answer ≡ Ok (Some (position i k)) → Reached s service cid i k × NoneBefore s service cid i k
   unfolding position_with element_says
   listed_said i k e =
       let d = judged_listed (length_verdict (length s) (count_of s)) (first_said says (count_of s)) i k e in
-      let h = ended says (count_of s) (Listed i k) (λ q. let z : ◌≡◌ {A = ℕ} 0 1 = cc in absurd (omega arith)) d.1 in
+      let h = ended says (count_of s) (Ok (Some (position i k))) (λ q. cc) d.1 in
       let x = judged_listed (verdict h.at) (match_in s service cid h.at) i k h.says in
       let m = first_match s service cid h.at i k h.below x.1 in
       rw (← m.same) (ends_at h.at k d.0 h.before x.0 m.match m.before)
 
-  none_said : answer ≡ NotListed → (verdict_with z s ≡ Fits) × ((i k : ℕ) → Match s service cid i k → ⊥)
+  none_said : answer ≡ Ok None → (verdict_with z s ≡ no_fault) × ((i k : ℕ) → Match s service cid i k → ⊥)
   unfolding position_with verdict_with first_of
   none_said e =
       let d = judged_none (length_verdict (length s) (count_of s)) (first_said says (count_of s)) e in
       (rw d.0 (each_fits verdict (count_of s) (λ j l. (quiet (count_of s) d.1 j l).0)), λ i k m. (quiet (count_of s) d.1 i m.serves.below).1 k m)
 
   -- the first faulty element is j
-  faulty_at : (j : ℕ) (r : Refusal) → length_verdict (length s) (count_of s) ≡ Fits → j < count_of s → first_said says j ≡ NotListed → verdict j ≡ Fault r
-      → (verdict_with z s ≡ Fault r) × ((i k : ℕ) → Reached s service cid i k → ⊥)
+  faulty_at : (j : ℕ) (r : Refusal) → length_verdict (length s) (count_of s) ≡ no_fault → j < count_of s → first_said says j ≡ Ok None → verdict j ≡ Err r
+      → (verdict_with z s ≡ Err r) × ((i k : ℕ) → Reached s service cid i k → ⊥)
   unfolding verdict_with first_of
   faulty_at j r long below e q = (
     rw long (fault_at verdict (count_of s) j r (each_fits verdict j (λ i l. (quiet j e i l).0)) below q),
     λ i k h. ⊎_elim (λ l. (quiet j e i l).1 k h.match) (λ l. fits_fault (said_element z s fixed j (h.good j l)) q) (order i j),
   )
 
-  refused_said : (r : Refusal) → answer ≡ Refused r → (verdict_with z s ≡ Fault r) × ((i k : ℕ) → Reached s service cid i k → ⊥)
+  refused_said : (r : Refusal) → answer ≡ Err r → (verdict_with z s ≡ Err r) × ((i k : ℕ) → Reached s service cid i k → ⊥)
   unfolding position_with element_says verdict_with first_of
   refused_said r e =
       ⊎_elim (λ q. (rw q, λ i k h. fits_fault h.long q))
-      (λ d. let h = ended says (count_of s) (Refused r) (λ q. let z : ◌≡◌ {A = ℕ} 0 1 = cc in absurd (omega arith)) d.1 in
+      (λ d. let h = ended says (count_of s) (Err r) (λ q. cc) d.1 in
       ⊎_elim (faulty_at h.at r d.0 h.below h.before) (λ x. absurd (no_refusal s service cid h.at r x.1))
       (judged_refused (verdict h.at) (match_in s service cid h.at) r h.says))
       (judged_refused (length_verdict (length s) (count_of s)) (first_said says (count_of s)) r e)
@@ -199,13 +197,13 @@ module _ (z : ZeroSize) (s : List ℕ) (service : ServiceId) (cid : ℕ) where
   -- ---- and that nothing else gives it
 
   -- by which answer it is
-  by_answer : {A : Type 0} → ((i k : ℕ) → answer ≡ Listed i k → A) → (answer ≡ NotListed → A) → ((r : Refusal) → answer ≡ Refused r → A) → A
+  by_answer : {A : Type 0} → ((i k : ℕ) → answer ≡ Ok (Some (position i k)) → A) → (answer ≡ Ok None → A) → ((r : Refusal) → answer ≡ Err r → A) → A
   by_answer {A} if_listed if_none if_refused = go answer refl
     where
       go : (a : PositionAnswer) → answer ≡ a → A
-      go (Listed i k) e = if_listed i k e
-      go NotListed e = if_none e
-      go (Refused r) e = if_refused r e
+      go (Ok (Some p)) e = if_listed p.element_number p.cid_number e
+      go (Ok None) e = if_none e
+      go (Err r) e = if_refused r e
 
   one_position : (i k j l : ℕ) → Reached s service cid i k × NoneBefore s service cid i k → Reached s service cid j l × NoneBefore s service cid j l
       → (i ≡ j) × (k ≡ l)
@@ -224,7 +222,7 @@ module _ (z : ZeroSize) (s : List ℕ) (service : ServiceId) (cid : ℕ) where
     refused = λ r. (
       refused_said r,
       λ h. by_answer (λ i k e. absurd (h.1 i k (listed_said i k e).0)) (λ e. fits_fault (none_said e).0 h.0)
-          (λ x e. let y : Fault x ≡ Fault r = sym (refused_said x e).0 ∙ h.0 in let w : x ≡ r = cc in e ∙ ap Refused w),
+          (λ x e. let y : ◌≡◌ {A = Verdict} (Err x) (Err r) = sym (refused_said x e).0 ∙ h.0 in let w : x ≡ r = cc in e ∙ ap Err w),
     );
     position = λ i k. (
       listed_said i k,

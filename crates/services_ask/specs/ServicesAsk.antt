@@ -1,30 +1,35 @@
 -- The question for one CID (document 02, order 7): it "judges the count, the fixed part and the 4,096 as the full reader does, with its
 -- refusals, then judges elements one at a time and may stop at the first service and CID that match".
 -- In this order: what an element says by itself; the first that says anything; the question; what the code passes over.
-use Rattle.std.specs.Prelude.{ℕ, zero, suc, ◌≤◌, ◌<◌, ◌≡◌, false, cond, List, length}
-use Rattle.protocol.specs.declared.Verdict.{Verdict}
-use Rattle.protocol.specs.declared.Verdict.TheVariants.{Fits, Fault}
+use Rattle.std.specs.Prelude.{ℕ, zero, suc, ◌≤◌, ◌<◌, ◌≡◌, true, false, cond, Option, Some, None, Result, Ok, Err, List, length}
+use Rattle.protocol.specs.declared.Refusal.{Refusal}
 use Rattle.protocol.specs.declared.service.ServiceId.{ServiceId}
+use Rattle.protocol.specs.Verdict.{Verdict}
 use Rattle.folds.specs.Folds.{first_index}
 use Rattle.pairs.specs.Pair.{by_default}
 use Rattle.pairs.specs.declared.ZeroSize.{ZeroSize}
 use Rattle.device_services.specs.DeviceServices.{count_of, fixed_part, offset_of, cid_count_at, length_verdict, element_verdict}
-use Rattle.services_query.specs.ServicesQuery.{is_of, is_cid, holds}
-use Rattle.services_query.specs.declared.ListedAnswer.{ListedAnswer}
-use Rattle.services_query.specs.declared.ListedAnswer.TheVariants as list
-use Rattle.services_ask.specs.declared.PositionAnswer.{PositionAnswer}
-use Rattle.services_ask.specs.declared.PositionAnswer.TheVariants.{Listed, NotListed, Refused}
+use Rattle.services_query.specs.ServicesQuery.{is_of, is_cid, holds, ListedAnswer}
+use Rattle.services_ask.specs.declared.Position.{Position}
+
+-- the position of the first match, or that there is none
+abbrev pub PositionAnswer : Type 0
+PositionAnswer = Result (Option Position) Refusal
+
+-- CID k of element i
+abbrev pub position : ℕ → ℕ → Position
+position i k = record { element_number = i; cid_number = k }
 
 -- ---- what an element says by itself
 
 -- the position of its first match, or nothing
 unfoldable pub match_in : List ℕ → ServiceId → ℕ → ℕ → PositionAnswer
 match_in s service cid i =
-    cond (holds s service cid i) (Listed i (first_index (is_cid s (offset_of s i) cid) (cid_count_at s (offset_of s i)))) NotListed
+    cond (holds s service cid i) (Ok (Some (position i (first_index (is_cid s (offset_of s i) cid) (cid_count_at s (offset_of s i)))))) (Ok None)
 
 abbrev pub judged : Verdict → PositionAnswer → PositionAnswer
-judged Fits a = a
-judged (Fault r) a = Refused r
+judged (Ok _) a = a
+judged (Err r) a = Err r
 
 -- "an element is judged in full before its CIDs count"; the list has a fixed part
 unfoldable pub element_says : ZeroSize → List ℕ → ℕ → ServiceId → ℕ → ℕ → PositionAnswer
@@ -33,13 +38,13 @@ element_says z s fixed service cid i = judged (element_verdict z s fixed i) (mat
 -- ---- the first that says anything
 
 abbrev pub or_else : PositionAnswer → PositionAnswer → PositionAnswer
-or_else (Listed i k) b = Listed i k
-or_else NotListed b = b
-or_else (Refused r) b = Refused r
+or_else (Ok (Some p)) b = Ok (Some p)
+or_else (Ok None) b = b
+or_else (Err r) b = Err r
 
 -- of f 0, f 1, ..
 unfoldable pub first_said : (ℕ → PositionAnswer) → ℕ → PositionAnswer
-first_said f zero = NotListed
+first_said f zero = Ok None
 first_said f (suc n) = or_else (first_said f n) (f n)
 
 -- ---- the question
@@ -53,9 +58,9 @@ position_of s service cid = position_with by_default s service cid
 
 -- the full question's answer, which has no position
 abbrev pub without_position : PositionAnswer → ListedAnswer
-without_position (Listed i k) = list.Listed
-without_position NotListed = list.NotListed
-without_position (Refused r) = list.Refused r
+without_position (Ok (Some p)) = Ok true
+without_position (Ok None) = Ok false
+without_position (Err r) = Err r
 
 -- ---- what the code passes over
 

@@ -5,8 +5,7 @@ use mathlib.Core.List.{List}
 use Prim.Native.Nat.{ℕ, ◌%◌}
 use lib.ListN.{length}
 use Rattle.protocol.specs.Refusal.{wrong_count, contradiction}
-use Rattle.protocol.specs.Verdict.{fault_if, first_of}
-use Rattle.protocol.specs.declared.Verdict.TheVariants.{Fits}
+use Rattle.protocol.specs.Verdict.{fault_if, first_of, no_fault}
 use Rattle.protocol.proofs.Tests.{equal_kept, kept_equal}
 use Rattle.protocol.proofs.Verdicts.{left_fits, right_fits, not_broken, written_both, both_written}
 use Rattle.services_writer.specs.ServicesWriter.{bytes_of}
@@ -14,7 +13,7 @@ use Rattle.services_writer.proofs.Acceptance.{writable_said, said_writable}
 use Rattle.services_lists.specs.ServicesLists.{count_of, cids_before, record_of, lists_verdict, write_all_of}
 use Rattle.services_lists.specs.Claims.{Sayable, AllWrittenExactly}
 
-sayable_said : (max : ℕ) (fields cids : List ℕ) → lists_verdict max fields cids ≡ Fits → Sayable max fields cids
+sayable_said : (max : ℕ) (fields cids : List ℕ) → lists_verdict max fields cids ≡ no_fault → Sayable max fields cids
 unfolding lists_verdict
 sayable_said max fields cids e =
     let rest = right_fits _ _ e in
@@ -24,7 +23,7 @@ sayable_said max fields cids e =
       counted = equal_kept (cids_before fields (count_of fields)) (length cids) (not_broken _ contradiction 0 (right_fits _ _ rest));
     }
 
-said_sayable : (max : ℕ) (fields cids : List ℕ) → Sayable max fields cids → lists_verdict max fields cids ≡ Fits
+said_sayable : (max : ℕ) (fields cids : List ℕ) → Sayable max fields cids → lists_verdict max fields cids ≡ no_fault
 unfolding lists_verdict fault_if first_of
 said_sayable max fields cids h =
     rw (kept_equal (length fields % 7) 0 h.whole, said_writable (record_of max fields cids) h.within, kept_equal (cids_before fields (count_of fields)) (length cids) h.counted)

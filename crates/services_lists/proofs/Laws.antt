@@ -13,22 +13,19 @@ use Rattle.wire.specs.Numbers.{digits}
 use Rattle.wire.proofs.Laws.{sets_then}
 use Rattle.protocol.specs.Refusal.{refusal, wrong_size, wrong_count, contradiction}
 use Rattle.protocol.specs.Service.{id_bytes}
-use Rattle.protocol.specs.Verdict.{fault_if, first_of}
+use Rattle.protocol.specs.Verdict.{fault_if, first_of, no_fault, Verdict}
 use Rattle.protocol.specs.declared.Refusal.{Refusal}
-use Rattle.protocol.specs.declared.Verdict.{Verdict}
-use Rattle.protocol.specs.declared.Verdict.TheVariants.{Fits, Fault}
 use Rattle.protocol.proofs.Tests.{equal_kept}
 use Rattle.protocol.proofs.Verdicts.{left_fits, right_fits, not_broken, last_fits}
 use Rattle.folds.specs.Folds.{first_fault, list_of, joined, sum_of}
-use Rattle.folds.proofs.Laws.{fits_next, fault_at, fault_same, join_same, list_at, sum_within}
+use Rattle.folds.proofs.Laws.{fault_same, join_same, list_at, sum_within}
 use Rattle.pairs.specs.Pair.{range, range_bytes}
 use Rattle.device_services.specs.DeviceServices.{pair_place, fixed_part}
 use Rattle.services_writer.specs.declared.ServiceElement.{ServiceElement}
 use Rattle.services_writer.specs.ServicesWriter.{element_of, size_of, start_of, length_of, size_verdict, written_verdict, field_bytes, cid_piece, cid_bytes, element_bytes, pair_bytes, piece, bytes_of}
 use Rattle.services_writer.proofs.Laws.{length_fields, length_bytes, fitting, size_within, start_next, start_within, pair_next}
-use Rattle.services_lists.specs.declared.Totalled.{Totalled}
-use Rattle.services_lists.specs.declared.Totalled.TheVariants.{Cids, Refused}
-use Rattle.services_lists.specs.ServicesLists.{count_of, word_of, cids_counted, cids_before, element_said, record_of, bare_of, totalled, rest_verdict, lists_verdict}
+use Rattle.services_lists.specs.ServicesLists.{count_of, word_of, cids_counted, cids_before, element_said, record_of, bare_of, totalled, rest_verdict, lists_verdict, Totalled}
+use Rattle.std.specs.Prelude.{Ok, Err}
 
 -- ---- words one after another
 
@@ -50,32 +47,32 @@ part_words s at n h =
 -- ---- a total and the verdict that it came from
 
 back : Totalled → Verdict
-back (Cids n) = Fits
-back (Refused r) = Fault r
+back (Ok n) = no_fault
+back (Err r) = Err r
 
 back_total : (v : Verdict) (n : ℕ) → back (totalled v n) ≡ v
 unfolding totalled back
-back_total Fits n = refl
-back_total (Fault r) n = refl
+back_total (Ok _) n = refl
+back_total (Err r) n = refl
 
 cids_in : Totalled → ℕ
-cids_in (Cids n) = n
-cids_in (Refused r) = 0
+cids_in (Ok n) = n
+cids_in (Err r) = 0
 
-pub total_fits : (v : Verdict) (n t : ℕ) {x : Totalled} → x ≡ totalled v n → x ≡ Cids t → v ≡ Fits
+pub total_fits : (v : Verdict) (n t : ℕ) {x : Totalled} → x ≡ totalled v n → x ≡ Ok t → v ≡ no_fault
 unfolding back
 total_fits v n t p q = sym (back_total v n) ∙ ap back (sym p ∙ q)
 
-pub total_is : (v : Verdict) (n t : ℕ) {x : Totalled} → x ≡ totalled v n → x ≡ Cids t → t ≡ n
+pub total_is : (v : Verdict) (n t : ℕ) {x : Totalled} → x ≡ totalled v n → x ≡ Ok t → t ≡ n
 unfolding totalled cids_in
-total_is Fits n t p q = sym (ap cids_in (sym p ∙ q))
-total_is (Fault r) n t p q = let z : ◌≡◌ {A = ℕ} 0 1 = cc in absurd (omega arith)
+total_is (Ok _) n t p q = sym (ap cids_in (sym p ∙ q))
+total_is (Err r) n t p q = cc
 
-pub total_done : (v : Verdict) (n : ℕ) {t : ℕ} → v ≡ Fits → t ≡ n → Cids t ≡ totalled v n
+pub total_done : (v : Verdict) (n : ℕ) {t : ℕ} → v ≡ no_fault → t ≡ n → Ok t ≡ totalled v n
 unfolding totalled
-total_done v n e q = rw e (ap Cids q)
+total_done v n e q = rw e (ap Ok q)
 
-pub total_refused : (v : Verdict) (n : ℕ) (r : Refusal) {x : Totalled} → x ≡ totalled v n → x ≡ Refused r → v ≡ Fault r
+pub total_refused : (v : Verdict) (n : ℕ) (r : Refusal) {x : Totalled} → x ≡ totalled v n → x ≡ Err r → v ≡ Err r
 unfolding back
 total_refused v n r p q = sym (back_total v n) ∙ ap back (sym p ∙ q)
 
@@ -150,19 +147,10 @@ pair_more fields s i {s₁} {s₂} {b} {k} {n} h p q r e t =
     let size : 28 + 4 * n ≡ size_of (bare_of fields) i = omega (arith, e, size_said 0 fields [] i h) in
     pair_next (bare_of fields) i s p q r (t ∙ ap (λ (m : ℕ). sets s₁ k (range_bytes (range b m))) size)
 
--- a size that fits, and one that does not
-pub size_fits : (fields : List ℕ) (i : ℕ) → i < count_of fields → first_fault (size_verdict (bare_of fields)) i ≡ Fits → 28 + 4 * cids_counted fields i ≤ 540
-    → first_fault (size_verdict (bare_of fields)) (i + 1) ≡ Fits
-unfolding fault_if
-size_fits fields i h e l =
-    fits_next (size_verdict (bare_of fields)) i e (rw (size_said 0 fields [] i h, le-ltb 540 (28 + 4 * cids_counted fields i) l))
-
-pub size_over : (fields : List ℕ) (n i : ℕ) {k : ℕ} → n ≤ count_of fields → i < n → first_fault (size_verdict (bare_of fields)) i ≡ Fits
-    → 540 < 28 + 4 * cids_counted fields i → k ≡ pair_place i → first_fault (size_verdict (bare_of fields)) n ≡ Fault (refusal wrong_size k)
-unfolding fault_if
-size_over fields n i {k} h l e o q =
-    fault_at (size_verdict (bare_of fields)) n i (refusal wrong_size k) e l
-    (rw (size_said 0 fields [] i (omega arith), lt-ltb 540 (28 + 4 * cids_counted fields i) o, q))
+-- an element's size as it is judged
+pub size_judged : (fields : List ℕ) (i : ℕ) {n k : ℕ} {v : Verdict} → i < count_of fields → n ≡ cids_counted fields i → k ≡ pair_place i
+    → v ≡ fault_if (ltb 540 (28 + 4 * n)) wrong_size k → size_verdict (bare_of fields) i ≡ v
+size_judged fields i h e q j = rw (size_said 0 fields [] i h, ← e, ← q) (sym j)
 
 -- sizes and places do not depend on the CIDs
 pub sizes_same : (max : ℕ) (fields cids : List ℕ) (n : ℕ) → n ≤ count_of fields
@@ -183,7 +171,7 @@ unfolding lists_verdict written_verdict start_of
 verdict_same max fields cids = refl
 
 -- no size is over its limit, so the CIDs are few
-pub cids_few : (fields : List ℕ) (n : ℕ) → n ≤ count_of fields → first_fault (size_verdict (bare_of fields)) n ≡ Fits → cids_before fields n ≤ 128 * n
+pub cids_few : (fields : List ℕ) (n : ℕ) → n ≤ count_of fields → first_fault (size_verdict (bare_of fields)) n ≡ no_fault → cids_before fields n ≤ 128 * n
 unfolding sum_of first_fault
 cids_few fields zero h e = omega arith
 cids_few fields (suc n) h e =
@@ -194,26 +182,26 @@ cids_few fields (suc n) h e =
 -- ---- the judgement in the code's order
 
 -- the rules on the count, those on the sizes, the rest
-arranged : (a b s l c : Verdict) → first_of a (first_of (first_of b (first_of s l)) c) ≡ first_of (first_of (first_of Fits a) b) (first_of s (first_of l c))
+arranged : (a b s l c : Verdict) → first_of a (first_of (first_of b (first_of s l)) c) ≡ first_of (first_of a b) (first_of s (first_of l c))
 unfolding first_of
-arranged (Fault r) b s l c = refl
-arranged Fits (Fault r) s l c = refl
-arranged Fits Fits (Fault r) l c = refl
-arranged Fits Fits Fits l c = refl
+arranged (Err r) b s l c = refl
+arranged (Ok _) (Err r) s l c = refl
+arranged (Ok _) (Ok _) (Err r) l c = refl
+arranged (Ok _) (Ok _) (Ok _) l c = refl
 
 -- a count that is not refused
-pub few_said : (v : Verdict) (n : ℕ) → first_of v (fault_if (ltb 32 n) wrong_count 0) ≡ Fits → n ≤ 32
+pub few_said : (v : Verdict) (n : ℕ) → first_of v (fault_if (ltb 32 n) wrong_count 0) ≡ no_fault → n ≤ 32
 few_said v n e = ltb-false 32 n (not_broken _ wrong_count 0 (right_fits v _ e))
 
 -- more numbers than those of 32 elements are too many elements, or none that are whole
 count_by : (n : ℕ) (b : Bool) → eqb (n % 7) 0 ≡ b → 224 < n
-    → first_of (first_of Fits (fault_if (not b) wrong_count 0)) (fault_if (ltb 32 (n / 7)) wrong_count 0) ≡ Fault (refusal wrong_count 0)
+    → first_of (fault_if (not b) wrong_count 0) (fault_if (ltb 32 (n / 7)) wrong_count 0) ≡ Err (refusal wrong_count 0)
 unfolding first_of fault_if
 count_by n true e h = rw (lt-ltb 32 (n / 7) (omega (arith, eqb-true (n % 7) 0 e)))
 count_by n false e h = refl
 
 pub count_many : (n : ℕ) → 224 < n
-    → first_of (first_of Fits (fault_if (not (eqb (n % 7) 0)) wrong_count 0)) (fault_if (ltb 32 (n / 7)) wrong_count 0) ≡ Fault (refusal wrong_count 0)
+    → first_of (fault_if (not (eqb (n % 7) 0)) wrong_count 0) (fault_if (ltb 32 (n / 7)) wrong_count 0) ≡ Err (refusal wrong_count 0)
 count_many n h = count_by n (eqb (n % 7) 0) refl h
 
 pub count_few : (v : Verdict) (n : ℕ) → n ≤ 224 → first_of v (fault_if (ltb 32 (n / 7)) wrong_count 0) ≡ v
@@ -221,7 +209,7 @@ unfolding fault_if
 count_few v n h = rw (le-ltb 32 (n / 7) (omega arith)) (last_fits v)
 
 pub judged : (fields cids : List ℕ) → lists_verdict 0 fields cids
-    ≡ first_of (first_of (first_of Fits (fault_if (not (eqb (length fields % 7) 0)) wrong_count 0)) (fault_if (ltb 32 (count_of fields)) wrong_count 0))
+    ≡ first_of (first_of (fault_if (not (eqb (length fields % 7) 0)) wrong_count 0) (fault_if (ltb 32 (count_of fields)) wrong_count 0))
     (first_of (first_fault (size_verdict (bare_of fields)) (count_of fields)) (rest_verdict (count_of fields) (cids_before fields (count_of fields)) (length cids)))
 unfolding lists_verdict written_verdict rest_verdict
 judged fields cids =
@@ -235,7 +223,7 @@ pub record Sound (fields cids : List ℕ) : Type 0 where
   pub total : cids_before fields (count_of fields) ≡ length cids
   pub short : fixed_part (count_of fields) + 28 * count_of fields + 4 * length cids ≤ 4096
 
-pub sound : (max : ℕ) (fields cids : List ℕ) → lists_verdict max fields cids ≡ Fits → Sound fields cids
+pub sound : (max : ℕ) (fields cids : List ℕ) → lists_verdict max fields cids ≡ no_fault → Sound fields cids
 unfolding lists_verdict
 sound max fields cids e =
     let n = count_of fields in

@@ -9,9 +9,7 @@ use lib.ListN.{length, get_or, drop}
 use lib.Seq.{get_or-append-add, get_or-drop}
 use Rattle.wire.specs.Numbers.{digits}
 use Rattle.protocol.specs.Refusal.{wrong_size, too_long, wrong_count}
-use Rattle.protocol.specs.Verdict.{fault_if, first_of, writing}
-use Rattle.protocol.specs.declared.Verdict.{Verdict}
-use Rattle.protocol.specs.declared.Verdict.TheVariants.{Fits, Fault}
+use Rattle.protocol.specs.Verdict.{fault_if, first_of, writing, no_fault, Verdict}
 use Rattle.protocol.proofs.Tests.{kept_equal}
 use Rattle.folds.specs.Folds.{first_fault, joined, sum_of}
 use Rattle.folds.proofs.Laws.{fault_same, join_same, sum_same, split, length_joined, length_list, list_at, joined_sum}
@@ -22,6 +20,7 @@ use Rattle.services_writer.specs.ServicesWriter.{element_of, size_of, start_of, 
 use Rattle.services_lists.specs.ServicesLists.{count_of, word_of, cids_counted, cids_before, element_said, record_of, lists_verdict, write_all_of}
 use Rattle.services_lists.specs.Claims.{numbers_in, cids_in, fields_said, cids_said, AllWritten}
 use Rattle.services_lists.proofs.Laws.{said, size_said}
+use Rattle.std.specs.Prelude.{Ok, Err}
 
 -- number k behind the pieces before piece i
 piece_at : (f : ℕ → List ℕ) (n i k m : ℕ) (h : i < n) → length (joined f i) ≡ m → get_or (joined f n) (m + k) 0 ≡ get_or (f i ++ (split f n i h).rest) k 0
@@ -29,10 +28,10 @@ piece_at f n i k m h e =
     let s = split f n i h in
     (λ j. get_or (s.is j) (sym e j + k) 0) ∙ get_or-append-add (joined f i) (f i ++ s.rest) k 0
 
-fits_after : (v : Verdict) → first_of v Fits ≡ v
+fits_after : (v : Verdict) → first_of v no_fault ≡ v
 unfolding first_of
-fits_after Fits = refl
-fits_after (Fault r) = refl
+fits_after (Ok _) = refl
+fits_after (Err r) = refl
 
 module _ (p : ServiceList) where
   counted : ℕ → ℕ

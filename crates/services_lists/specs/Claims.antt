@@ -1,7 +1,6 @@
 -- What is claimed of the writer beside its promise.
 -- In this order: which lists are written; the lists that a record says; that they are written as the record is.
-use Rattle.std.specs.Prelude.{ℕ, ◌%◌, ◌≤◌, ◌≡◌, ◌↔◌, List, [], ◌∷◌, length, get_or}
-use Rattle.protocol.specs.declared.Written.TheVariants.{Length}
+use Rattle.std.specs.Prelude.{ℕ, ◌%◌, ◌≤◌, ◌≡◌, ◌↔◌, List, [], ◌∷◌, length, get_or, Ok}
 use Rattle.folds.specs.Folds.{list_of, joined}
 use Rattle.device_services.specs.declared.DeviceService.{DeviceService}
 use Rattle.services_writer.specs.declared.ServiceElement.{ServiceElement}
@@ -21,7 +20,7 @@ pub record Sayable (max : ℕ) (fields cids : List ℕ) : Type 0 where
 -- accepted exactly where they say a record and there is room
 abbrev pub AllWrittenExactly : Type 0
 AllWrittenExactly = (max : ℕ) (fields cids s : List ℕ)
-    → ((write_all_of max fields cids s).answer ≡ Length (length (bytes_of (record_of max fields cids))))
+    → ((write_all_of max fields cids s).answer ≡ Ok (length (bytes_of (record_of max fields cids))))
     ↔ (Sayable max fields cids × (length (bytes_of (record_of max fields cids)) ≤ length s))
 
 -- ---- the lists that a record says

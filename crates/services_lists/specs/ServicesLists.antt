@@ -1,17 +1,17 @@
 -- The DEVICE_SERVICES payload written from two lists: the record that they say, and when they say one.
 -- In this order: the record; the rules, in the order in which they are judged; what a writer gives.
-use Rattle.std.specs.Prelude.{ℕ, ◌+◌, ◌*◌, ◌/◌, ◌%◌, not, List, [], ltb, eqb, length, get_or, drop}
+use Rattle.std.specs.Prelude.{ℕ, ◌+◌, ◌*◌, ◌/◌, ◌%◌, not, List, [], ltb, eqb, length, get_or, drop, Ok, Err, Result}
 use Rattle.protocol.specs.Refusal.{too_long, contradiction, wrong_count}
-use Rattle.protocol.specs.Verdict.{fault_if, first_of, Writing, writing}
-use Rattle.protocol.specs.declared.Verdict.{Verdict}
-use Rattle.protocol.specs.declared.Verdict.TheVariants.{Fits, Fault}
+use Rattle.protocol.specs.Verdict.{fault_if, first_of, Writing, writing, Verdict}
 use Rattle.folds.specs.Folds.{list_of, sum_of}
 use Rattle.device_services.specs.DeviceServices.{fixed_part}
 use Rattle.services_writer.specs.declared.ServiceElement.{ServiceElement}
 use Rattle.services_writer.specs.declared.ServiceList.{ServiceList}
 use Rattle.services_writer.specs.ServicesWriter.{written_verdict, bytes_of}
-use Rattle.services_lists.specs.declared.Totalled.{Totalled}
-use Rattle.services_lists.specs.declared.Totalled.TheVariants.{Cids, Refused}
+use Rattle.protocol.specs.declared.Refusal.{Refusal}
+
+abbrev pub Totalled : Type 0
+Totalled = Result ℕ Refusal
 
 -- ---- the record that the lists say
 
@@ -68,8 +68,8 @@ abbrev pub bare_of : List ℕ → ServiceList
 bare_of fields = record_of 0 fields []
 
 unfoldable pub totalled : Verdict → ℕ → Totalled
-totalled Fits n = Cids n
-totalled (Fault r) n = Refused r
+totalled (Ok _) n = Ok n
+totalled (Err r) n = Err r
 
 -- the last two rules, of so many elements and CIDs
 unfoldable pub rest_verdict : ℕ → ℕ → ℕ → Verdict

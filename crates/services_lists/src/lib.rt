@@ -7,125 +7,114 @@ ghost use Rattle.std.proofs.lemmas.List.Edits.{sets};
 ghost use Rattle.folds.specs.Folds.{first_fault, joined};
 ghost use Rattle.protocol.specs.Refusal.{wrong_count};
 ghost use Rattle.protocol.specs.Verdict.{first_of, fault_if};
-ghost use Rattle.protocol.specs.declared.Verdict.TheVariants.{Fits};
 ghost use Rattle.device_services.specs.DeviceServices.{fixed_part};
-ghost use Rattle.services_writer.specs.ServicesWriter.{length_of, size_verdict, cid_bytes, pair_bytes, piece};
+ghost use Rattle.services_writer.specs.ServicesWriter.{length_of, size_verdict, pair_bytes, piece};
 ghost use Rattle.services_lists.specs.ServicesLists.{count_of, cids_counted, cids_before, record_of, bare_of, totalled, rest_verdict, lists_verdict, write_all_of};
+ghost use Rattle.protocol.specs.Verdict.{no_fault};
 
 use device_services::{
-    DEVICE_SERVICES_COUNT, ELEMENT_FIXED_PART, ELEMENT_LIMIT, MAX_DSS_SESSIONS, pair_place,
+    DEVICE_SERVICES_COUNT, ELEMENT_FIXED_PART, ELEMENT_LIMIT, FIELD_WORDS, MAX_DSS_SESSIONS,
+    MOST_SERVICES, pair_place,
 };
 use pairs::{Range, put_range};
-use protocol::{
-    CONTRADICTION, MOST_INFORMATION, OUTPUT_TOO_SMALL, Refusal, TOO_LONG, Verdict, WRONG_COUNT,
-    WRONG_SIZE, Written, also,
-};
+use protocol::{MOST_INFORMATION, Reason, Refusal, Verdict, Written, refuse_if};
+use services_writer::put_words;
 use wire::put_u32;
 
-// The numbers of an element besides its CIDs: the four of its id, its two numbers and its count of
-// CIDs, which is the last.
-const FIELD_WORDS: usize = 7;
+// The numbers of all elements, at most.
+const MOST_FIELDS: usize = FIELD_WORDS * MOST_SERVICES as usize;
 
-// The numbers of 32 elements.
-const MOST_FIELDS: usize = 224;
-
+// The count of CIDs among an element's numbers.
 const COUNT_WORD: usize = 6;
 
-// The CIDs that the elements count together.
+// The numbers of the elements besides their CIDs, and how many elements they are.
 #[derive(Clone, Copy)]
-enum Totalled {
-    Cids(usize),
-    Refused(Refusal),
+struct Elements<'a> {
+    fields: &'a [u32],
+    count: u32,
+    ghost counted: { count ≡ count_of fields.now },
+    ghost few: { count ≤ 32 },
 }
 
 // Each element as seven numbers; all CIDs, element by element.
+#[tactic(auto, using(crate::proofs::Laws::verdict_same), unfolding(crate::specs::ServicesLists::write_all_of, protocol::specs::Verdict::writing, protocol::specs::Verdict::with_room, protocol::specs::Verdict::given, protocol::specs::Verdict::first_of))]
 pub fn write_all(max_dss_sessions: u32, fields: &[u32], cids: &[u32], out: &mut [u8]) -> Written
     ensures value { result ≡ (write_all_of max_dss_sessions fields.now cids.now out.old).answer }
     ensures out_after { out.new ≡ (write_all_of max_dss_sessions fields.now cids.now out.old).output }
 {
-    match judge(fields, cids) {
-        Verdict::Fits => write_judged(max_dss_sessions, fields, cids, out),
-        Verdict::Fault(refusal) => Written::Refused(refusal),
-    }
+    judge(fields, cids)?;
+    write_judged(max_dss_sessions, fields, cids, out)
 }
 
 // The lists judged, before the room is; the sessions are any number.
+#[tactic(auto, using(crate::proofs::Laws::judged, crate::proofs::Laws::few_said, crate::proofs::Laws::cids_few, crate::proofs::Laws::total_fits, crate::proofs::Laws::total_is, crate::proofs::Laws::total_refused), unfolding(protocol::specs::Verdict::first_of))]
 fn judge(fields: &[u32], cids: &[u32]) -> Verdict
     ensures { result ≡ lists_verdict 0 fields.now cids.now }
 {
-    if let Verdict::Fault(refusal) = judge_count(fields.len()) {
-        return Verdict::Fault(refusal);
-    }
-    let count = fields.len() as u32 / 7;
-    match total_cids(fields, count) {
-        Totalled::Cids(total) => judge_total(count, total, cids.len()),
-        Totalled::Refused(refusal) => Verdict::Fault(refusal),
-    }
+    judge_count(fields.len())?;
+    let count = fields.len() as u32 / FIELD_WORDS as u32;
+    let total = total_cids(Elements { fields, count })?;
+    judge_total(count, total, cids.len())
 }
 
 // Whether n numbers are whole elements, and not too many. Both are refused alike, so that no number of
 // more than 32 bits is divided.
+#[tactic(auto, using(crate::proofs::Laws::count_many, crate::proofs::Laws::count_few), unfolding(protocol::specs::Verdict::first_of, protocol::specs::Verdict::fault_if))]
 fn judge_count(n: usize) -> Verdict
-    ensures { result ≡ first_of (first_of Fits (fault_if (not (eqb (n % 7) 0)) wrong_count 0)) (fault_if (ltb 32 (n / 7)) wrong_count 0) }
+    ensures { result ≡ first_of (fault_if (not (eqb (n % 7) 0)) wrong_count 0) (fault_if (ltb 32 (n / 7)) wrong_count 0) }
 {
-    if MOST_FIELDS < n {
-        return Verdict::Fault(Refusal {
-            number: WRONG_COUNT,
-            place: DEVICE_SERVICES_COUNT,
-        });
-    }
-    also(
-        Verdict::Fits,
-        n as u32 % 7 != 0,
-        WRONG_COUNT,
+    refuse_if(MOST_FIELDS < n, Reason::WrongCount, DEVICE_SERVICES_COUNT)?;
+    refuse_if(
+        n as u32 % FIELD_WORDS as u32 != 0,
+        Reason::WrongCount,
         DEVICE_SERVICES_COUNT,
     )
 }
 
 // The CIDs of all elements, where each size is within its limit.
-fn total_cids(fields: &[u32], count: u32) -> Totalled
-    requires { (count ≡ count_of fields.now) × (count ≤ 32) }
-    ensures { result ≡ totalled (first_fault (size_verdict (bare_of fields.now)) count) (cids_before fields.now count) }
+#[tactic(auto, using(crate::proofs::Laws::size_judged, folds::proofs::Laws::fits_next, folds::proofs::Laws::fault_at, crate::proofs::Laws::total_done, folds::proofs::Laws::sum_next), unfolding(folds::specs::Folds::first_fault, folds::specs::Folds::sum_of, crate::specs::ServicesLists::totalled, protocol::specs::Verdict::fault_if))]
+fn total_cids(elements: Elements) -> Result<usize, Refusal>
+    ensures { result ≡ totalled (first_fault (size_verdict (bare_of elements.entry.fields.now)) (count_of elements.entry.fields.now)) (cids_before elements.entry.fields.now (count_of elements.entry.fields.now)) }
 {
     let mut total: usize = 0;
-    let mut i: u32 = 0;
-    while i < count {
-        let n = cid_count(fields, i) as usize;
-        if (ELEMENT_LIMIT as usize) < ELEMENT_FIXED_PART as usize + 4 * n {
-            return Totalled::Refused(Refusal {
-                number: WRONG_SIZE,
-                place: pair_place(i),
-            });
-        }
+    for i in 0..elements.count {
+        let n = cid_count(elements, i) as usize;
+        let size = ELEMENT_FIXED_PART as usize + 4 * n;
+        refuse_if(
+            (ELEMENT_LIMIT as usize) < size,
+            Reason::WrongSize,
+            pair_place(i),
+        )?;
         total += n;
-        i += 1;
     }
-    Totalled::Cids(total)
+    Ok(total)
 }
 
-fn cid_count(fields: &[u32], i: u32) -> u32
-    requires { i < count_of fields.now }
-    ensures { result ≡ cids_counted fields.now i }
+fn cid_count(elements: Elements, i: u32) -> u32
+    requires { i < elements.count }
+    ensures { result ≡ cids_counted elements.entry.fields.now i }
 {
-    fields[FIELD_WORDS * i as usize + COUNT_WORD]
+    elements.fields[FIELD_WORDS * i as usize + COUNT_WORD]
 }
 
 // The payload's length is judged, then whether so many CIDs are given.
+#[tactic(auto, unfolding(crate::specs::ServicesLists::rest_verdict, protocol::specs::Verdict::first_of))]
 fn judge_total(count: u32, total: usize, given: usize) -> Verdict
-    requires { (count ≤ 32) × (total ≤ 4096) }
+    requires few { count ≤ 32 }
+    requires small { total ≤ 4096 }
     ensures { result ≡ rest_verdict count total given }
 {
-    let short = also(
-        Verdict::Fits,
+    refuse_if(
         MOST_INFORMATION < length_of(count, total),
-        TOO_LONG,
+        Reason::TooLong,
         0,
-    );
-    also(short, total != given, CONTRADICTION, 0)
+    )?;
+    refuse_if(total != given, Reason::Contradiction, 0)
 }
 
 fn length_of(count: u32, total: usize) -> usize
-    requires { (count ≤ 32) × (total ≤ 4096) }
+    requires few { count ≤ 32 }
+    requires small { total ≤ 4096 }
     ensures { result ≡ fixed_part count + 28 * count + 4 * total }
 {
     pair_place(count) + ELEMENT_FIXED_PART as usize * count as usize + 4 * total
@@ -133,71 +122,52 @@ fn length_of(count: u32, total: usize) -> usize
 
 // What fits: the room is judged, and the bytes are put.
 fn write_judged(max_dss_sessions: u32, fields: &[u32], cids: &[u32], out: &mut [u8]) -> Written
-    requires { lists_verdict max_dss_sessions fields.now cids.now ≡ Fits }
+    requires { lists_verdict max_dss_sessions fields.now cids.now ≡ no_fault }
     ensures value { result ≡ (write_all_of max_dss_sessions fields.now cids.now out.old).answer }
     ensures out_after { out.new ≡ (write_all_of max_dss_sessions fields.now cids.now out.old).output }
 {
-    let count = fields.len() as u32 / 7;
+    let count = fields.len() as u32 / FIELD_WORDS as u32;
     let n = length_of(count, cids.len());
-    if out.len() < n {
-        return Written::Refused(Refusal {
-            number: OUTPUT_TOO_SMALL,
-            place: n,
-        });
-    }
+    refuse_if(out.len() < n, Reason::OutputTooSmall, n)?;
     put_u32(out, DEVICE_SERVICES_COUNT, count);
     put_u32(out, MAX_DSS_SESSIONS, max_dss_sessions);
-    put_pairs(fields, count, out);
-    put_elements(fields, cids, count, out);
-    Written::Length(n)
+    let elements = Elements { fields, count };
+    put_pairs(elements, out);
+    put_elements(elements, cids, out);
+    Ok(n)
 }
 
-fn put_pairs(fields: &[u32], count: u32, out: &mut [u8])
-    requires { (count ≡ count_of fields.now) × (length_of (bare_of fields.now) ≤ 4096) }
-    ensures { out.new ≡ sets out.old 8 (joined (pair_bytes (bare_of fields.now)) count) }
+#[tactic(auto, using(crate::proofs::Laws::start_inside, crate::proofs::Laws::start_least, crate::proofs::Laws::start_more, crate::proofs::Laws::pair_more), unfolding(folds::specs::Folds::joined, folds::specs::Folds::sum_of, services_writer::specs::ServicesWriter::start_of))]
+fn put_pairs(elements: Elements, out: &mut [u8])
+    requires { length_of (bare_of elements.fields.now) ≤ 4096 }
+    ensures { out.new ≡ sets out.old 8 (joined (pair_bytes (bare_of elements.entry.fields.now)) (count_of elements.entry.fields.now)) }
 {
-    let mut start: u32 = pair_place(count) as u32;
-    let mut i: u32 = 0;
-    while i < count {
-        let size = ELEMENT_FIXED_PART + 4 * cid_count(fields, i);
+    let mut start = pair_place(elements.count) as u32;
+    for i in 0..elements.count {
+        let size = ELEMENT_FIXED_PART + 4 * cid_count(elements, i);
         let pair = Range {
             start,
             length: size,
         };
         put_range(out, pair_place(i), pair);
         start += size;
-        i += 1;
     }
 }
 
-fn put_elements(fields: &[u32], cids: &[u32], count: u32, out: &mut [u8])
-    requires { (count ≡ count_of fields.now) × ((cids_before fields.now count ≤ length cids.now) × (length_of (record_of 0 fields.now cids.now) ≤ length out.old)) }
-    ensures { out.new ≡ sets out.old (fixed_part count) (joined (piece (record_of 0 fields.now cids.now)) count) }
+fn put_elements(elements: Elements, cids: &[u32], out: &mut [u8])
+    requires given { cids_before elements.fields.now (count_of elements.fields.now) ≤ length cids.now }
+    requires room { length_of (record_of 0 elements.fields.now cids.now) ≤ length out.old }
+    ensures { out.new ≡ sets out.old (fixed_part (count_of elements.entry.fields.now)) (joined (piece (record_of 0 elements.entry.fields.now cids.now)) (count_of elements.entry.fields.now)) }
 {
-    let mut start: usize = pair_place(count);
+    let mut start = pair_place(elements.count);
     let mut from: usize = 0;
-    let mut i: u32 = 0;
-    while i < count {
+    for i in 0..elements.count {
         let first = FIELD_WORDS * i as usize;
-        let n = cid_count(fields, i) as usize;
-        put_words(&fields[first..first + FIELD_WORDS], start, out);
+        let n = cid_count(elements, i) as usize;
+        put_words(&elements.fields[first..first + FIELD_WORDS], start, out);
         start += ELEMENT_FIXED_PART as usize;
         put_words(&cids[from..from + n], start, out);
         start += 4 * n;
         from += n;
-        i += 1;
-    }
-}
-
-// The words one after another: each has its part of the output, so that no store is tested.
-fn put_words(words: &[u32], at: usize, out: &mut [u8])
-    requires { at + 4 * length words.now ≤ length out.old }
-    ensures { out.new ≡ sets out.old at (cid_bytes words.now (length words.now)) }
-{
-    let mut i: usize = 0;
-    while i < words.len() {
-        let place = at + 4 * i;
-        put_u32(&mut out[place..place + 4], 0, words[i]);
-        i += 1;
     }
 }

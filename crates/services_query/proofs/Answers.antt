@@ -6,9 +6,7 @@ use mathlib.Core.Bool.{Bool, true, false, cond}
 use mathlib.Core.List.{List}
 use Prim.Native.Nat.{ℕ, ◌*◌, ◌≤◌, ◌<◌}
 use native.Mathlib.Omega.{arith}
-use borrow.Author.Tests.{eq-eqb, eqb-true, lt-ltb, le-ltb}
-use Rattle.protocol.specs.declared.Verdict.{Verdict}
-use Rattle.protocol.specs.declared.Verdict.TheVariants.{Fits, Fault}
+use borrow.Author.Tests.{eq-eqb, eqb-true, lt-ltb, le-ltb, ltb-false}
 use Rattle.protocol.specs.declared.service.ServiceId.{ServiceId}
 use Rattle.protocol.proofs.Services.{same_said, said_same}
 use Rattle.protocol.proofs.Tests.{and_both, both_and}
@@ -20,12 +18,10 @@ use Rattle.device_services.specs.DeviceServices.{count_of, offset_of, cid_count_
 use Rattle.pairs.specs.declared.ZeroSize.{ZeroSize}
 use lib.Dec.{ltb}
 use lib.ListN.{length}
-use borrow.Author.Tests.{ltb-false}
-use Rattle.services_query.specs.declared.ElementAnswer.TheVariants.{NotListed, Refused, Listed as Shows}
-use Rattle.services_query.specs.declared.ListedAnswer.TheVariants.{Listed}
-use Rattle.services_query.specs.declared.ListedAnswer.TheVariants as list
 use Rattle.services_query.specs.ServicesQuery.{Shown, is_of, is_cid, has_cid, holds, plain, judged, element_shown, chosen_shown, element_with, cids_with, told, listed_with}
 use Rattle.services_query.specs.Claims.{Serves, Held, ElementNotListed, CidsNotListed, ListedExactly, NotListedExactly, FirstShown, ElementShown}
+use Rattle.std.specs.Prelude.{Ok, Err, Some, None}
+use Rattle.protocol.specs.Verdict.{no_fault, Verdict}
 
 -- ---- a service and a CID
 
@@ -52,10 +48,10 @@ said_held s service cid h =
     (both_and (is_of s service h.element) _ (said_serves s service h.element h.serves)
     (any_at (is_cid s (offset_of s h.element) cid) (cid_count_at s (offset_of s h.element)) h.number h.counted (eq-eqb _ cid h.is)))
 
-told_listed : (d : Verdict) (b : Bool) → told d b ≡ Listed → (d ≡ Fits) × (b ≡ true)
-told_listed Fits true e = (refl, refl)
-told_listed Fits false e = let z : ◌≡◌ {A = ℕ} 0 1 = cc in absurd (omega arith)
-told_listed (Fault r) b e = let z : ◌≡◌ {A = ℕ} 0 1 = cc in absurd (omega arith)
+told_listed : (d : Verdict) (b : Bool) → told d b ≡ Ok true → (d ≡ no_fault) × (b ≡ true)
+told_listed (Ok _) true e = (refl, refl)
+told_listed (Ok _) false e = cc
+told_listed (Err r) b e = cc
 
 -- listed exactly when the list is accepted and one of its elements holds both
 pub listed_exactly : ListedExactly
@@ -65,24 +61,21 @@ listed_exactly z s service cid = (
   λ k. rw (k.0, said_held s service cid k.1),
 )
 
-told_not : (d : Verdict) (b : Bool) → told d b ≡ list.NotListed → (d ≡ Fits) × (b ≡ false)
-told_not Fits true e = let z : ◌≡◌ {A = ℕ} 0 1 = cc in absurd (omega arith)
-told_not Fits false e = (refl, refl)
-told_not (Fault r) b e = let z : ◌≡◌ {A = ℕ} 0 1 = cc in absurd (omega arith)
+told_not : (d : Verdict) (b : Bool) → told d b ≡ Ok false → (d ≡ no_fault) × (b ≡ false)
+told_not (Ok _) true e = cc
+told_not (Ok _) false e = (refl, refl)
+told_not (Err r) b e = cc
 
 -- not listed exactly when the list is accepted and none of its elements holds both
 pub not_listed_exactly : NotListedExactly
 unfolding listed_with
 not_listed_exactly z s service cid = (
-  λ e. let d = told_not (verdict_with z s) (any_of (holds s service cid) (count_of s)) e in (d.0, λ h. let y = said_held s service cid h in let z : ◌≡◌ {A = Bool} true false = cc in apart z),
+  λ e. let d = told_not (verdict_with z s) (any_of (holds s service cid) (count_of s)) e in (d.0, λ h. let y = said_held s service cid h in cc),
   λ k. none (any_of (holds s service cid) (count_of s)) refl k.0 k.1,
 )
   where
-    apart : ◌≡◌ {A = Bool} true false → ⊥
-    apart e = let z : ◌≡◌ {A = ℕ} 0 1 = cc in absurd (omega arith)
-
-    none : (b : Bool) → any_of (holds s service cid) (count_of s) ≡ b → verdict_with z s ≡ Fits → (Held s service cid → ⊥)
-        → told (verdict_with z s) (any_of (holds s service cid) (count_of s)) ≡ list.NotListed
+    none : (b : Bool) → any_of (holds s service cid) (count_of s) ≡ b → verdict_with z s ≡ no_fault → (Held s service cid → ⊥)
+        → told (verdict_with z s) (any_of (holds s service cid) (count_of s)) ≡ Ok false
     none true e f h = absurd (h (held_said s service cid e))
     none false e f h = rw (f, e)
 
@@ -100,7 +93,7 @@ pub element_shown_lem : ElementShown
 unfolding element_with chosen_shown
 element_shown_lem z s i out e l = rw (e, lt-ltb i (count_of s) l)
 
-pub element_none : (z : ZeroSize) (s : List ℕ) (i : ℕ) (out : List ℕ) → verdict_with z s ≡ Fits → count_of s ≤ i → element_with z s i out ≡ plain NotListed out
+pub element_none : (z : ZeroSize) (s : List ℕ) (i : ℕ) (out : List ℕ) → verdict_with z s ≡ no_fault → count_of s ≤ i → element_with z s i out ≡ plain (Ok None) out
 unfolding element_with chosen_shown
 element_none z s i out e l = rw (e, le-ltb i (count_of s) l)
 
@@ -114,8 +107,8 @@ first_shown z s service i out e f =
     rw (e, x, lt-ltb i (count_of s) l)
 
 -- a service that no element is of is not listed
-pub first_none : (z : ZeroSize) (s : List ℕ) (service : ServiceId) (out : List ℕ) → verdict_with z s ≡ Fits → ((j : ℕ) → Serves s service j → ⊥)
-    → cids_with z s service out ≡ plain NotListed out
+pub first_none : (z : ZeroSize) (s : List ℕ) (service : ServiceId) (out : List ℕ) → verdict_with z s ≡ no_fault → ((j : ℕ) → Serves s service j → ⊥)
+    → cids_with z s service out ≡ plain (Ok None) out
 unfolding cids_with chosen_shown
 first_none z s service out e h =
     let x : first_index (is_of s service) (count_of s) ≡ count_of s =
@@ -125,25 +118,25 @@ first_none z s service out e h =
 -- ---- 'not listed', exactly
 
 -- an element that is there is shown or has too little room
-shown_some : (s : List ℕ) (i : ℕ) (out : List ℕ) → (element_shown s i out).answer ≡ NotListed → ⊥
+shown_some : (s : List ℕ) (i : ℕ) (out : List ℕ) → (element_shown s i out).answer ≡ Ok None → ⊥
 unfolding element_shown
 shown_some s i out = by_room (ltb (length out) (cid_count_at s (offset_of s i)))
   where
-    by_room : (b : Bool) → (cond b (plain (Refused (refusal output_too_small (4 * cid_count_at s (offset_of s i)))) out) (plain (Shows (element_at s (offset_of s i))) (over (cids_at s (offset_of s i)) out))).answer ≡ NotListed → ⊥
-    by_room true e = let z : ◌≡◌ {A = ℕ} 0 1 = cc in absurd (omega arith)
-    by_room false e = let z : ◌≡◌ {A = ℕ} 0 1 = cc in absurd (omega arith)
+    by_room : (b : Bool) → (cond b (plain (Err (refusal output_too_small (4 * cid_count_at s (offset_of s i)))) out) (plain (Ok (Some (element_at s (offset_of s i)))) (over (cids_at s (offset_of s i)) out))).answer ≡ Ok None → ⊥
+    by_room true e = cc
+    by_room false e = cc
 
-chosen_none : (s : List ℕ) (i : ℕ) (out : List ℕ) → (chosen_shown s i out).answer ≡ NotListed → count_of s ≤ i
+chosen_none : (s : List ℕ) (i : ℕ) (out : List ℕ) → (chosen_shown s i out).answer ≡ Ok None → count_of s ≤ i
 unfolding chosen_shown
 chosen_none s i out e = by_number (ltb i (count_of s)) refl e
   where
-    by_number : (b : Bool) → ltb i (count_of s) ≡ b → (cond b (element_shown s i out) (plain NotListed out)).answer ≡ NotListed → count_of s ≤ i
+    by_number : (b : Bool) → ltb i (count_of s) ≡ b → (cond b (element_shown s i out) (plain (Ok None) out)).answer ≡ Ok None → count_of s ≤ i
     by_number true q e = absurd (shown_some s i out e)
     by_number false q e = ltb-false i (count_of s) q
 
-judged_none : (d : Verdict) (x : Shown) (out : List ℕ) → (judged d x out).answer ≡ NotListed → (d ≡ Fits) × (x.answer ≡ NotListed)
-judged_none Fits x out e = (refl, e)
-judged_none (Fault r) x out e = let z : ◌≡◌ {A = ℕ} 0 1 = cc in absurd (omega arith)
+judged_none : (d : Verdict) (x : Shown) (out : List ℕ) → (judged d x out).answer ≡ Ok None → (d ≡ no_fault) × (x.answer ≡ Ok None)
+judged_none (Ok _) x out e = (refl, e)
+judged_none (Err r) x out e = cc
 
 pub element_not_listed_exactly : ElementNotListed
 unfolding element_with
@@ -162,4 +155,4 @@ cids_not_listed_exactly z s service out = (
   where
     none_below : (b : Bool) → any_of (is_of s service) (count_of s) ≡ b → count_of s ≤ first_index (is_of s service) (count_of s) → (j : ℕ) → Serves s service j → ⊥
     none_below true e l j h = let x = index_below (is_of s service) (count_of s) e in absurd (omega (arith, x, l))
-    none_below false e l j h = let y = any_at (is_of s service) (count_of s) j h.below (said_serves s service j h) in let z : ◌≡◌ {A = Bool} true false = cc in let w : ◌≡◌ {A = ℕ} 0 1 = cc in absurd (omega arith)
+    none_below false e l j h = let y = any_at (is_of s service) (count_of s) j h.below (said_serves s service j h) in cc

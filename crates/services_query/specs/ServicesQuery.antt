@@ -1,23 +1,25 @@
 -- What is asked of a DEVICE_SERVICES payload (document 01, "Device services"). The whole list is judged first, by the reader's choice.
 -- In this order: the tests of an element; an element shown; the three questions; all elements in one pass.
-use Rattle.std.specs.Prelude.{ℕ, ◌+◌, ◌*◌, Bool, cond, ◌&&◌, List, ltb, eqb, length}
+use Rattle.std.specs.Prelude.{ℕ, ◌+◌, ◌*◌, Bool, cond, ◌&&◌, Option, Some, None, Result, Ok, Err, List, ltb, eqb, length}
 use Rattle.wire.specs.Numbers.{u32_at}
 use Rattle.wire.specs.Output.{over}
 use Rattle.protocol.specs.Refusal.{refusal, output_too_small}
 use Rattle.protocol.specs.Service.{same_id}
-use Rattle.protocol.specs.declared.Verdict.{Verdict}
-use Rattle.protocol.specs.declared.Verdict.TheVariants.{Fits, Fault}
+use Rattle.protocol.specs.Verdict.{Verdict}
+use Rattle.protocol.specs.declared.Refusal.{Refusal}
 use Rattle.protocol.specs.declared.service.ServiceId.{ServiceId}
 use Rattle.folds.specs.Folds.{any_of, first_index, list_of, joined, sum_of}
+use Rattle.device_services.specs.declared.DeviceService.{DeviceService}
 use Rattle.device_services.specs.DeviceServices.{count_of, offset_of, cid_count_at, element_at, cid_at, cids_at, verdict_with}
 use Rattle.pairs.specs.Pair.{by_default}
 use Rattle.pairs.specs.declared.ZeroSize.{ZeroSize}
-use Rattle.services_query.specs.declared.all.AllAnswer.{AllAnswer}
-use Rattle.services_query.specs.declared.all.AllAnswer.TheVariants.{Listed as AllListed, Refused as AllRefused}
-use Rattle.services_query.specs.declared.ElementAnswer.{ElementAnswer}
-use Rattle.services_query.specs.declared.ElementAnswer.TheVariants.{Listed, NotListed, Refused}
-use Rattle.services_query.specs.declared.ListedAnswer.{ListedAnswer}
-use Rattle.services_query.specs.declared.ListedAnswer.TheVariants.{Listed as IsListed, NotListed as IsNotListed, Refused as IsRefused}
+use Rattle.services_query.specs.declared.all.AllListed.{AllListed}
+
+abbrev pub ElementAnswer : Type 0
+ElementAnswer = Result (Option DeviceService) Refusal
+
+abbrev pub ListedAnswer : Type 0
+ListedAnswer = Result Bool Refusal
 
 -- ---- the tests of an element
 
@@ -50,18 +52,18 @@ plain a out = record { answer = a; output = out }
 unfoldable pub element_shown : List ℕ → ℕ → List ℕ → Shown
 element_shown s i out =
     cond (ltb (length out) (cid_count_at s (offset_of s i)))
-    (plain (Refused (refusal output_too_small (4 * cid_count_at s (offset_of s i)))) out)
-    (plain (Listed (element_at s (offset_of s i))) (over (cids_at s (offset_of s i)) out))
+    (plain (Err (refusal output_too_small (4 * cid_count_at s (offset_of s i)))) out)
+    (plain (Ok (Some (element_at s (offset_of s i)))) (over (cids_at s (offset_of s i)) out))
 
 -- "'Not listed' is answered exactly if no element .. has the number"
 unfoldable pub chosen_shown : List ℕ → ℕ → List ℕ → Shown
-chosen_shown s i out = cond (ltb i (count_of s)) (element_shown s i out) (plain NotListed out)
+chosen_shown s i out = cond (ltb i (count_of s)) (element_shown s i out) (plain (Ok None) out)
 
 -- ---- the questions
 
 abbrev pub judged : Verdict → Shown → List ℕ → Shown
-judged Fits x out = x
-judged (Fault r) x out = plain (Refused r) out
+judged (Ok _) x out = x
+judged (Err r) x out = plain (Err r) out
 
 -- "an element may also be chosen by its number, from 0"
 unfoldable pub element_with : ZeroSize → List ℕ → ℕ → List ℕ → Shown
@@ -78,8 +80,8 @@ abbrev pub cids_of : List ℕ → ServiceId → List ℕ → Shown
 cids_of s service out = cids_with by_default s service out
 
 abbrev pub told : Verdict → Bool → ListedAnswer
-told Fits any = cond any IsListed IsNotListed
-told (Fault r) any = IsRefused r
+told (Ok _) any = Ok any
+told (Err r) any = Err r
 
 -- whether any element holds both
 unfoldable pub listed_with : ZeroSize → List ℕ → ServiceId → ℕ → ListedAnswer
@@ -110,23 +112,23 @@ abbrev pub total_of : List ℕ → ℕ
 total_of s = sum_of (cids_of_element s) (count_of s)
 
 pub record AllShown : Type 0 where
-  pub answer : AllAnswer
+  pub answer : Result AllListed Refusal
   pub fields : List ℕ
   pub cids : List ℕ
 
-abbrev pub none_shown : AllAnswer → List ℕ → List ℕ → AllShown
+abbrev pub none_shown : Result AllListed Refusal → List ℕ → List ℕ → AllShown
 none_shown a fields cids = record { answer = a; fields = fields; cids = cids }
 
 -- "a list too small is 11", by the bytes needed: the elements' list first
 unfoldable pub all_shown : List ℕ → List ℕ → List ℕ → AllShown
 all_shown s fields cids =
-    cond (ltb (length fields) (7 * count_of s)) (none_shown (AllRefused (refusal output_too_small (28 * count_of s))) fields cids)
-    (cond (ltb (length cids) (total_of s)) (none_shown (AllRefused (refusal output_too_small (4 * total_of s))) fields cids)
-    (record { answer = AllListed (count_of s) (total_of s); fields = over (all_fields s (count_of s)) fields; cids = over (all_cids s (count_of s)) cids }))
+    cond (ltb (length fields) (7 * count_of s)) (none_shown (Err (refusal output_too_small (28 * count_of s))) fields cids)
+    (cond (ltb (length cids) (total_of s)) (none_shown (Err (refusal output_too_small (4 * total_of s))) fields cids)
+    (record { answer = Ok (record { elements = count_of s; cids = total_of s }); fields = over (all_fields s (count_of s)) fields; cids = over (all_cids s (count_of s)) cids }))
 
 abbrev pub all_judged : Verdict → AllShown → List ℕ → List ℕ → AllShown
-all_judged Fits x fields cids = x
-all_judged (Fault r) x fields cids = none_shown (AllRefused r) fields cids
+all_judged (Ok _) x fields cids = x
+all_judged (Err r) x fields cids = none_shown (Err r) fields cids
 
 unfoldable pub all_with : ZeroSize → List ℕ → List ℕ → List ℕ → AllShown
 all_with z s fields cids = all_judged (verdict_with z s) (all_shown s fields cids) fields cids

@@ -11,7 +11,6 @@ use lib.ListN.{length, get_or, take, drop, length-drop}
 use lib.Seq.{take-add, take-length, get_or-drop}
 use Rattle.wire.specs.Numbers.{u32_at}
 use Rattle.protocol.specs.Refusal.{wrong_count}
-use Rattle.protocol.specs.declared.Verdict.TheVariants.{Fits}
 use Rattle.protocol.proofs.Tests.{equal_kept}
 use Rattle.protocol.proofs.Verdicts.{left_fits, right_fits, not_broken, written_fits, written_front}
 use Rattle.folds.specs.Folds.{joined, sum_of}
@@ -29,6 +28,7 @@ use Rattle.services_lists.proofs.Laws.{said, fields_said, Sound, sound}
 use Rattle.services_trip.specs.ServicesTrip.{cids_in, ElementOfWidth, OfWidth}
 use Rattle.services_trip.specs.ListsTrip.{NumbersOfWidth, AllReadBack}
 use Rattle.services_trip.proofs.RoundTrip.{count_back, element, start_back, cid_count_back, cids_back, bytes_fit}
+use Rattle.protocol.specs.Verdict.{no_fault}
 
 -- parts of a list, each behind those before it, are its front
 parts_joined : (g : ℕ → ℕ) (xs : List ℕ) (n : ℕ) → joined (λ i. take (g i) (drop (sum_of g i) xs)) n ≡ take (sum_of g n) xs
@@ -41,14 +41,14 @@ unfolding sum_of
 sevens zero = refl
 sevens (suc n) = omega (arith, sevens n)
 
-module _ (max : ℕ) (fields cids : List ℕ) (sessions : max < 2 ^ 32) (wf : NumbersOfWidth fields) (wc : NumbersOfWidth cids) (ok : lists_verdict max fields cids ≡ Fits) where
+module _ (max : ℕ) (fields cids : List ℕ) (sessions : max < 2 ^ 32) (wf : NumbersOfWidth fields) (wc : NumbersOfWidth cids) (ok : lists_verdict max fields cids ≡ no_fault) where
   p : ServiceList
   p = record_of max fields cids
 
   counts : Sound fields cids
   counts = sound max fields cids ok
 
-  fit : written_verdict p ≡ Fits
+  fit : written_verdict p ≡ no_fault
   unfolding lists_verdict p
   fit = left_fits _ _ (right_fits _ _ ok)
 

@@ -12,28 +12,24 @@ use lib.ListN.{length, get_or, take}
 use Rattle.wire.specs.Numbers.{u32_at}
 use Rattle.wire.proofs.Laws.{num_digits}
 use Rattle.protocol.specs.Service.{id_at, id_bytes}
-use Rattle.protocol.specs.Verdict.{with_room, writing}
-use Rattle.protocol.specs.declared.Verdict.TheVariants.{Fits}
-use Rattle.protocol.specs.declared.Written.TheVariants.{Length}
+use Rattle.protocol.specs.Verdict.{with_room, writing, no_fault}
 use Rattle.protocol.specs.declared.service.ServiceId.{ServiceId}
 use Rattle.protocol.proofs.Verdicts.{has_room, told_length, written_fits, written_front}
 use Rattle.folds.specs.Folds.{any_of, joined, sum_of}
 use Rattle.folds.specs.Stands.{Stands}
 use Rattle.folds.proofs.Laws.{any_same, index_same, list_same, list_take}
 use Rattle.folds.proofs.Standing.{whole, left, right, part, inside, word}
-use Rattle.pairs.specs.Pair.{range_at, range_bytes}
+use Rattle.pairs.specs.Pair.{range_at, range_bytes, by_default}
 use Rattle.device_services.specs.DeviceServices.{head_at, pair_place, fixed_part, offset_of, cid_count_at, element_at, cid_at, cids_at, verdict_with, read_with}
-use Rattle.pairs.specs.Pair.{by_default}
 use Rattle.pairs.specs.declared.ZeroSize.{ZeroSize}
 use Rattle.device_services.specs.Claims.{ElementFits}
 use Rattle.device_services.proofs.Acceptance.{said_list}
-use Rattle.services_query.specs.declared.ElementAnswer.TheVariants.{NotListed}
-use Rattle.services_query.specs.declared.ListedAnswer.TheVariants.{Listed, NotListed as IsNotListed}
 use Rattle.services_query.specs.ServicesQuery.{is_of, is_cid, has_cid, holds, plain, element_shown, chosen_shown, element_with as shown_with, cids_with, listed_with, listed_of}
 use Rattle.services_writer.specs.declared.ServiceList.{ServiceList}
 use Rattle.services_writer.specs.ServicesWriter.{element_of, size_of, start_of, length_of, written_verdict, field_bytes, cid_piece, cid_bytes, element_bytes, head_bytes, pair_bytes, piece, bytes_of, write_of}
 use Rattle.services_writer.proofs.Laws.{length_fields, length_cids, length_pairs, length_pieces, length_bytes, start_within, Fitting, fitting, size_within}
 use Rattle.services_trip.specs.ServicesTrip.{cids_in, element_in, chosen_in, serves_in, holds_in, Returned, OfWidth, RoundTrip}
+use Rattle.std.specs.Prelude.{Ok, None}
 
 -- each size is a multiple of 4
 sum_four : (p : ServiceList) (i : ℕ) → sum_of (size_of p) i % 4 ≡ 0
@@ -41,7 +37,7 @@ unfolding sum_of
 sum_four p zero = refl
 sum_four p (suc i) = omega (arith, sum_four p i)
 
-module _ (p : ServiceList) (z : OfWidth p) (ok : written_verdict p ≡ Fits) where
+module _ (p : ServiceList) (z : OfWidth p) (ok : written_verdict p ≡ no_fault) where
   fits : Fitting p
   fits = fitting p ok
 
@@ -162,7 +158,7 @@ module _ (p : ServiceList) (z : OfWidth p) (ok : written_verdict p ≡ Fits) whe
   -- ---- the list
 
   -- what the writer gives keeps the reader's rules
-  pub bytes_fit : (choice : ZeroSize) → verdict_with choice (bytes_of p) ≡ Fits
+  pub bytes_fit : (choice : ZeroSize) → verdict_with choice (bytes_of p) ≡ no_fault
   unfolding start_of
   bytes_fit choice =
       said_list choice (bytes_of p)
@@ -178,7 +174,7 @@ module _ (p : ServiceList) (z : OfWidth p) (ok : written_verdict p ≡ Fits) whe
   chosen_back i out = rw count_back (by_test (ltb i p.device_services_count) refl)
     where
       by_test : (b : Bool) → ltb i p.device_services_count ≡ b
-          → cond b (element_shown (bytes_of p) i out) (plain NotListed out) ≡ cond b (element_in (element_of p i) out) (plain NotListed out)
+          → cond b (element_shown (bytes_of p) i out) (plain (Ok None) out) ≡ cond b (element_in (element_of p i) out) (plain (Ok None) out)
       by_test true t = shown_back i (ltb-true i p.device_services_count t) out
       by_test false t = refl
 
@@ -198,18 +194,18 @@ round_trip choice p s n z e =
     rw (written_front (written_verdict p) (bytes_of p) s n e) (bytes_read p z (written_fits (written_verdict p) (bytes_of p) s n e) choice)
 
 -- what is written has room
-pub written_within : (p : ServiceList) (s : List ℕ) (n : ℕ) → (write_of p s).answer ≡ Length n → n ≤ length s
+pub written_within : (p : ServiceList) (s : List ℕ) (n : ℕ) → (write_of p s).answer ≡ Ok n → n ≤ length s
 unfolding write_of writing
 written_within p s n e =
     let t = told_length (with_room (written_verdict p) (bytes_of p) s) (bytes_of p) s n e in
     omega (arith, t.1, has_room (written_verdict p) (bytes_of p) s t.0)
 
 -- and its count fits
-pub written_few : (p : ServiceList) (s : List ℕ) (n : ℕ) → (write_of p s).answer ≡ Length n → p.device_services_count ≤ 32
+pub written_few : (p : ServiceList) (s : List ℕ) (n : ℕ) → (write_of p s).answer ≡ Ok n → p.device_services_count ≤ 32
 unfolding write_of
 written_few p s n e = (fitting p (written_fits (written_verdict p) (bytes_of p) s n e)).few
 
 -- what is listed in an output t as the writer leaves it
-pub listed_written : (p : ServiceList) (s t : List ℕ) (n : ℕ) (service : ServiceId) (cid : ℕ) → OfWidth p → (write_of p s).answer ≡ Length n → t ≡ (write_of p s).output
-    → listed_of (take n t) service cid ≡ cond (any_of (holds_in p service cid) p.device_services_count) Listed IsNotListed
+pub listed_written : (p : ServiceList) (s t : List ℕ) (n : ℕ) (service : ServiceId) (cid : ℕ) → OfWidth p → (write_of p s).answer ≡ Ok n → t ≡ (write_of p s).output
+    → listed_of (take n t) service cid ≡ Ok (any_of (holds_in p service cid) p.device_services_count)
 listed_written p s t n service cid z e q = rw q ((round_trip by_default p s n z e).listed service cid)

@@ -1,8 +1,6 @@
 -- What the writer of two lists gives, read again in one pass.
-use Rattle.std.specs.Prelude.{ℕ, ◌≤◌, ◌<◌, ◌^◌, ◌≡◌, List, length, get_or, take}
+use Rattle.std.specs.Prelude.{ℕ, ◌≤◌, ◌<◌, ◌^◌, ◌≡◌, Ok, List, length, get_or, take}
 use Rattle.wire.specs.Output.{over}
-use Rattle.protocol.specs.declared.Written.TheVariants.{Length}
-use Rattle.services_query.specs.declared.all.AllAnswer.TheVariants.{Listed}
 use Rattle.services_query.specs.ServicesQuery.{all_with}
 use Rattle.pairs.specs.declared.ZeroSize.{ZeroSize}
 use Rattle.services_lists.specs.ServicesLists.{count_of, write_all_of}
@@ -14,6 +12,6 @@ NumbersOfWidth xs = (k : ℕ) → get_or xs k 0 < 2 ^ 32
 -- what is written of two lists gives both back, at the fronts of lists f and c with room for them
 abbrev pub AllReadBack : Type 0
 AllReadBack = (choice : ZeroSize) (max : ℕ) (fields cids s : List ℕ) (n : ℕ) → max < 2 ^ 32 → NumbersOfWidth fields → NumbersOfWidth cids
-    → (write_all_of max fields cids s).answer ≡ Length n → (f c : List ℕ) → length fields ≤ length f → length cids ≤ length c
+    → (write_all_of max fields cids s).answer ≡ Ok n → (f c : List ℕ) → length fields ≤ length f → length cids ≤ length c
     → all_with choice (take n (write_all_of max fields cids s).output) f c
-    ≡ record { answer = Listed (count_of fields) (length cids); fields = over fields f; cids = over cids c }
+    ≡ record { answer = Ok (record { elements = count_of fields; cids = length cids }); fields = over fields f; cids = over cids c }

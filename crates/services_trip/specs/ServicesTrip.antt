@@ -1,22 +1,17 @@
 -- What a record of a services list says, in the words of the reader's answers, and what it means that bytes return the record.
 -- In this order: the record asked; the bytes that return it; a record written and asked; the width of each number.
-use Rattle.std.specs.Prelude.{ℕ, ◌*◌, ◌≤◌, ◌<◌, ◌^◌, ◌≡◌, Bool, cond, ◌&&◌, List, ltb, eqb, length, get_or, take}
+use Rattle.std.specs.Prelude.{ℕ, ◌*◌, ◌≤◌, ◌<◌, ◌^◌, ◌≡◌, Bool, cond, ◌&&◌, Some, None, Ok, Err, List, ltb, eqb, length, get_or, take}
 use Rattle.wire.specs.Output.{over}
 use Rattle.protocol.specs.Refusal.{refusal, output_too_small}
 use Rattle.protocol.specs.Service.{same_id}
-use Rattle.protocol.specs.declared.Written.{Written}
-use Rattle.protocol.specs.declared.Written.TheVariants.{Length, Refused as NotWritten}
+use Rattle.protocol.specs.Verdict.{Written}
 use Rattle.protocol.specs.declared.service.ServiceId.{ServiceId}
 use Rattle.folds.specs.Folds.{any_of, first_index}
 use Rattle.device_services.specs.declared.DeviceServices.{DeviceServices}
 use Rattle.device_services.specs.declared.DeviceService.{DeviceService}
-use Rattle.device_services.specs.declared.DeviceServicesRead.TheVariants.{Info}
 use Rattle.device_services.specs.DeviceServices.{read_with}
 use Rattle.pairs.specs.declared.ZeroSize.{ZeroSize}
-use Rattle.services_query.specs.declared.ElementAnswer.TheVariants.{Listed, NotListed, Refused}
-use Rattle.services_query.specs.declared.ListedAnswer.{ListedAnswer}
-use Rattle.services_query.specs.declared.ListedAnswer.TheVariants.{Listed as IsListed, NotListed as IsNotListed, Refused as IsRefused}
-use Rattle.services_query.specs.ServicesQuery.{Shown, plain, element_with as shown_with, cids_with, listed_with}
+use Rattle.services_query.specs.ServicesQuery.{ListedAnswer, Shown, plain, element_with as shown_with, cids_with, listed_with}
 use Rattle.services_writer.specs.declared.ServiceElement.{ServiceElement}
 use Rattle.services_writer.specs.declared.ServiceList.{ServiceList}
 use Rattle.services_writer.specs.ServicesWriter.{element_of, write_of}
@@ -34,11 +29,11 @@ cids_in e = take e.fields.cid_count e.cids
 unfoldable pub element_in : ServiceElement → List ℕ → Shown
 element_in e out =
     cond (ltb (length out) e.fields.cid_count)
-    (plain (Refused (refusal output_too_small (4 * e.fields.cid_count))) out)
-    (plain (Listed e.fields) (over (cids_in e) out))
+    (plain (Err (refusal output_too_small (4 * e.fields.cid_count))) out)
+    (plain (Ok (Some e.fields)) (over (cids_in e) out))
 
 unfoldable pub chosen_in : ServiceList → ℕ → List ℕ → Shown
-chosen_in p i out = cond (ltb i p.device_services_count) (element_in (element_of p i) out) (plain NotListed out)
+chosen_in p i out = cond (ltb i p.device_services_count) (element_in (element_of p i) out) (plain (Ok None) out)
 
 -- element i is of the service
 unfoldable pub serves_in : ServiceList → ServiceId → ℕ → Bool
@@ -51,16 +46,16 @@ holds_in p service cid i = serves_in p service i && any_of (λ k. eqb (get_or (e
 -- ---- the bytes s return the record, by the reader's choice: its numbers, every element, every CID, and what it lists
 
 pub record Returned (choice : ZeroSize) (p : ServiceList) (s : List ℕ) : Type 0 where
-  pub read : read_with choice s ≡ Info (head_of p)
+  pub read : read_with choice s ≡ Ok (head_of p)
   pub element : (i : ℕ) (out : List ℕ) → shown_with choice s i out ≡ chosen_in p i out
   pub service : (service : ServiceId) (out : List ℕ) → cids_with choice s service out ≡ chosen_in p (first_index (serves_in p service) p.device_services_count) out
-  pub listed : (service : ServiceId) (cid : ℕ) → listed_with choice s service cid ≡ cond (any_of (holds_in p service cid) p.device_services_count) IsListed IsNotListed
+  pub listed : (service : ServiceId) (cid : ℕ) → listed_with choice s service cid ≡ Ok (any_of (holds_in p service cid) p.device_services_count)
 
 -- ---- written and asked: the writer's refusal, or whether the record holds both
 
 abbrev pub asked : Written → Bool → ListedAnswer
-asked (Length n) any = cond any IsListed IsNotListed
-asked (NotWritten r) any = IsRefused r
+asked (Ok n) any = Ok any
+asked (Err r) any = Err r
 
 unfoldable pub asked_of : ServiceList → ServiceId → ℕ → List ℕ → ListedAnswer
 asked_of p service cid s = asked (write_of p s).answer (any_of (holds_in p service cid) p.device_services_count)
@@ -88,4 +83,4 @@ pub record OfWidth (p : ServiceList) : Type 0 where
 -- what the writer puts into an output returns the record
 abbrev pub RoundTrip : Type 0
 RoundTrip =
-    (choice : ZeroSize) (p : ServiceList) (s : List ℕ) (n : ℕ) → OfWidth p → (write_of p s).answer ≡ Length n → Returned choice p (take n (write_of p s).output)
+    (choice : ZeroSize) (p : ServiceList) (s : List ℕ) (n : ℕ) → OfWidth p → (write_of p s).answer ≡ Ok n → Returned choice p (take n (write_of p s).output)

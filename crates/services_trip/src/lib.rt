@@ -6,9 +6,9 @@ ghost use Rattle.std.specs.Prelude.{◌≡◌};
 ghost use Rattle.services_writer.specs.ServicesWriter.{write_of};
 ghost use Rattle.services_trip.specs.ServicesTrip.{asked_of};
 
-use protocol::Written;
+use protocol::Refusal;
 use protocol::service::ServiceId;
-use services_query::{ListedAnswer, is_listed};
+use services_query::is_listed;
 use services_writer::{ServiceList, write};
 
 // A record written into the caller's bytes, and a CID looked up in them.
@@ -17,13 +17,10 @@ pub fn write_and_ask(
     service: ServiceId,
     cid: u32,
     out: &mut [u8],
-) -> ListedAnswer
+) -> Result<bool, Refusal>
     ensures value { result ≡ asked_of list service cid out.old }
     ensures out_after { out.new ≡ (write_of list out.old).output }
 {
-    let written = write(list, out);
-    match written {
-        Written::Length(n) => is_listed(&out[..n], service, cid),
-        Written::Refused(refusal) => ListedAnswer::Refused(refusal),
-    }
+    let written = write(list, out)?;
+    is_listed(&out[..written], service, cid)
 }

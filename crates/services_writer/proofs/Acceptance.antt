@@ -5,8 +5,7 @@ use Prim.Native.Nat.{ℕ, ◌≤◌}
 use native.Mathlib.Omega.{arith}
 use borrow.Author.Tests.{ltb-false, le-ltb}
 use lib.ListN.{length}
-use Rattle.protocol.specs.Verdict.{fault_if, first_of}
-use Rattle.protocol.specs.declared.Verdict.TheVariants.{Fits}
+use Rattle.protocol.specs.Verdict.{fault_if, first_of, no_fault}
 use Rattle.protocol.proofs.Verdicts.{left_fits, right_fits, not_broken, written_both, both_written}
 use Rattle.folds.specs.Folds.{first_fault}
 use Rattle.folds.proofs.Laws.{fits_each, each_fits}
@@ -14,7 +13,7 @@ use Rattle.services_writer.specs.declared.ServiceList.{ServiceList}
 use Rattle.services_writer.specs.ServicesWriter.{element_of, length_of, size_of, size_verdict, written_verdict, bytes_of, write_of}
 use Rattle.services_writer.specs.Claims.{Writable, WrittenExactly}
 
-pub writable_said : (p : ServiceList) → written_verdict p ≡ Fits → Writable p
+pub writable_said : (p : ServiceList) → written_verdict p ≡ no_fault → Writable p
 unfolding written_verdict
 writable_said p e =
     let rest = right_fits _ _ e in
@@ -24,14 +23,14 @@ writable_said p e =
       short = ltb-false 4096 (length_of p) (not_broken _ _ _ (right_fits _ _ rest));
     }
 
-pub said_writable : (p : ServiceList) → Writable p → written_verdict p ≡ Fits
+pub said_writable : (p : ServiceList) → Writable p → written_verdict p ≡ no_fault
 unfolding written_verdict fault_if first_of
 said_writable p w =
-    let sizes : first_fault (size_verdict p) p.device_services_count ≡ Fits =
+    let sizes : first_fault (size_verdict p) p.device_services_count ≡ no_fault =
     each_fits (size_verdict p) p.device_services_count (λ i l. fits i (w.each i l)) in
     rw (le-ltb 32 p.device_services_count w.few, sizes, le-ltb 4096 (length_of p) w.short)
   where
-    fits : (i : ℕ) → (element_of p i).fields.cid_count ≤ 128 → size_verdict p i ≡ Fits
+    fits : (i : ℕ) → (element_of p i).fields.cid_count ≤ 128 → size_verdict p i ≡ no_fault
     fits i k = let l : size_of p i ≤ 540 = omega (arith, k) in rw (le-ltb 540 (size_of p i) l)
 
 -- accepted exactly where the record is within the tables and there is room

@@ -7,18 +7,18 @@ use Prim.Native.Nat.{ℕ, suc, ◌+◌, ◌*◌, ◌≤◌, ◌<◌}
 use native.Mathlib.Omega.{arith}
 use borrow.Author.Tests.{ltb-false, lt-ltb, le-ltb}
 use lib.Dec.{ltb}
-use lib.ListN.{length, length-append, get_or, set}
-use lib.Seq.{sets, length-sets, set_comm}
+use lib.ListN.{length, length-append, get_or, set, take}
+use Rattle.std.proofs.lemmas.List.{length-take-le, get_or-take}
+use lib.Seq.{sets, set_comm}
 use Rattle.wire.specs.Numbers.{digits}
 use Rattle.wire.proofs.Laws.{sets_then}
 use Rattle.protocol.specs.Refusal.{refusal, too_long, wrong_size, wrong_count}
 use Rattle.protocol.specs.Service.{id_bytes}
-use Rattle.protocol.specs.Verdict.{fault_if, first_of}
-use Rattle.protocol.specs.declared.Verdict.TheVariants.{Fits}
+use Rattle.protocol.specs.Verdict.{fault_if, first_of, Verdict, no_fault}
 use Rattle.protocol.proofs.Services.{length_id}
 use Rattle.protocol.proofs.Verdicts.{left_fits, right_fits, not_broken}
 use Rattle.folds.specs.Folds.{first_fault, joined, sum_of}
-use Rattle.folds.proofs.Laws.{fits_each, fault_at, join_next, length_joined, joined_sum, sum_next, sum_within}
+use Rattle.folds.proofs.Laws.{fits_each, fault_at, join_next, join_same, length_joined, joined_sum, sum_next, sum_within}
 use Rattle.pairs.specs.Pair.{range, range_bytes}
 use Rattle.device_services.specs.declared.DeviceService.{DeviceService}
 use Rattle.device_services.specs.DeviceServices.{pair_place, fixed_part}
@@ -26,6 +26,8 @@ use Rattle.services_writer.specs.declared.ServiceElement.{ServiceElement}
 use Rattle.services_writer.specs.declared.ServiceList.{ServiceList}
 use Rattle.services_writer.specs.ServicesWriter.{element_of, size_of, start_of, length_of, size_verdict, written_verdict, field_bytes, cid_piece, cid_bytes, element_bytes, head_bytes, pair_bytes, piece, bytes_of}
 use Rattle.services_writer.specs.Claims.{TooMany, TooLarge}
+use Rattle.protocol.specs.declared.Refusal.{Refusal}
+use Rattle.std.specs.Prelude.{Err}
 
 -- ---- an element
 
@@ -62,6 +64,20 @@ pub cid_next : (cids s : List ℕ) (at k : ℕ) {s₁ s₂ : List ℕ} {v : ℕ}
     → s₂ ≡ sets s₁ (at + 4 * k) (digits 4 v) → s₂ ≡ sets s at (cid_bytes cids (k + 1))
 cid_next cids s at k {s₁} p q r =
     join_next (cid_piece cids) k at s p (ap (λ (n : ℕ). at + n) (sym (length_cids cids k))) (r ∙ ap (λ (v : ℕ). sets s₁ (at + 4 * k) (digits 4 v)) q)
+
+-- the CIDs that count, at the front of a list
+pub cids_front : (cids : List ℕ) (n : ℕ) → n ≤ length cids → cid_bytes (take n cids) (length (take n cids)) ≡ cid_bytes cids n
+cids_front cids n h =
+    rw (length-take-le n cids h)
+    (join_same (cid_piece (take n cids)) (cid_piece cids) n (λ k l. ap (digits 4) (get_or-take n cids k 0 l)))
+
+-- the fields stored, and the CIDs behind them
+pub element_put : (e : ServiceElement) (s : List ℕ) (at : ℕ) {s₁ s₂ : List ℕ} → e.fields.cid_count ≤ length e.cids → s₁ ≡ sets s at (field_bytes e.fields)
+    → s₂ ≡ sets s₁ (at + 28) (cid_bytes (take e.fields.cid_count e.cids) (length (take e.fields.cid_count e.cids))) → s₂ ≡ sets s at (element_bytes e)
+unfolding element_bytes
+element_put e s at {s₁} h p q =
+    let n = e.fields.cid_count in
+    sets_then (field_bytes e.fields) (cid_bytes e.cids n) at 28 s (length_fields e.fields) p (q ∙ ap (sets s₁ (at + 28)) (cids_front e.cids n h))
 
 -- ---- stores before others
 
@@ -147,14 +163,6 @@ module _ (p : ServiceList) where
       (sets_then (digits 4 count) (digits 4 p.max_dss_sessions) 0 4 s refl e q)
       (sets_then a b 8 (8 * count) s₂ (length_pairs count) r t)
 
-  -- the head, and then the pairs and elements as far as they are listed
-  pub listed_length : (i : ℕ) (s : List ℕ) {s₁ s₂ : List ℕ} → s₁ ≡ sets (sets s 0 (digits 4 p.device_services_count)) 4 (digits 4 p.max_dss_sessions)
-      → s₂ ≡ sets (sets s₁ 8 (joined (pair_bytes p) i)) (fixed_part p.device_services_count) (joined (piece p) i) → length s₂ ≡ length s
-  listed_length i s {s₁} e q =
-      let a = digits 4 p.device_services_count in
-      ap length q ∙ length-sets (sets s₁ 8 (joined (pair_bytes p) i)) (fixed_part p.device_services_count) (joined (piece p) i)
-      ∙ length-sets s₁ 8 (joined (pair_bytes p) i) ∙ ap length e ∙ length-sets (sets s 0 a) 4 (digits 4 p.max_dss_sessions) ∙ length-sets s 0 a
-
   pub all_laid : (i : ℕ) (s : List ℕ) {s₁ s₂ : List ℕ} → i ≡ p.device_services_count
       → s₁ ≡ sets (sets s 0 (digits 4 p.device_services_count)) 4 (digits 4 p.max_dss_sessions)
       → s₂ ≡ sets (sets s₁ 8 (joined (pair_bytes p) i)) (fixed_part p.device_services_count) (joined (piece p) i) → s₂ ≡ sets s 0 (bytes_of p)
@@ -165,10 +173,10 @@ module _ (p : ServiceList) where
 
   pub record Fitting : Type 0 where
     pub few : p.device_services_count ≤ 32
-    pub sizes : first_fault (size_verdict p) p.device_services_count ≡ Fits
+    pub sizes : first_fault (size_verdict p) p.device_services_count ≡ no_fault
     pub short : length_of p ≤ 4096
 
-  pub fitting : written_verdict p ≡ Fits → Fitting
+  pub fitting : written_verdict p ≡ no_fault → Fitting
   unfolding written_verdict
   fitting e = record {
     few = ltb-false 32 p.device_services_count (not_broken _ wrong_count 0 (left_fits _ _ e));
@@ -177,13 +185,24 @@ module _ (p : ServiceList) where
   }
 
   -- sizes that fit leave the length to be judged
-  pub sized_verdict : (n : ℕ) → p.device_services_count ≤ 32 → first_fault (size_verdict p) p.device_services_count ≡ Fits → n ≡ length_of p
+  pub sized_verdict : (n : ℕ) → p.device_services_count ≤ 32 → first_fault (size_verdict p) p.device_services_count ≡ no_fault → n ≡ length_of p
       → written_verdict p ≡ fault_if (ltb 4096 n) too_long 0
   unfolding written_verdict first_of fault_if
   sized_verdict n few sizes e = rw (le-ltb 32 p.device_services_count few, sizes, e)
 
-  pub size_within : (n i : ℕ) → first_fault (size_verdict p) n ≡ Fits → i < n → size_of p i ≤ 540
+  pub size_within : (n i : ℕ) → first_fault (size_verdict p) n ≡ no_fault → i < n → size_of p i ≤ 540
   size_within n i e h = ltb-false 540 (size_of p i) (not_broken _ wrong_size (pair_place i) (fits_each (size_verdict p) n e i h))
+
+  -- all elements are passed
+  pub all_passed : (i end : ℕ) → i ≤ p.device_services_count → p.device_services_count ≤ i → first_fault (size_verdict p) i ≡ no_fault → end ≡ start_of p i
+      → (first_fault (size_verdict p) p.device_services_count ≡ no_fault) × (end ≡ length_of p)
+  all_passed i end l h f e = let n : i ≡ p.device_services_count = omega arith in (ap (first_fault (size_verdict p)) (sym n) ∙ f, e ∙ ap (start_of p) n)
+
+  -- the first size over its limit
+  pub size_refused : (i : ℕ) (r : Refusal) (room : Verdict) → p.device_services_count ≤ 32 → i < p.device_services_count → first_fault (size_verdict p) i ≡ no_fault
+      → size_verdict p i ≡ Err r → first_of (written_verdict p) room ≡ Err r
+  unfolding written_verdict first_of fault_if
+  size_refused i r room few l f e = rw (le-ltb 32 p.device_services_count few, fault_at (size_verdict p) p.device_services_count i r f l e)
 
 -- ---- a record that does not
 

@@ -4,8 +4,7 @@ use Rattle.std.specs.Prelude.{ℕ, ◌+◌, ◌*◌, List, [], ◌++◌, ltb, ge
 use Rattle.wire.specs.Numbers.{digits}
 use Rattle.protocol.specs.Refusal.{too_long, wrong_size, wrong_count}
 use Rattle.protocol.specs.Service.{id_bytes}
-use Rattle.protocol.specs.Verdict.{fault_if, first_of, Writing, writing}
-use Rattle.protocol.specs.declared.Verdict.{Verdict}
+use Rattle.protocol.specs.Verdict.{fault_if, first_of, Writing, writing, Verdict}
 use Rattle.folds.specs.Folds.{first_fault, joined, sum_of}
 use Rattle.pairs.specs.Pair.{range, range_bytes}
 use Rattle.device_services.specs.declared.DeviceService.{DeviceService}

@@ -2,7 +2,7 @@
 // large (about 17 KB); a program that only reads needs nothing of this crate.
 #![tactic(auto)]
 
-ghost use Rattle.std.specs.Prelude.{◌≡◌, ◌+◌, ◌*◌, ◌≤◌, ltb, get_or};
+ghost use Rattle.std.specs.Prelude.{◌≡◌, ◌+◌, ◌*◌, ◌≤◌, ltb, length};
 ghost use Rattle.std.proofs.lemmas.List.Edits.{sets};
 ghost use Rattle.wire.specs.Numbers.{digits};
 ghost use Rattle.protocol.specs.Refusal.{output_too_small, too_long};
@@ -17,10 +17,7 @@ use device_services::{
 };
 use pairs::{Range, put_range};
 use protocol::service::put_id;
-use protocol::{
-    MOST_INFORMATION, OUTPUT_TOO_SMALL, Refusal, TOO_LONG, Verdict, WRONG_COUNT, WRONG_SIZE,
-    Written, also,
-};
+use protocol::{MOST_INFORMATION, Reason, Verdict, Written, refuse_if};
 use wire::put_u32;
 
 // An element with its CIDs, of which the first `cid_count` count.
@@ -31,7 +28,7 @@ pub struct ServiceElement {
     pub cids: [u32; 128],
 }
 
-// The record, of whose elements the first `device_services_count` count.
+// The record, of whose elements the first `device_services_count` count: in the C interface as it is, and with no heap.
 #[repr(C)]
 #[derive(Clone, Copy)]
 pub struct ServiceList {
@@ -40,64 +37,53 @@ pub struct ServiceList {
     pub elements: [ServiceElement; 32],
 }
 
+#[tactic(auto, unfolding(crate::specs::ServicesWriter::write_of, protocol::specs::Verdict::writing, protocol::specs::Verdict::with_room, protocol::specs::Verdict::given, crate::specs::ServicesWriter::written_verdict, protocol::specs::Verdict::first_of, protocol::specs::Verdict::fault_if))]
 pub fn write(list: ServiceList, out: &mut [u8]) -> Written
     ensures value { result ≡ (write_of list out.old).answer }
     ensures out_after { out.new ≡ (write_of list out.old).output }
 {
-    if MOST_SERVICES < list.device_services_count {
-        return Written::Refused(Refusal {
-            number: WRONG_COUNT,
-            place: DEVICE_SERVICES_COUNT,
-        });
-    }
-    write_listed(list, out)
+    refuse_if(
+        MOST_SERVICES < list.device_services_count,
+        Reason::WrongCount,
+        DEVICE_SERVICES_COUNT,
+    )?;
+    write_listed(&list, out)
 }
 
-// A count that fits: the sizes are judged, then the length and the room, and the bytes are put. All
-// stands in one function, since each that goes over the record copies it.
-fn write_listed(list: ServiceList, out: &mut [u8]) -> Written
-    requires { list.device_services_count ≤ 32 }
-    ensures value { result ≡ (write_of list out.old).answer }
-    ensures out_after { out.new ≡ (write_of list out.old).output }
+// A count that fits: the sizes are judged, then the length and the room, and the bytes are put.
+fn write_listed(list: &ServiceList, out: &mut [u8]) -> Written
+    requires { list.now.device_services_count ≤ 32 }
+    ensures value { result ≡ (write_of list.now out.old).answer }
+    ensures out_after { out.new ≡ (write_of list.now out.old).output }
 {
     let count = list.device_services_count;
-    let mut end: usize = pair_place(count);
-    let mut i: u32 = 0;
-    while i < count {
-        let k = i as usize;
-        let element = list.elements[k];
-        let fields = element.fields;
-        let size = ELEMENT_FIXED_PART as usize + 4 * fields.cid_count as usize;
-        if (ELEMENT_LIMIT as usize) < size {
-            return Written::Refused(Refusal {
-                number: WRONG_SIZE,
-                place: pair_place(i),
-            });
-        }
+    let mut end = pair_place(count);
+    for i in 0..count {
+        let cids = list.elements[i as usize].fields.cid_count as usize;
+        let size = ELEMENT_FIXED_PART as usize + 4 * cids;
+        refuse_if(
+            (ELEMENT_LIMIT as usize) < size,
+            Reason::WrongSize,
+            pair_place(i),
+        )?;
         end += size;
-        i += 1;
     }
-    if let Verdict::Fault(refusal) = judge_end(end, out.len()) {
-        return Written::Refused(refusal);
-    }
+    judge_end(end, out.len())?;
     put_head(count, list.max_dss_sessions, out);
-    let mut start: u32 = pair_place(count) as u32;
-    let mut j: u32 = 0;
-    while j < count {
-        let k = j as usize;
-        let element = list.elements[k];
-        start = put_listed(out, j, start, element);
-        j += 1;
+    let mut start = pair_place(count) as u32;
+    for number in 0..count {
+        start = put_listed(out, number, start, &list.elements[number as usize]);
     }
-    Written::Length(end)
+    Ok(end)
 }
 
 // The verdict on the length of the payload, and then on the room for it.
+#[tactic(auto, unfolding(protocol::specs::Verdict::first_of, protocol::specs::Verdict::fault_if))]
 fn judge_end(n: usize, room: usize) -> Verdict
     ensures { result ≡ first_of (fault_if (ltb 4096 n) too_long 0) (fault_if (ltb room n) output_too_small n) }
 {
-    let short = also(Verdict::Fits, MOST_INFORMATION < n, TOO_LONG, 0);
-    also(short, room < n, OUTPUT_TOO_SMALL, n)
+    refuse_if(MOST_INFORMATION < n, Reason::TooLong, 0)?;
+    refuse_if(room < n, Reason::OutputTooSmall, n)
 }
 
 // What stands before the pairs.
@@ -109,62 +95,48 @@ fn put_head(count: u32, sessions: u32, out: &mut [u8])
 }
 
 // The pair and the bytes of an element that starts at `start`; where the next one does.
-fn put_listed(out: &mut [u8], number: u32, start: u32, element: ServiceElement) -> u32
-    requires { start + (28 + 4 * element.fields.cid_count) ≤ 4096 }
-    ensures value { result ≡ start + (28 + 4 * element.fields.cid_count) }
-    ensures out_after { out.new ≡ sets (sets out.old (pair_place number) (range_bytes (range start (28 + 4 * element.fields.cid_count)))) start (element_bytes element) }
+fn put_listed(out: &mut [u8], number: u32, start: u32, element: &ServiceElement) -> u32
+    requires few { element.now.fields.cid_count ≤ 128 }
+    requires short { start ≤ 4096 }
+    requires room { start + (28 + 4 * element.now.fields.cid_count) ≤ length out.old }
+    ensures value { result ≡ start + (28 + 4 * element.now.fields.cid_count) }
+    ensures out_after { out.new ≡ sets (sets out.old (pair_place number) (range_bytes (range start (28 + 4 * element.now.fields.cid_count)))) start (element_bytes element.now) }
 {
-    let fields = element.fields;
-    let size = ELEMENT_FIXED_PART + 4 * fields.cid_count;
+    let cids = element.fields.cid_count;
+    let size = ELEMENT_FIXED_PART + 4 * cids;
     let pair = Range {
         start,
         length: size,
     };
     put_range(out, pair_place(number), pair);
-    put_element(out, start, element);
+    let at = start as usize;
+    put_fields(out, at, element.fields);
+    put_words(
+        &element.cids[..cids as usize],
+        at + ELEMENT_FIXED_PART as usize,
+        out,
+    );
     start + size
 }
 
-fn put_element(out: &mut [u8], at: u32, element: ServiceElement)
-    requires { at ≤ 4096 }
-    ensures { out.new ≡ sets out.old at (element_bytes element) }
+#[tactic(auto, using(crate::proofs::Laws::fields_put))]
+fn put_fields(out: &mut [u8], start: usize, fields: DeviceService)
+    requires { start ≤ 4096 }
+    ensures { out.new ≡ sets out.old start (field_bytes fields) }
 {
-    let fields = element.fields;
-    let cids = element.cids;
-    put_fields(out, at, fields);
-    put_cids(out, at + ELEMENT_FIXED_PART, &cids, fields.cid_count);
-}
-
-fn put_fields(out: &mut [u8], at: u32, fields: DeviceService)
-    ensures { out.new ≡ sets out.old at (field_bytes fields) }
-{
-    let start = at as usize;
-    let id = fields.device_service_id;
-    put_id(out, start, id);
+    put_id(out, start, fields.device_service_id);
     put_u32(out, start + DSS_PAYLOAD, fields.dss_payload);
     put_u32(out, start + MAX_DSS_INSTANCES, fields.max_dss_instances);
     put_u32(out, start + CID_COUNT, fields.cid_count);
 }
 
-// The first n CIDs.
-fn put_cids(out: &mut [u8], at: u32, cids: &[u32], n: u32)
-    ensures { out.new ≡ sets out.old at (cid_bytes cids.now n) }
+// The words one after another: each has its part of the output, so that no store is tested.
+pub fn put_words(words: &[u32], at: usize, out: &mut [u8])
+    requires { at + 4 * length words.now ≤ length out.old }
+    ensures { out.new ≡ sets out.old at (cid_bytes words.now (length words.now)) }
 {
-    let start = at as usize;
-    let mut i: u32 = 0;
-    while i < n {
-        let place = start + 4 * i as usize;
-        put_u32(out, place, word_of(cids, i as usize));
-        i += 1;
-    }
-}
-
-fn word_of(words: &[u32], number: usize) -> u32
-    ensures { result ≡ get_or words.now number 0 }
-{
-    if number < words.len() {
-        words[number]
-    } else {
-        0
+    for (i, word) in words.iter().enumerate() {
+        let place = at + 4 * i;
+        put_u32(&mut out[place..place + 4], 0, *word);
     }
 }

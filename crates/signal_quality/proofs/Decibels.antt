@@ -15,10 +15,10 @@ use mir.Syntax.{w16}
 use mir.Val.{SFits, to_z, of_z}
 use Rattle.signal_quality.specs.declared.Reading.{Reading}
 use Rattle.signal_quality.specs.declared.Reading.TheVariants.{Dbm, Db}
-use Rattle.signal_quality.specs.declared.ReadingRead.TheVariants.{Info}
 use Rattle.signal_quality.specs.Decibels.{exactly, is_negative, coded, rsrp_of, snr_of}
 use Rattle.signal_quality.specs.Claims.{Is, Edges, RsrpExact, SnrExact}
 use Rattle.signal_quality.proofs.Tables.{rows, agree}
+use Rattle.std.specs.Prelude.{Ok}
 
 -- ---- the code's numbers: the difference fits 16 bits, and its float is the exact one
 
@@ -90,7 +90,7 @@ twice : (c : ℕ) → c < 128 → add binary32 (exactly (pos c -ℤ pos 47) 1) (
 unfolding exactly odd add
 twice c h = agree (λ c. add binary32 (exactly (pos c -ℤ pos 47) 1) (exactly (pos c -ℤ pos 47) 1)) (λ c. exactly (pos c -ℤ pos 47) 0) 128 refl c h
 
-known_read : (mark : ℕ) (edge : Float) (r : Reading) (c : ℕ) → 0 < c → c < mark → coded mark edge r c ≡ Info r
+known_read : (mark : ℕ) (edge : Float) (r : Reading) (c : ℕ) → 0 < c → c < mark → coded mark edge r c ≡ Ok r
 unfolding coded
 known_read mark edge r c h l = rw (le-ltb mark c (omega arith), ne_eqb c mark (λ e. omega arith), ne_eqb c 0 (λ e. omega arith))
 

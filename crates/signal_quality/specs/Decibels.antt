@@ -1,13 +1,15 @@
 -- Decibels of the codes of a signal entry (document 01, "Decibels and bars"; source 000, MBIM_RSRP_SNR_INFO).
 -- In this order: exact floats; a code by its table; the two tables.
-use Rattle.std.specs.Prelude.{ℕ, Bool, true, false, cond, ltb, eqb, ℤ, pos, negsuc, nat_abs, ◌-ℤ◌, Float}
+use Rattle.std.specs.Prelude.{ℕ, Bool, true, false, cond, ltb, eqb, ℤ, pos, negsuc, nat_abs, ◌-ℤ◌, Float, Ok, Err, Result}
 use Rattle.std.specs.Float.{binary32}
 use Rattle.std.specs.Float.Ieee.{prec, odd}
 use Rattle.protocol.specs.Refusal.{refusal, outside_table}
 use Rattle.signal_quality.specs.declared.Reading.{Reading}
 use Rattle.signal_quality.specs.declared.Reading.TheVariants.{Dbm, Db, BelowRange, Unknown}
-use Rattle.signal_quality.specs.declared.ReadingRead.{ReadingRead}
-use Rattle.signal_quality.specs.declared.ReadingRead.TheVariants.{Info, Refused}
+use Rattle.protocol.specs.declared.Refusal.{Refusal}
+
+abbrev pub ReadingRead : Type 0
+ReadingRead = Result Reading Refusal
 
 -- ---- exact floats
 
@@ -23,7 +25,7 @@ exactly z k = odd (prec binary32) (is_negative z) (nat_abs z) 0 k
 
 unfoldable pub coded : ℕ → Float → Reading → ℕ → ReadingRead
 coded mark edge known c =
-    cond (ltb mark c) (Refused (refusal outside_table 0)) (Info (cond (eqb c mark) Unknown (cond (eqb c 0) (BelowRange edge) known)))
+    cond (ltb mark c) (Err (refusal outside_table 0)) (Ok (cond (eqb c mark) Unknown (cond (eqb c 0) (BelowRange edge) known)))
 
 -- ---- the two tables
 

@@ -6,17 +6,14 @@ use mathlib.Core.Logic.{◌⊎◌, inl, inr, ⊎_map, ⊎_elim}
 use mathlib.Core.Bool.{true, false, not}
 use mathlib.Core.List.{List}
 use Prim.Native.Nat.{ℕ, ◌≤◌, ◌<◌}
-use native.Mathlib.Omega.{arith}
 use borrow.Author.Tests.{ltb-false, le-ltb, eqb-true, eq-eqb}
 use lib.Dec.{eqb, ltb}
 use lib.Count.{ones}
 use lib.ListN.{length}
 use Rattle.wire.specs.Numbers.{u32_at}
 use Rattle.protocol.specs.Refusal.{wrong_size, contradiction}
-use Rattle.protocol.specs.Verdict.{Kept, judge, first_of, fault_if, exact_length, open_length}
+use Rattle.protocol.specs.Verdict.{Kept, judge, first_of, fault_if, exact_length, open_length, no_fault, Verdict}
 use Rattle.protocol.specs.DataClass.{one_class}
-use Rattle.protocol.specs.declared.Verdict.{Verdict}
-use Rattle.protocol.specs.declared.Verdict.TheVariants.{Fits, Fault}
 use Rattle.protocol.specs.declared.Version.{Version}
 use Rattle.protocol.specs.declared.Version.TheVariants.{V1, V2}
 use Rattle.protocol.proofs.Tests.{and_cases, cases_and, or_none, none_or, not_kept, kept_not, equal_kept, kept_equal}
@@ -36,11 +33,11 @@ use Rattle.signal_state.specs.declared.RsrpSnr.{RsrpSnr}
 use Rattle.signal_state.specs.declared.SignalForm.{SignalForm}
 use Rattle.signal_state.specs.declared.SignalForm.TheVariants.{V1 as Form1, V2 as Form2}
 use Rattle.signal_state.specs.declared.SignalState.{SignalState}
-use Rattle.signal_state.specs.declared.SignalStateRead.TheVariants.{Info, Refused}
 use Rattle.signal_state.specs.declared.SignalStateShown.{SignalStateShown}
 use Rattle.signal_state.specs.SignalState.{list_form, count_at, list_place, entry_place, entry_at, unmarked, number_rules, list_rules, entry_rules, entries_verdict, is_known, any_known, contradicts, body_verdict, head_of, head_verdict, verdict_at, shown, record_at, shown_entries, read_with, entry_in, size_of, limit_verdict, listed_verdict, verdict_in, bytes_of, written_verdict, write_of}
 use Rattle.signal_state.specs.Claims.{info, Marked, CountFits, EntryFits, Unknown, Acceptable, FormWritable, Accepted, AcceptedExactly, WrittenExactly, OneSystemBit}
 use Rattle.signal_state.proofs.Laws.{size_small, small_size}
+use Rattle.std.specs.Prelude.{Ok, Err}
 
 -- ---- each rule as a fact
 
@@ -85,20 +82,20 @@ said_unknown e u = none_or (not (eqb e.rsrp 127)) (not (eqb e.snr 128)) (kept_eq
 -- ---- the entries, and what contradicts
 
 module _ (rssi offset : ℕ) (f : ℕ → RsrpSnr) (n : ℕ) where
-  entries_said : body_verdict rssi offset f n ≡ Fits → (i : ℕ) → i < n → EntryFits (f i)
+  entries_said : body_verdict rssi offset f n ≡ no_fault → (i : ℕ) → i < n → EntryFits (f i)
   unfolding body_verdict entries_verdict
   entries_said e i l =
       let each = fits_each (λ j. judge (entry_rules (entry_place offset j) (f j))) n (left_fits _ _ e) i l in
       entry_said (entry_place offset i) (f i) (fits_kept (entry_rules (entry_place offset i) (f i)) each)
 
-  alone_said : body_verdict rssi offset f n ≡ Fits → (rssi ≡ 99) ⊎ ((i : ℕ) → i < n → Unknown (f i))
+  alone_said : body_verdict rssi offset f n ≡ no_fault → (rssi ≡ 99) ⊎ ((i : ℕ) → i < n → Unknown (f i))
   unfolding body_verdict any_known
   alone_said e =
       let k = not_broken (contradicts rssi (any_known f n)) contradiction 0 (right_fits (entries_verdict offset f n) _ e) in
       ⊎_elim (λ h. inr (λ i l. unknown_said (f i) (none_each (λ j. is_known (f j)) n h i l))) (λ h. inl (equal_kept rssi 99 h))
       (and_cases (any_known f n) (not (eqb rssi 99)) k)
 
-  said_body : ((i : ℕ) → i < n → EntryFits (f i)) → (rssi ≡ 99) ⊎ ((i : ℕ) → i < n → Unknown (f i)) → body_verdict rssi offset f n ≡ Fits
+  said_body : ((i : ℕ) → i < n → EntryFits (f i)) → (rssi ≡ 99) ⊎ ((i : ℕ) → i < n → Unknown (f i)) → body_verdict rssi offset f n ≡ no_fault
   unfolding body_verdict entries_verdict any_known first_of fault_if
   said_body h a =
       let all = each_fits (λ j. judge (entry_rules (entry_place offset j) (f j))) n
@@ -118,7 +115,7 @@ said_numbers : (rssi rate : ℕ) → Marked 31 rssi → Marked 7 rate → Kept (
 unfolding number_rules
 said_numbers rssi rate a b = (said_marked 31 rssi a, (said_marked 7 rate b, tt))
 
-fields_said : (v : Version) (z : ZeroSize) (s : List ℕ) → verdict_at v z s ≡ Fits → Acceptable v z s
+fields_said : (v : Version) (z : ZeroSize) (s : List ℕ) → verdict_at v z s ≡ no_fault → Acceptable v z s
 unfolding verdict_at head_of list_rules
 fields_said V1 z s e =
     let k = then_kept (exact_length 20 (length s)) (number_rules (u32_at s 0) (u32_at s 4)) e in
@@ -149,7 +146,7 @@ fields_said V2 z s e =
       );
     }
 
-pub said_fields : (v : Version) (z : ZeroSize) (s : List ℕ) → Acceptable v z s → verdict_at v z s ≡ Fits
+pub said_fields : (v : Version) (z : ZeroSize) (s : List ℕ) → Acceptable v z s → verdict_at v z s ≡ no_fault
 unfolding verdict_at head_of list_rules first_of
 said_fields V1 z s a =
     kept_then (exact_length 20 (length s)) (number_rules (u32_at s 0) (u32_at s 4)) (length_exact 20 (length s) a.form) (said_numbers (u32_at s 0) (u32_at s 4) a.rssi a.rate)
@@ -164,13 +161,13 @@ said_fields V2 z s a =
 
 -- ---- accepted exactly when the rules hold
 
-pub shows : (d : Verdict) (p q : SignalState) (es fs : List RsrpSnr) → shown d p es ≡ info q fs → (d ≡ Fits) × ((p ≡ q) × (es ≡ fs))
-shows Fits p q es fs e =
-    let a : Info p ≡ Info q = ap (λ (x : SignalStateShown). x.answer) e in
+pub shows : (d : Verdict) (p q : SignalState) (es fs : List RsrpSnr) → shown d p es ≡ info q fs → (d ≡ no_fault) × ((p ≡ q) × (es ≡ fs))
+shows (Ok _) p q es fs e =
+    let a : Ok p ≡ Ok q = ap (λ (x : SignalStateShown). x.answer) e in
     (refl, (cc, ap (λ (x : SignalStateShown). x.entries) e))
-shows (Fault r) p q es fs e =
-    let a : Refused r ≡ Info q = ap (λ (x : SignalStateShown). x.answer) e in
-    let z : ◌≡◌ {A = ℕ} 0 1 = cc in absurd (omega arith)
+shows (Err r) p q es fs e =
+    let a : Err r ≡ Ok q = ap (λ (x : SignalStateShown). x.answer) e in
+    cc
 
 -- an accepted payload keeps the rules, and shows the record and the entries at their places
 pub accepted : Accepted
@@ -198,7 +195,7 @@ module _ (p : SignalState) (f : ℕ → RsrpSnr) where
   numbers : Verdict
   numbers = judge (number_rules p.rssi p.error_rate)
 
-  writable_said : (g : SignalForm) → verdict_in g p f ≡ Fits → (Marked 31 p.rssi × Marked 7 p.error_rate) × FormWritable g p.rssi f
+  writable_said : (g : SignalForm) → verdict_in g p f ≡ no_fault → (Marked 31 p.rssi × Marked 7 p.error_rate) × FormWritable g p.rssi f
   unfolding listed_verdict limit_verdict numbers
   writable_said Form1 e = (numbers_said p.rssi p.error_rate (fits_kept (number_rules p.rssi p.error_rate) e), tt)
   writable_said (Form2 n) e =
@@ -212,7 +209,7 @@ module _ (p : SignalState) (f : ℕ → RsrpSnr) where
         },
       )
 
-  said_writable : (g : SignalForm) → Marked 31 p.rssi → Marked 7 p.error_rate → FormWritable g p.rssi f → verdict_in g p f ≡ Fits
+  said_writable : (g : SignalForm) → Marked 31 p.rssi → Marked 7 p.error_rate → FormWritable g p.rssi f → verdict_in g p f ≡ no_fault
   unfolding listed_verdict limit_verdict first_of fault_if
   said_writable Form1 a b w = kept_fits (number_rules p.rssi p.error_rate) (said_numbers p.rssi p.error_rate a b)
   said_writable (Form2 n) a b w =

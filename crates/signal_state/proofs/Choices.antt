@@ -10,10 +10,8 @@ use borrow.Author.Tests.{eq-eqb}
 use lib.ListN.{length}
 use Rattle.wire.specs.Numbers.{u32_at}
 use Rattle.protocol.specs.Refusal.{refusal, offset_with_zero_size}
-use Rattle.protocol.specs.Verdict.{rule, judge, judge_from, fault_if, first_of, open_length}
+use Rattle.protocol.specs.Verdict.{rule, judge, judge_from, fault_if, first_of, open_length, no_fault, Verdict}
 use Rattle.protocol.specs.declared.Refusal.{Refusal}
-use Rattle.protocol.specs.declared.Verdict.{Verdict}
-use Rattle.protocol.specs.declared.Verdict.TheVariants.{Fits, Fault}
 use Rattle.protocol.specs.declared.Version.{Version}
 use Rattle.protocol.specs.declared.Version.TheVariants.{V1, V2}
 use Rattle.protocol.proofs.Verdicts.{left_fits, right_fits, last_fits}
@@ -27,11 +25,11 @@ use Rattle.pairs.proofs.Laws.{fits_said, said_fits, stray_said, said_stray, stri
 use Rattle.signal_state.specs.declared.RsrpSnr.{RsrpSnr}
 use Rattle.signal_state.specs.declared.SignalForm.TheVariants.{V2 as Form2}
 use Rattle.signal_state.specs.declared.SignalState.{SignalState}
-use Rattle.signal_state.specs.declared.SignalStateRead.TheVariants.{Info, Refused}
 use Rattle.signal_state.specs.declared.SignalStateShown.{SignalStateShown}
 use Rattle.signal_state.specs.SignalState.{count_at, list_place, entry_at, sixteen, number_rules, list_rules, body_verdict, head_of, choice_verdict, verdict_at, shown, refused, record_at, shown_entries, read_with, state_at}
 use Rattle.signal_state.specs.Claims.{Acceptable, StrayOffset, OnlyByDefault, BetweenChoices, StrictOfStray, StrictWithin, StrictPair, AbsentEmpty}
 use Rattle.signal_state.proofs.Acceptance.{accepted, acceptable, said_fields}
+use Rattle.std.specs.Prelude.{Ok, Err}
 
 -- ---- the strict choice on a payload that is accepted by default
 
@@ -39,7 +37,7 @@ use Rattle.signal_state.proofs.Acceptance.{accepted, acceptable, said_fields}
 abbrev stray_verdict : List ℕ → Verdict
 stray_verdict s = judge (rule (offset_without_size (range_at s 20)) offset_with_zero_size 20 ∷ [])
 
-strict_verdict : (s : List ℕ) → verdict_at V2 Absent s ≡ Fits → verdict_at V2 Strict s ≡ stray_verdict s
+strict_verdict : (s : List ℕ) → verdict_at V2 Absent s ≡ no_fault → verdict_at V2 Strict s ≡ stray_verdict s
 unfolding verdict_at head_of first_of
 strict_verdict s e =
     let p = range_at s 20 in
@@ -60,13 +58,13 @@ strict_of_stray s a o =
 -- ---- the payloads between the choices
 
 -- a reader that refuses has found a fault
-none_shown : (d : Verdict) (p : SignalState) (es : List RsrpSnr) (r : Refusal) → shown d p es ≡ refused r → d ≡ Fits → ⊥
-none_shown Fits p es r e f =
-    let a : Info p ≡ Refused r = ap (λ (x : SignalStateShown). x.answer) e in
-    let z : ◌≡◌ {A = ℕ} 0 1 = cc in omega arith
-none_shown (Fault q) p es r e f = let z : ◌≡◌ {A = ℕ} 0 1 = cc in omega arith
+none_shown : (d : Verdict) (p : SignalState) (es : List RsrpSnr) (r : Refusal) → shown d p es ≡ refused r → d ≡ no_fault → ⊥
+none_shown (Ok _) p es r e f =
+    let a : Ok p ≡ Err r = ap (λ (x : SignalStateShown). x.answer) e in
+    cc
+none_shown (Err q) p es r e f = cc
 
-stray_by : (s : List ℕ) (b : Bool) → offset_without_size (range_at s 20) ≡ b → (stray_verdict s ≡ Fits → ⊥) → OffsetWithZeroSize (range_at s 20)
+stray_by : (s : List ℕ) (b : Bool) → offset_without_size (range_at s 20) ≡ b → (stray_verdict s ≡ no_fault → ⊥) → OffsetWithZeroSize (range_at s 20)
 unfolding judge_from fault_if first_of
 stray_by s true e h = stray_said (range_at s 20) e
 stray_by s false e h = absurd (h (rw e refl))
@@ -116,10 +114,10 @@ strict_within_default v s p es e =
 
 by_parts : (a b c d e : Verdict) → first_of (first_of a (first_of b (first_of c d))) e ≡ first_of (first_of a b) (first_of c (first_of d e))
 unfolding first_of
-by_parts (Fault r) b c d e = refl
-by_parts Fits (Fault r) c d e = refl
-by_parts Fits Fits (Fault r) d e = refl
-by_parts Fits Fits Fits d e = refl
+by_parts (Err r) b c d e = refl
+by_parts (Ok _) (Err r) c d e = refl
+by_parts (Ok _) (Ok _) (Err r) d e = refl
+by_parts (Ok _) (Ok _) (Ok _) d e = refl
 
 module _ (z : ZeroSize) (s : List ℕ) where
   -- before the pair, the pair, behind it
@@ -136,18 +134,18 @@ module _ (z : ZeroSize) (s : List ℕ) where
   unfolding verdict_at head_of
   in_parts y = by_parts (open_length 28 (length s)) (judge (number_rules (u32_at s 0) (u32_at s 4))) (pair y) _ _
 
-  pair_by_default : pair z ≡ Fits → pair Absent ≡ Fits
+  pair_by_default : pair z ≡ no_fault → pair Absent ≡ no_fault
   pair_by_default e =
       let n = length s in
       let p = range_at s 20 in
       said_fits Absent ListKind 28 324 20 n p (fits_by_default z ListKind 28 324 n p (fits_said z ListKind 28 324 20 n p e))
 
-pub read_judged : (v : Version) (z : ZeroSize) (s : List ℕ) → choice_verdict v z s ≡ Fits → read_with v Absent s ≡ read_with v z s
+pub read_judged : (v : Version) (z : ZeroSize) (s : List ℕ) → choice_verdict v z s ≡ no_fault → read_with v Absent s ≡ read_with v z s
 unfolding read_with verdict_at
 read_judged V1 z s e = refl
 read_judged V2 z s e = ap (λ (d : Verdict). shown d (record_at V2 s) (shown_entries V2 s)) (in_parts z s Absent ∙ reached_same (front z s) (pair z s z) (pair z s Absent) _ e (pair_by_default z s) ∙ sym (in_parts z s z))
 
-pub read_faulted : (v : Version) (z : ZeroSize) (s : List ℕ) (r : Refusal) → choice_verdict v z s ≡ Fault r → refused r ≡ read_with v z s
+pub read_faulted : (v : Version) (z : ZeroSize) (s : List ℕ) (r : Refusal) → choice_verdict v z s ≡ Err r → refused r ≡ read_with v z s
 unfolding read_with
 read_faulted V1 z s r e = let q : ◌≡◌ {A = ℕ} 0 1 = cc in absurd (omega arith)
 read_faulted V2 z s r e = sym (ap (λ (d : Verdict). shown d (record_at V2 s) (shown_entries V2 s)) (in_parts z s z ∙ reached_fault (front z s) (pair z s z) _ r e))

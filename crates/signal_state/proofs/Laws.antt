@@ -2,23 +2,21 @@
 -- Assumes nothing.
 use mathlib.Core.Path.{◌≡◌, refl, sym, ap, ◌∙◌}
 use mathlib.Core.Logic.{◌⊎◌, inl, inr, ⊎_map, ⊎_elim}
-use mathlib.Core.Bool.{Bool, true, false, cond, ◌||◌}
+use mathlib.Core.Bool.{Bool, cond, ◌||◌}
 use mathlib.Core.List.{List, [], ◌∷◌, ◌++◌, append_assoc}
 use Prim.Native.Nat.{ℕ, zero, suc, ◌+◌, ◌*◌, ◌-◌, ◌≤◌, ◌<◌}
 use native.Mathlib.Numerals.{add-one}
 use native.Mathlib.Omega.{arith}
-use borrow.Author.Tests.{eqb-true, eq-eqb, ne_eqb}
+use borrow.Author.Tests.{eqb-true, ne_eqb}
 use lib.Dec.{eqb}
 use lib.ListN.{length, set, length-append}
-use lib.Seq.{sets, length-sets, set_at}
+use lib.Seq.{sets, set_at}
 use Rattle.wire.specs.Numbers.{digits}
 use Rattle.wire.proofs.Laws.{sets_then}
 use Rattle.protocol.specs.Refusal.{wrong_size, contradiction}
-use Rattle.protocol.specs.Verdict.{judge, first_of, fault_if, open_length, Writing, writing}
+use Rattle.protocol.specs.Verdict.{judge, first_of, fault_if, open_length, no_fault}
 use Rattle.protocol.specs.declared.Refusal.{Refusal}
-use Rattle.protocol.specs.declared.Verdict.TheVariants.{Fits, Fault}
 use Rattle.protocol.specs.declared.Version.TheVariants.{V2}
-use Rattle.protocol.specs.declared.Written.{Written}
 use Rattle.protocol.proofs.Verdicts.{left_fits, right_fits, not_broken, open_length_lem}
 use Rattle.folds.specs.Folds.{list_of, joined}
 use Rattle.folds.proofs.Laws.{fits_next, fault_at, any_next, fault_same, any_same, length_list, length_joined}
@@ -32,9 +30,9 @@ use Rattle.pairs.specs.declared.PairKind.TheVariants.{List as ListKind}
 use Rattle.pairs.proofs.Laws.{size_said, shown_safe}
 use Rattle.lists.proofs.Behind.{behind_said}
 use Rattle.signal_state.specs.declared.RsrpSnr.{RsrpSnr}
-use Rattle.signal_state.specs.declared.SignalForm.{SignalForm}
 use Rattle.signal_state.specs.declared.SignalState.{SignalState}
-use Rattle.signal_state.specs.SignalState.{list_form, count_at, entry_place, zero_entry, no_entries, sixteen, number_rules, list_rules, entry_rules, entries_verdict, is_known, any_known, contradicts, body_verdict, head_of, head_verdict, entry_in, size_of, limit_verdict, listed_verdict, number_bytes, entry_bytes, entries_bytes, list_bytes, listed_bytes, list_place, verdict_at, refused, read_entries, read_with, verdict_in, bytes_in, write_of}
+use Rattle.signal_state.specs.SignalState.{list_form, count_at, entry_place, zero_entry, no_entries, sixteen, number_rules, list_rules, entry_rules, entries_verdict, is_known, any_known, contradicts, body_verdict, head_of, head_verdict, size_of, limit_verdict, listed_verdict, number_bytes, entry_bytes, entries_bytes, list_bytes, listed_bytes, list_place, verdict_at, refused, read_entries, read_with}
+use Rattle.std.specs.Prelude.{Err}
 
 -- ---- entries one by one
 
@@ -48,8 +46,8 @@ one_more f i {es} {e} h p q =
     rw (p, k) (a ∙ rw (q, add-one) (sym (append_assoc (list_of f i) (f i ∷ []) (no_entries (16 - suc i)))))
 
 -- entry by entry: one more that fits, the first that does not, one more that is known or not
-pub entries_next : (offset : ℕ) (f : ℕ → RsrpSnr) (i : ℕ) → entries_verdict offset f i ≡ Fits → judge (entry_rules (entry_place offset i) (f i)) ≡ Fits
-    → entries_verdict offset f (i + 1) ≡ Fits
+pub entries_next : (offset : ℕ) (f : ℕ → RsrpSnr) (i : ℕ) → entries_verdict offset f i ≡ no_fault → judge (entry_rules (entry_place offset i) (f i)) ≡ no_fault
+    → entries_verdict offset f (i + 1) ≡ no_fault
 unfolding entries_verdict
 entries_next offset f i e h = fits_next (λ j. judge (entry_rules (entry_place offset j) (f j))) i e h
 
@@ -57,13 +55,13 @@ pub known_next : (f : ℕ → RsrpSnr) (i : ℕ) {b c : Bool} → b ≡ any_know
 unfolding any_known
 known_next f i p q = any_next (λ j. is_known (f j)) i p q
 
-pub body_fault : (rssi offset : ℕ) (f : ℕ → RsrpSnr) (n i : ℕ) (r : Refusal) → entries_verdict offset f i ≡ Fits → i < n
-    → judge (entry_rules (entry_place offset i) (f i)) ≡ Fault r → body_verdict rssi offset f n ≡ Fault r
+pub body_fault : (rssi offset : ℕ) (f : ℕ → RsrpSnr) (n i : ℕ) (r : Refusal) → entries_verdict offset f i ≡ no_fault → i < n
+    → judge (entry_rules (entry_place offset i) (f i)) ≡ Err r → body_verdict rssi offset f n ≡ Err r
 unfolding body_verdict entries_verdict first_of
 body_fault rssi offset f n i r e l h = rw (fault_at (λ j. judge (entry_rules (entry_place offset j) (f j))) n i r e l h)
 
 -- and behind the last what contradicts
-pub body_last : (rssi offset : ℕ) (f : ℕ → RsrpSnr) (n i : ℕ) {b : Bool} → i ≡ n → entries_verdict offset f i ≡ Fits → b ≡ any_known f i
+pub body_last : (rssi offset : ℕ) (f : ℕ → RsrpSnr) (n i : ℕ) {b : Bool} → i ≡ n → entries_verdict offset f i ≡ no_fault → b ≡ any_known f i
     → body_verdict rssi offset f n ≡ fault_if (contradicts rssi b) contradiction 0
 unfolding body_verdict first_of
 body_last rssi offset f n i l e k = rw (k, ← l, e)
@@ -93,16 +91,16 @@ pub small_size : (n : ℕ) → n ≤ 16 → size_of n ≤ 324
 small_size zero h = omega arith
 small_size (suc n) h = omega (arith, size_is n)
 
-pub limit_small : (p : SignalState) (n : ℕ) → limit_verdict p n ≡ Fits → n ≤ 16
+pub limit_small : (p : SignalState) (n : ℕ) → limit_verdict p n ≡ no_fault → n ≤ 16
 unfolding limit_verdict
 limit_small p n e = size_small n (size_said ListKind 324 (size_of n) (not_broken _ wrong_size 20 (right_fits _ _ e))).small
 
 -- a list that fits is absent, or has from 1 to 16 entries
-listed : (z : ZeroSize) (s : List ℕ) → head_verdict z s ≡ Fits → list_verdict z list_form 28 20 s ≡ Fits
+listed : (z : ZeroSize) (s : List ℕ) → head_verdict z s ≡ no_fault → list_verdict z list_form 28 20 s ≡ no_fault
 unfolding head_of list_rules
 listed z s e = right_fits (judge (number_rules _ _)) _ (right_fits (open_length 28 (length s)) _ e)
 
-pub count_small : (z : ZeroSize) (s : List ℕ) → head_verdict z s ≡ Fits → count_at s ≤ 16
+pub count_small : (z : ZeroSize) (s : List ℕ) → head_verdict z s ≡ no_fault → count_at s ≤ 16
 count_small z s e = ⊎_elim (λ a. rw a (omega arith)) (λ w. w.most) (behind_said z list_form 28 20 s (listed z s e)).1
 
 -- and it stands within the payload
@@ -112,7 +110,7 @@ within s p n l (inl a) (inr w) = absurd (omega (arith, a.empty, w.size))
 within s p n l (inr i) (inl z) = absurd (omega (arith, i.some, z.1))
 within s p n l (inr i) (inr w) = omega (arith, i.within, w.size)
 
-pub list_within : (z : ZeroSize) (s : List ℕ) → head_verdict z s ≡ Fits → list_place s + 4 + 20 * count_at s ≤ length s
+pub list_within : (z : ZeroSize) (s : List ℕ) → head_verdict z s ≡ no_fault → list_place s + 4 + 20 * count_at s ≤ length s
 unfolding head_of shown_at
 list_within z s e =
     let long = (open_length_lem 28 (length s) (left_fits (open_length 28 (length s)) _ e)).0 in
@@ -144,17 +142,17 @@ unfolding listed_bytes
 length_listed p n f = length-append (number_bytes p) (list_bytes n f) ∙ omega (arith, length_numbers p, length_list_bytes n f)
 
 -- what is written is far below 4,096 bytes, so number 5 is never given
-pub bytes_most : (p : SignalState) (n : ℕ) (f : ℕ → RsrpSnr) → listed_verdict p n f ≡ Fits → length (listed_bytes p n f) ≤ 352
+pub bytes_most : (p : SignalState) (n : ℕ) (f : ℕ → RsrpSnr) → listed_verdict p n f ≡ no_fault → length (listed_bytes p n f) ≤ 352
 unfolding listed_verdict
 bytes_most p n f e = omega (arith, length_listed p n f, small_size n (limit_small p n (left_fits (limit_verdict p n) _ e)))
 
 -- ---- what a reader shows behind the head
 
-pub read_through : (z : ZeroSize) (s : List ℕ) → head_verdict z s ≡ Fits → read_entries s (list_place s) (count_at s) ≡ read_with V2 z s
+pub read_through : (z : ZeroSize) (s : List ℕ) → head_verdict z s ≡ no_fault → read_entries s (list_place s) (count_at s) ≡ read_with V2 z s
 unfolding read_with verdict_at read_entries first_of
 read_through z s e = rw e
 
-pub read_refused : (z : ZeroSize) (s : List ℕ) (r : Refusal) → head_verdict z s ≡ Fault r → refused r ≡ read_with V2 z s
+pub read_refused : (z : ZeroSize) (s : List ℕ) (r : Refusal) → head_verdict z s ≡ Err r → refused r ≡ read_with V2 z s
 unfolding read_with verdict_at first_of
 read_refused z s r e = rw e
 
@@ -166,11 +164,8 @@ some_of n xs h = rw (ne_eqb n 0 h)
 pub some_count : (n : ℕ) → (n ≡ 0 → ⊥) → cond (eqb n 0) [] (digits 4 n) ≡ digits 4 n
 some_count n h = some_of n (digits 4 n) h
 
-pub no_count : (n : ℕ) → n ≡ 0 → cond (eqb n 0) [] (digits 4 n) ≡ []
-no_count n e = rw (eq-eqb n 0 e)
-
 -- the pair and the count, and then the entries
-list_stored : (n : ℕ) (f : ℕ → RsrpSnr) (s : List ℕ) {s₁ s₂ : List ℕ} → s₁ ≡ sets s 20 (range_bytes (placed 28 (size_of n)) ++ cond (eqb n 0) [] (digits 4 n))
+pub list_stored : (n : ℕ) (f : ℕ → RsrpSnr) (s : List ℕ) {s₁ s₂ : List ℕ} → s₁ ≡ sets s 20 (range_bytes (placed 28 (size_of n)) ++ cond (eqb n 0) [] (digits 4 n))
     → s₂ ≡ sets s₁ 32 (entries_bytes n f) → s₂ ≡ sets s 20 (list_bytes n f)
 unfolding list_bytes range_bytes entries_bytes joined
 list_stored zero f s p q = q ∙ p
@@ -182,29 +177,3 @@ list_stored (suc n) f s {s₁} p q =
     let start : s₁ ≡ sets s 20 (pair ++ count) = p ∙ ap (λ (l : List ℕ). sets s 20 (pair ++ l)) (some_count (suc n) some) in
     sets_then (pair ++ count) entries 20 12 s refl start q
     ∙ ap (sets s 20) (append_assoc pair count entries ∙ ap (λ (l : List ℕ). pair ++ l) (sym (some_of (suc n) (count ++ entries) some)))
-
-pub list_ended : (n j : ℕ) (f : ℕ → RsrpSnr) (s : List ℕ) {s₁ s₂ : List ℕ} → j ≡ n
-    → s₁ ≡ sets s 20 (range_bytes (placed 28 (size_of n)) ++ cond (eqb n 0) [] (digits 4 n)) → s₂ ≡ sets s₁ 32 (entries_bytes j f) → s₂ ≡ sets s 20 (list_bytes n f)
-list_ended n j f s {s₁} e p q = list_stored n f s p (q ∙ ap (λ (k : ℕ). sets s₁ 32 (entries_bytes k f)) e)
-
--- the stores leave the length
-pub same_through : (s a b d : List ℕ) {s₁ s₂ s₃ : List ℕ} → s₁ ≡ sets s 0 a → s₂ ≡ sets s₁ 20 b → s₃ ≡ sets s₂ 32 d → length s₃ ≡ length s
-same_through s a b d {s₁} {s₂} p q r = ap length r ∙ length-sets s₂ 32 d ∙ ap length q ∙ length-sets s₁ 20 b ∙ ap length p ∙ length-sets s 0 a
-
--- an RSSI beside what is known
-pub stray_none : (rssi : ℕ) (b : Bool) → rssi ≡ 99 → false ≡ contradicts rssi b
-stray_none rssi true e = rw (eq-eqb rssi 99 e)
-stray_none rssi false e = refl
-
-pub stray_some : (rssi : ℕ) (b : Bool) → (rssi ≡ 99 → ⊥) → b ≡ contradicts rssi b
-stray_some rssi true h = rw (ne_eqb rssi 99 h)
-stray_some rssi false h = refl
-
--- by the form of the record
-pub in_form : (p : SignalState) (es : List RsrpSnr) (s : List ℕ) (g : SignalForm) {r : Written} {t : List ℕ} → p.form ≡ g
-    → record { value : r ≡ (writing (verdict_in g p (entry_in es)) (bytes_in g p (entry_in es)) s).answer; out_after : t ≡ (writing (verdict_in g p (entry_in es)) (bytes_in g p (entry_in es)) s).output }
-    → record { value : r ≡ (write_of p es s).answer; out_after : t ≡ (write_of p es s).output }
-unfolding write_of
-in_form p es s g {r} {t} e w =
-    let same : writing (verdict_in g p (entry_in es)) (bytes_in g p (entry_in es)) s ≡ write_of p es s = λ i. writing (verdict_in (sym e i) p (entry_in es)) (bytes_in (sym e i) p (entry_in es)) s in
-    record { value = w.value ∙ ap (λ (x : Writing). x.answer) same; out_after = w.out_after ∙ ap (λ (x : Writing). x.output) same }

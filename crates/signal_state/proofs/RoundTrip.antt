@@ -12,9 +12,7 @@ use lib.ListN.{length}
 use Rattle.wire.specs.Numbers.{u32_at, digits}
 use Rattle.wire.proofs.Laws.{num_digits}
 use Rattle.protocol.specs.Refusal.{wrong_size}
-use Rattle.protocol.specs.Verdict.{Kept, judge, first_of, fault_if, exact_length}
-use Rattle.protocol.specs.declared.Verdict.{Verdict}
-use Rattle.protocol.specs.declared.Verdict.TheVariants.{Fits}
+use Rattle.protocol.specs.Verdict.{Kept, judge, first_of, fault_if, exact_length, no_fault, Verdict}
 use Rattle.protocol.specs.declared.Version.TheVariants.{V1, V2}
 use Rattle.protocol.proofs.Verdicts.{left_fits, right_fits, not_broken, kept_fits, length_exact, length_open, written_fits, written_front}
 use Rattle.folds.specs.Folds.{first_fault, any_of, list_of}
@@ -32,12 +30,12 @@ use Rattle.signal_state.specs.declared.RsrpSnr.{RsrpSnr}
 use Rattle.signal_state.specs.declared.SignalForm.{SignalForm}
 use Rattle.signal_state.specs.declared.SignalForm.TheVariants.{V1 as Form1, V2 as Form2}
 use Rattle.signal_state.specs.declared.SignalState.{SignalState}
-use Rattle.signal_state.specs.declared.SignalStateRead.TheVariants.{Info}
 use Rattle.signal_state.specs.declared.SignalStateShown.{SignalStateShown}
 use Rattle.signal_state.specs.SignalState.{state_at, list_form, count_in, entry_place, entry_at, no_entries, sixteen, entries_at, number_rules, list_rules, entries_verdict, any_known, body_verdict, head_of, verdict_at, shown, read_with, version_in, version_of, entry_in, size_of, limit_verdict, listed_verdict, number_bytes, entry_bytes, entries_bytes, list_bytes, listed_bytes, verdict_in, bytes_in, bytes_of, written_verdict, write_of}
 use Rattle.signal_state.specs.Claims.{CountFits, kept_in, OfWidth, EntryOfWidth, EntriesOfWidth, RoundTrip}
 use Rattle.signal_state.proofs.Laws.{body_same, size_is, small_size, limit_small, length_numbers, length_entries, length_listed}
 use Rattle.signal_state.proofs.Acceptance.{said_list}
+use Rattle.std.specs.Prelude.{Ok}
 
 -- ---- the numbers, whatever follows
 
@@ -110,9 +108,9 @@ module _ (p : SignalState) (m : ℕ) (f : ℕ → RsrpSnr) where
 -- ---- the reader on a writer's bytes
 
 -- what it shows, put together
-read_fits : (z : ZeroSize) (s : List ℕ) (p : SignalState) (r : Range) (n : ℕ) (es : List RsrpSnr) → range_at s 20 ≡ r → count_in s r ≡ n → head_of z s r n ≡ Fits
-    → body_verdict (u32_at s 0) (as_shown r).start (entry_at s (as_shown r).start) n ≡ Fits → state_at (Form2 n) s ≡ p → entries_at s (as_shown r).start n ≡ es
-    → read_with V2 z s ≡ record { answer = Info p; entries = es }
+read_fits : (z : ZeroSize) (s : List ℕ) (p : SignalState) (r : Range) (n : ℕ) (es : List RsrpSnr) → range_at s 20 ≡ r → count_in s r ≡ n → head_of z s r n ≡ no_fault
+    → body_verdict (u32_at s 0) (as_shown r).start (entry_at s (as_shown r).start) n ≡ no_fault → state_at (Form2 n) s ≡ p → entries_at s (as_shown r).start n ≡ es
+    → read_with V2 z s ≡ record { answer = Ok p; entries = es }
 unfolding read_with verdict_at first_of shown_at
 read_fits z s p r n es a b c d e f =
     let at : Range → ℕ → SignalStateShown =
@@ -127,8 +125,8 @@ list_kept : (p : Range) (n : ℕ) → (p.length ≡ 0) ⊎ CountFits p n → Kep
 unfolding list_rules
 list_kept p n h = said_behind list_form 20 p n (said_list p n h)
 
-head_fits : (choice : ZeroSize) (p : SignalState) (n : ℕ) (f : ℕ → RsrpSnr) → OfWidth p → limit_verdict p n ≡ Fits
-    → head_of choice (listed_bytes p n f) (placed 28 (size_of n)) n ≡ Fits
+head_fits : (choice : ZeroSize) (p : SignalState) (n : ℕ) (f : ℕ → RsrpSnr) → OfWidth p → limit_verdict p n ≡ no_fault
+    → head_of choice (listed_bytes p n f) (placed 28 (size_of n)) n ≡ no_fault
 unfolding head_of first_of limit_verdict listed_bytes
 head_fits choice p n f z e =
     let s = number_bytes p ++ list_bytes n f in
@@ -146,8 +144,8 @@ head_fits choice p n f z e =
     )
 
 -- no list: no entries
-none_read : (choice : ZeroSize) (p : SignalState) (f : ℕ → RsrpSnr) → OfWidth p → p.form ≡ Form2 0 → limit_verdict p 0 ≡ Fits
-    → read_with V2 choice (listed_bytes p 0 f) ≡ record { answer = Info p; entries = sixteen f 0 }
+none_read : (choice : ZeroSize) (p : SignalState) (f : ℕ → RsrpSnr) → OfWidth p → p.form ≡ Form2 0 → limit_verdict p 0 ≡ no_fault
+    → read_with V2 choice (listed_bytes p 0 f) ≡ record { answer = Ok p; entries = sixteen f 0 }
 unfolding listed_bytes list_bytes body_verdict entries_verdict any_known first_fault any_of list_of first_of fault_if
 none_read choice p f z e limit =
     let rest = range_bytes (placed 28 0) ++ [] in
@@ -155,8 +153,8 @@ none_read choice p f z e limit =
     (head_fits choice p 0 f z limit) refl (state_back p (Form2 0) rest z e) refl
 
 -- one entry or more
-some_read : (choice : ZeroSize) (p : SignalState) (m : ℕ) (f : ℕ → RsrpSnr) → OfWidth p → ((i : ℕ) → EntryOfWidth (f i)) → p.form ≡ Form2 (suc m) → limit_verdict p (suc m) ≡ Fits
-    → body_verdict p.rssi 28 f (suc m) ≡ Fits → read_with V2 choice (listed_bytes p (suc m) f) ≡ record { answer = Info p; entries = sixteen f (suc m) }
+some_read : (choice : ZeroSize) (p : SignalState) (m : ℕ) (f : ℕ → RsrpSnr) → OfWidth p → ((i : ℕ) → EntryOfWidth (f i)) → p.form ≡ Form2 (suc m) → limit_verdict p (suc m) ≡ no_fault
+    → body_verdict p.rssi 28 f (suc m) ≡ no_fault → read_with V2 choice (listed_bytes p (suc m) f) ≡ record { answer = Ok p; entries = sixteen f (suc m) }
 unfolding listed_bytes list_bytes
 some_read choice p m f z zs e limit body =
     let n = suc m in
@@ -170,8 +168,8 @@ some_read choice p m f z zs e limit body =
     let count : count_in s (range 28 (size_of n)) ≡ n = ap (λ (b : Bool). cond b 0 (u32_at s 28)) there ∙ count_back p m f few in
     let at : (as_shown (range 28 (size_of n))).start ≡ 28 = ap (λ (b : Bool). cond b 0 28) there in
     let each = entries_back p m f zs in
-    let head : head_of choice s (range 28 (size_of n)) n ≡ Fits = (λ i. head_of choice (sym shape i) (sym r i) n) ∙ head_fits choice p n f z limit in
-    let all : body_verdict (u32_at s 0) 28 (entry_at s 28) n ≡ Fits =
+    let head : head_of choice s (range 28 (size_of n)) n ≡ no_fault = (λ i. head_of choice (sym shape i) (sym r i) n) ∙ head_fits choice p n f z limit in
+    let all : body_verdict (u32_at s 0) 28 (entry_at s 28) n ≡ no_fault =
     ap (λ (x : ℕ). body_verdict x 28 (entry_at s 28) n) (rssi_back p rest z) ∙ body_same p.rssi 28 (entry_at s 28) f n each ∙ body in
     let entries : entries_at s 28 n ≡ sixteen f n = ap (λ (l : List RsrpSnr). l ++ no_entries (16 - n)) (list_same (entry_at s 28) f n each) in
     ap (read_with V2 choice) shape
@@ -181,15 +179,15 @@ some_read choice p m f z zs e limit body =
 -- ---- the round trip
 
 module _ (choice : ZeroSize) (p : SignalState) (es : List RsrpSnr) (z : OfWidth p) (zs : EntriesOfWidth es) where
-  listed_read : (n : ℕ) → p.form ≡ Form2 n → listed_verdict p n (entry_in es) ≡ Fits
-      → read_with V2 choice (listed_bytes p n (entry_in es)) ≡ record { answer = Info p; entries = sixteen (entry_in es) n }
+  listed_read : (n : ℕ) → p.form ≡ Form2 n → listed_verdict p n (entry_in es) ≡ no_fault
+      → read_with V2 choice (listed_bytes p n (entry_in es)) ≡ record { answer = Ok p; entries = sixteen (entry_in es) n }
   unfolding listed_verdict
   listed_read zero e v = none_read choice p (entry_in es) z e (left_fits (limit_verdict p 0) _ v)
   listed_read (suc m) e v =
       some_read choice p m (entry_in es) z zs e (left_fits (limit_verdict p (suc m)) _ v) (right_fits (limit_verdict p (suc m)) _ v)
 
-  numbers_read : p.form ≡ Form1 → judge (number_rules p.rssi p.error_rate) ≡ Fits
-      → read_with V1 choice (number_bytes p) ≡ record { answer = Info p; entries = no_entries 16 }
+  numbers_read : p.form ≡ Form1 → judge (number_rules p.rssi p.error_rate) ≡ no_fault
+      → read_with V1 choice (number_bytes p) ≡ record { answer = Ok p; entries = no_entries 16 }
   unfolding read_with verdict_at first_of
   numbers_read e v =
       let s = number_bytes p in
@@ -197,17 +195,17 @@ module _ (choice : ZeroSize) (p : SignalState) (es : List RsrpSnr) (z : OfWidth 
       let rssi : u32_at s 0 ≡ p.rssi = rw n at (rssi_back p [] z) in
       let rate : u32_at s 4 ≡ p.error_rate = rw n at (rate_back p [] z) in
       let state : state_at Form1 s ≡ p = rw n at (state_back p Form1 [] z e) in
-      let length : exact_length 20 (length s) ≡ Fits = length_exact 20 (length s) (length_numbers p) in
+      let length : exact_length 20 (length s) ≡ no_fault = length_exact 20 (length s) (length_numbers p) in
       (λ i. shown (first_of (length i) (judge (number_rules (rssi i) (rate i)))) (state i) (no_entries 16))
       ∙ ap (λ (d : Verdict). shown d p (no_entries 16)) v
 
-  form_read : (g : SignalForm) → p.form ≡ g → verdict_in g p (entry_in es) ≡ Fits
-      → read_with (version_in g) choice (bytes_in g p (entry_in es)) ≡ record { answer = Info p; entries = kept_in g es }
+  form_read : (g : SignalForm) → p.form ≡ g → verdict_in g p (entry_in es) ≡ no_fault
+      → read_with (version_in g) choice (bytes_in g p (entry_in es)) ≡ record { answer = Ok p; entries = kept_in g es }
   form_read Form1 e v = numbers_read e v
   form_read (Form2 n) e v = listed_read n e v
 
   -- the bytes of a record that fits, read at its version, show the record and its entries
-  pub bytes_read : written_verdict p es ≡ Fits → read_with (version_of p) choice (bytes_of p es) ≡ record { answer = Info p; entries = kept_in p.form es }
+  pub bytes_read : written_verdict p es ≡ no_fault → read_with (version_of p) choice (bytes_of p es) ≡ record { answer = Ok p; entries = kept_in p.form es }
   bytes_read v = form_read p.form refl v
 
 pub round_trip : RoundTrip

@@ -1,6 +1,6 @@
 -- What is claimed of the SIGNAL_STATE payload beside the promises, whichever choice the reader makes: the rules in words of fields, what
 -- lies between the choices, and the width of each field.
-use Rattle.std.specs.Prelude.{ℕ, ◌+◌, ◌*◌, ◌≤◌, ◌<◌, ◌^◌, ◌≡◌, ◌⊎◌, ◌↔◌, List, length, take}
+use Rattle.std.specs.Prelude.{ℕ, ◌+◌, ◌*◌, ◌≤◌, ◌<◌, ◌^◌, ◌≡◌, ◌⊎◌, ◌↔◌, List, length, take, Ok}
 use Rattle.std.specs.Int.Count.{ones}
 use Rattle.wire.specs.Numbers.{u32_at}
 use Rattle.protocol.specs.DataClass.{IsClass}
@@ -17,9 +17,7 @@ use Rattle.signal_state.specs.declared.SignalForm.{SignalForm}
 use Rattle.signal_state.specs.declared.SignalForm.TheVariants.{V1 as Form1, V2 as Form2}
 use Rattle.signal_state.specs.declared.SignalState.{SignalState}
 use Rattle.signal_state.specs.declared.SignalStateShown.{SignalStateShown}
-use Rattle.signal_state.specs.declared.SignalStateRead.TheVariants.{Info}
 use Rattle.signal_state.specs.SignalState.{version_of, count_at, list_place, entry_at, no_entries, sixteen, entry_in, read_with, record_at, shown_entries, bytes_of, write_of, refused, size_of}
-use Rattle.protocol.specs.declared.Written.TheVariants.{Length}
 use Rattle.protocol.specs.Refusal.{refusal, wrong_length, too_short, offset_with_zero_size}
 use Rattle.protocol.specs.declared.Refusal.{Refusal}
 
@@ -110,7 +108,7 @@ EntriesOfWidth es = (i : ℕ) → EntryOfWidth (entry_in es i)
 
 -- a payload accepted: the record and its entries
 abbrev pub info : SignalState → List RsrpSnr → SignalStateShown
-info p es = record { answer = Info p; entries = es }
+info p es = record { answer = Ok p; entries = es }
 
 -- an accepted payload keeps the rules, and shows the record and the entries at their places
 abbrev pub Accepted : Type 0
@@ -148,7 +146,7 @@ AbsentEmpty = (s : List ℕ) → (range_at s 20).length ≡ 0 → ((record_at V2
 
 abbrev pub WrittenExactly : Type 0
 WrittenExactly = (p : SignalState) (es : List RsrpSnr) (s : List ℕ)
-    → ((write_of p es s).answer ≡ Length (length (bytes_of p es))) ↔ (Writable p (entry_in es) × (length (bytes_of p es) ≤ length s))
+    → ((write_of p es s).answer ≡ Ok (length (bytes_of p es))) ↔ (Writable p (entry_in es) × (length (bytes_of p es) ≤ length s))
 
 -- an entry that is read or written has a SystemType of one bit: 18h, which a packet service may have (02, order 4), is none
 abbrev pub OneSystemBit : Type 0
@@ -163,5 +161,5 @@ EarlierReadLater = (choice : ZeroSize) (p : SignalState) (es : List RsrpSnr) →
 
 -- what the writer puts into an output, read at the record's version, is the record with its entries
 abbrev pub RoundTrip : Type 0
-RoundTrip = (choice : ZeroSize) (p : SignalState) (es : List RsrpSnr) → OfWidth p → EntriesOfWidth es → (s : List ℕ) (n : ℕ) → (write_of p es s).answer ≡ Length n
+RoundTrip = (choice : ZeroSize) (p : SignalState) (es : List RsrpSnr) → OfWidth p → EntriesOfWidth es → (s : List ℕ) (n : ℕ) → (write_of p es s).answer ≡ Ok n
     → read_with (version_of p) choice (take n (write_of p es s).output) ≡ info p (kept_in p.form es)

@@ -1,13 +1,11 @@
 -- The SIGNAL_STATE payload (document 01, "Signal"; document 02, order 10; source 000, MBIM_SIGNAL_STATE_INFO_V2, MBIM_RSRP_SNR and MBIM_RSRP_SNR_INFO).
 -- In this order: the fields and their places; the rules, in the order in which they are judged; what a reader answers; what a writer gives.
-use Rattle.std.specs.Prelude.{ℕ, ◌+◌, ◌*◌, ◌-◌, Bool, true, not, cond, ◌&&◌, ◌||◌, List, [], ◌∷◌, ◌++◌, ltb, eqb, length, get_or, replicate}
+use Rattle.std.specs.Prelude.{ℕ, ◌+◌, ◌*◌, ◌-◌, Bool, true, not, cond, ◌&&◌, ◌||◌, List, [], ◌∷◌, ◌++◌, ltb, eqb, length, get_or, replicate, Ok, Err, Result}
 use Rattle.wire.specs.Numbers.{u32_at, digits}
 use Rattle.protocol.specs.Refusal.{wrong_size, outside_table, contradiction}
-use Rattle.protocol.specs.Verdict.{Rule, rule, judge, first_of, fault_if, exact_length, open_length, Writing, writing}
+use Rattle.protocol.specs.Verdict.{Rule, rule, judge, first_of, fault_if, exact_length, open_length, Writing, writing, no_fault, Verdict}
 use Rattle.protocol.specs.DataClass.{one_class}
 use Rattle.protocol.specs.declared.Refusal.{Refusal}
-use Rattle.protocol.specs.declared.Verdict.{Verdict}
-use Rattle.protocol.specs.declared.Verdict.TheVariants.{Fits, Fault}
 use Rattle.protocol.specs.declared.Version.{Version}
 use Rattle.protocol.specs.declared.Version.TheVariants.{V1, V2}
 use Rattle.folds.specs.Folds.{first_fault, any_of, list_of, joined}
@@ -21,8 +19,10 @@ use Rattle.signal_state.specs.declared.RsrpSnr.{RsrpSnr}
 use Rattle.signal_state.specs.declared.SignalForm.{SignalForm}
 use Rattle.signal_state.specs.declared.SignalForm.TheVariants.{V1 as Form1, V2 as Form2}
 use Rattle.signal_state.specs.declared.SignalState.{SignalState}
-use Rattle.signal_state.specs.declared.SignalStateRead.TheVariants.{Info, Refused}
 use Rattle.signal_state.specs.declared.SignalStateShown.{SignalStateShown}
+
+abbrev pub SignalStateRead : Type 0
+SignalStateRead = Result SignalState Refusal
 
 -- ---- fields and places
 
@@ -80,7 +80,7 @@ sixteen f n = list_of f n ++ no_entries (16 - n)
 abbrev pub entries_at : List ℕ → ℕ → ℕ → List RsrpSnr
 entries_at s offset n = sixteen (entry_at s offset) n
 
--- ---- rules: broken, number, place; the first broken one decides
+-- ---- rules: broken, reason, place; the first broken one decides
 
 -- over the table's last number, and not 99
 abbrev pub unmarked : ℕ → ℕ → Bool
@@ -134,7 +134,7 @@ head_verdict z s = head_of z s (range_at s 20) (count_at s)
 
 -- what a choice decides: at 1.00 nothing, at 2.00 the pair
 abbrev pub choice_verdict : Version → ZeroSize → List ℕ → Verdict
-choice_verdict V1 z s = Fits
+choice_verdict V1 z s = no_fault
 choice_verdict V2 z s =
     reached (first_of (open_length 28 (length s)) (judge (number_rules (u32_at s 0) (u32_at s 4)))) (verdict_of z ListKind 28 324 20 (length s) (range_at s 20))
 
@@ -146,11 +146,11 @@ verdict_at V2 z s = first_of (head_verdict z s) (body_verdict (u32_at s 0) (list
 -- ---- what a reader answers
 
 abbrev pub refused : Refusal → SignalStateShown
-refused r = record { answer = Refused r; entries = no_entries 16 }
+refused r = record { answer = Err r; entries = no_entries 16 }
 
 abbrev pub shown : Verdict → SignalState → List RsrpSnr → SignalStateShown
-shown Fits p es = record { answer = Info p; entries = es }
-shown (Fault r) p es = refused r
+shown (Ok _) p es = record { answer = Ok p; entries = es }
+shown (Err r) p es = refused r
 
 abbrev pub record_at : Version → List ℕ → SignalState
 record_at V1 s = state_at Form1 s

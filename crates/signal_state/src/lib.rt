@@ -2,19 +2,18 @@
 // `signal_writer`. What a code means in decibels is not known here.
 #![tactic(auto)]
 
-ghost use Rattle.std.specs.Prelude.{◌≡◌, ◌||◌, ◌+◌, ◌*◌, ◌≤◌, length};
-ghost use Rattle.protocol.specs.Verdict.{judge as judged};
+ghost use Rattle.std.specs.Prelude.{◌≡◌, ◌+◌, ◌*◌, ◌≤◌, length};
+ghost use Rattle.protocol.specs.Verdict.{first_of, exact_length, open_length, judge as judged};
 ghost use Rattle.pairs.specs.Pair.{by_default};
-ghost use Rattle.protocol.specs.declared.Verdict.TheVariants.{Fits};
 ghost use Rattle.protocol.specs.declared.Version.TheVariants.{V1, V2};
+ghost use Rattle.wire.specs.Numbers.{u32_at};
 ghost use Rattle.signal_state.specs.SignalState.{entry_place, entry_at, no_entries, entries_at, state_at, unmarked, number_rules, entry_rules, is_known, contradicts, body_verdict, head_verdict, choice_verdict, refused, read_entries, read_with, read_of, version_of};
 
 use lists::{ListForm, judge_list, judged_list_count};
 use pairs::{PairKind, ZeroSize, judge, range_at, shown_at};
 use protocol::data_class::is_one_class;
 use protocol::{
-    CONTRADICTION, OUTSIDE_TABLE, Refusal, Verdict, Version, also, first, judge_exact_length,
-    judge_open_length,
+    Reason, Refusal, Verdict, Version, judge_exact_length, judge_open_length, refuse_if,
 };
 use wire::u32_at;
 
@@ -46,16 +45,11 @@ pub struct SignalState {
     pub form: SignalForm,
 }
 
-#[derive(Clone, Copy)]
-pub enum SignalStateRead {
-    Info(SignalState),
-    Refused(Refusal),
-}
-
-// The answer, and the entries beside it: zero past the count, and all zero with a refusal.
+// The answer, and the entries beside it: zero past the count, and all zero with a refusal. No Result
+// of both, since the claims say the entries of a refusal too.
 #[derive(Clone, Copy)]
 pub struct SignalStateShown {
-    pub answer: SignalStateRead,
+    pub answer: Result<SignalState, Refusal>,
     pub entries: [RsrpSnr; 16],
 }
 
@@ -98,6 +92,7 @@ const LAST_RSSI: u32 = 31;
 
 const LAST_ERROR_RATE: u32 = 7;
 
+// Codes of the tables among other numbers, which stay numbers.
 pub const NUMBER_UNKNOWN: u32 = 99;
 
 const RSRP_UNKNOWN: u32 = 127;
@@ -105,12 +100,13 @@ const RSRP_UNKNOWN: u32 = 127;
 const SNR_UNKNOWN: u32 = 128;
 
 // By the caller's choice. Where it finds no fault, the answer is the one by default.
+#[tactic(auto, using(crate::proofs::Choices::read_judged, crate::proofs::Choices::read_faulted))]
 pub fn read_with(version: Version, zero_size: ZeroSize, payload: &[u8]) -> SignalStateShown
     ensures { result ≡ read_with version zero_size payload.now }
 {
     match judge_choice(version, zero_size, payload) {
-        Verdict::Fits => read(version, payload),
-        Verdict::Fault(refusal) => refuse(refusal),
+        Ok(()) => read(version, payload),
+        Err(refusal) => refuse(refusal),
     }
 }
 
@@ -119,7 +115,7 @@ pub fn judge_choice(version: Version, zero_size: ZeroSize, payload: &[u8]) -> Ve
     ensures { result ≡ choice_verdict version zero_size payload.now }
 {
     match version {
-        Version::V1 => Verdict::Fits,
+        Version::V1 => Ok(()),
         Version::V2 => judge_pair(zero_size, payload),
     }
 }
@@ -127,20 +123,18 @@ pub fn judge_choice(version: Version, zero_size: ZeroSize, payload: &[u8]) -> Ve
 fn judge_pair(zero_size: ZeroSize, s: &[u8]) -> Verdict
     ensures { result ≡ choice_verdict V2 zero_size s.now }
 {
-    let length = judge_open_length(FIXED_PART_V2 as usize, s.len());
-    let numbers = judge_numbers(u32_at(s, RSSI), u32_at(s, ERROR_RATE));
-    match first(length, numbers) {
-        Verdict::Fits => judge(
-            zero_size,
-            PairKind::List,
-            FIXED_PART_V2,
-            LIST_LIMIT,
-            RSRP_SNR,
-            s.len(),
-            range_at(s, RSRP_SNR),
-        ),
-        Verdict::Fault(_) => Verdict::Fits,
+    if judge_fixed(s).is_err() {
+        return Ok(());
     }
+    judge(
+        zero_size,
+        PairKind::List,
+        FIXED_PART_V2,
+        LIST_LIMIT,
+        RSRP_SNR,
+        s.len(),
+        range_at(s, RSRP_SNR),
+    )
 }
 
 // By default.
@@ -156,84 +150,96 @@ pub fn read(version: Version, payload: &[u8]) -> SignalStateShown
 pub fn version_of(info: SignalState) -> Version
     ensures { result ≡ version_of info }
 {
-    let form = info.form;
-    match form {
+    match info.form {
         SignalForm::V1 => Version::V1,
-        SignalForm::V2 { count: _ } => Version::V2,
+        SignalForm::V2 { .. } => Version::V2,
     }
 }
 
 // 1.00.
+#[tactic(auto, unfolding(crate::specs::SignalState::read_with, crate::specs::SignalState::verdict_at))]
 fn read_numbers(s: &[u8]) -> SignalStateShown
     ensures { result ≡ read_of V1 s.now }
 {
-    if let Verdict::Fault(refusal) = judge_exact_length(LENGTH_V1, s.len()) {
-        return refuse(refusal);
-    }
-    match judge_numbers(u32_at(s, RSSI), u32_at(s, ERROR_RATE)) {
-        Verdict::Fits => {
-            let entries = no_entries();
+    match judge_short(s) {
+        Ok(()) => {
             SignalStateShown {
-                answer: SignalStateRead::Info(state_at(s, SignalForm::V1)),
-                entries,
+                answer: Ok(state_at(s, SignalForm::V1)),
+                entries: no_entries(),
             }
         }
-        Verdict::Fault(refusal) => refuse(refusal),
+        Err(refusal) => refuse(refusal),
     }
 }
 
+// All of a payload of 1.00.
+#[tactic(auto, unfolding(protocol::specs::Verdict::first_of))]
+fn judge_short(s: &[u8]) -> Verdict
+    ensures { result ≡ first_of (exact_length 20 (length s.now)) (judged (number_rules (u32_at s.now 0) (u32_at s.now 4))) }
+{
+    judge_exact_length(LENGTH_V1, s.len())?;
+    judge_numbers(u32_at(s, RSSI), u32_at(s, ERROR_RATE))
+}
+
 // 2.00: all that comes before the entries is judged before they are read.
+#[tactic(auto, using(crate::proofs::Laws::count_small, crate::proofs::Laws::list_within, crate::proofs::Laws::read_through, crate::proofs::Laws::read_refused))]
 fn read_listed(s: &[u8]) -> SignalStateShown
     ensures { result ≡ read_of V2 s.now }
 {
     match judge_head(s) {
-        Verdict::Fits => {
+        Ok(()) => {
             let count = judged_list_count(s, RSRP_SNR as u32, LIST);
             let pair = shown_at(s, RSRP_SNR);
             read_entries(s, pair.start, count)
         }
-        Verdict::Fault(refusal) => refuse(refusal),
+        Err(refusal) => refuse(refusal),
     }
 }
 
+#[tactic(auto, unfolding(crate::specs::SignalState::head_of, crate::specs::SignalState::list_rules, protocol::specs::Verdict::first_of))]
 fn judge_head(s: &[u8]) -> Verdict
     ensures { result ≡ head_verdict by_default s.now }
 {
-    if let Verdict::Fault(refusal) = judge_open_length(FIXED_PART_V2 as usize, s.len()) {
-        return Verdict::Fault(refusal);
-    }
-    let numbers = judge_numbers(u32_at(s, RSSI), u32_at(s, ERROR_RATE));
-    let place = RSRP_SNR as u32;
-    let list = judge_list(ZeroSize::Absent, s, FIXED_PART_V2, place, LIST);
-    first(numbers, list)
+    judge_fixed(s)?;
+    judge_list(ZeroSize::Absent, s, FIXED_PART_V2, RSRP_SNR as u32, LIST)
 }
 
+// What comes before the pair at 2.00.
+#[tactic(auto, unfolding(protocol::specs::Verdict::first_of))]
+fn judge_fixed(s: &[u8]) -> Verdict
+    ensures { result ≡ first_of (open_length 28 (length s.now)) (judged (number_rules (u32_at s.now 0) (u32_at s.now 4))) }
+{
+    judge_open_length(FIXED_PART_V2 as usize, s.len())?;
+    judge_numbers(u32_at(s, RSSI), u32_at(s, ERROR_RATE))
+}
+
+// Place and count stay two numbers: a slice of the entries would need a second `entry_at` in specs/.
+#[tactic(auto, unfolding(crate::specs::SignalState::read_entries))]
 fn read_entries(s: &[u8], offset: u32, count: u32) -> SignalStateShown
     requires { (count ≤ 16) × (offset + 4 + 20 * count ≤ length s.now) }
     ensures { result ≡ read_entries s.now offset count }
 {
     match judge_body_at(s, u32_at(s, RSSI), offset, count) {
-        Verdict::Fits => {
-            let entries = entries_at(s, offset, count);
+        Ok(()) => {
             SignalStateShown {
-                answer: SignalStateRead::Info(state_at(s, SignalForm::V2 { count })),
-                entries,
+                answer: Ok(state_at(s, SignalForm::V2 { count })),
+                entries: entries_at(s, offset, count),
             }
         }
-        Verdict::Fault(refusal) => refuse(refusal),
+        Err(refusal) => refuse(refusal),
     }
 }
 
 fn refuse(refusal: Refusal) -> SignalStateShown
     ensures { result ≡ refused refusal }
 {
-    let entries = no_entries();
     SignalStateShown {
-        answer: SignalStateRead::Refused(refusal),
-        entries,
+        answer: Err(refusal),
+        entries: no_entries(),
     }
 }
 
+#[tactic(auto, unfolding(crate::specs::SignalState::state_at))]
 fn state_at(s: &[u8], form: SignalForm) -> SignalState
     ensures { result ≡ state_at form s.now }
 {
@@ -282,32 +288,26 @@ fn no_entries() -> [RsrpSnr; 16]
     [zero; 16]
 }
 
+#[tactic(auto, using(crate::proofs::Laws::one_more), unfolding(folds::specs::Folds::list_of))]
 fn entries_at(s: &[u8], offset: u32, n: u32) -> [RsrpSnr; 16]
     requires { (n ≤ 16) × (offset + 4 + 20 * n ≤ length s.now) }
     ensures { result ≡ entries_at s.now offset n }
 {
     let mut entries = no_entries();
-    let mut i: u32 = 0;
-    while i < n {
+    for i in 0..n {
         entries[i as usize] = entry_at(s, offset, i);
-        i += 1;
     }
     entries
 }
 
+#[tactic(auto, unfolding(crate::specs::SignalState::number_rules, protocol::specs::Verdict::judge_from, protocol::specs::Verdict::first_of, protocol::specs::Verdict::fault_if))]
 pub fn judge_numbers(rssi: u32, error_rate: u32) -> Verdict
     ensures { result ≡ judged (number_rules rssi error_rate) }
 {
-    let rssi_known = also(
-        Verdict::Fits,
-        is_unmarked(LAST_RSSI, rssi),
-        OUTSIDE_TABLE,
-        RSSI,
-    );
-    also(
-        rssi_known,
+    refuse_if(is_unmarked(LAST_RSSI, rssi), Reason::OutsideTable, RSSI)?;
+    refuse_if(
         is_unmarked(LAST_ERROR_RATE, error_rate),
-        OUTSIDE_TABLE,
+        Reason::OutsideTable,
         ERROR_RATE,
     )
 }
@@ -316,46 +316,34 @@ pub fn judge_numbers(rssi: u32, error_rate: u32) -> Verdict
 fn is_unmarked(last: u32, x: u32) -> bool
     ensures { result ≡ unmarked last x }
 {
-    if x == NUMBER_UNKNOWN {
-        return false;
-    }
-    last < x
+    x != NUMBER_UNKNOWN && last < x
 }
 
 // The entries of the list at `offset`, and last what contradicts.
+#[tactic(auto, using(crate::proofs::Laws::entries_next, crate::proofs::Laws::known_next, crate::proofs::Laws::body_fault, crate::proofs::Laws::body_last), unfolding(crate::specs::SignalState::entries_verdict, crate::specs::SignalState::any_known, folds::specs::Folds::first_fault, folds::specs::Folds::any_of, protocol::specs::Verdict::first_of))]
 fn judge_body_at(s: &[u8], rssi: u32, offset: u32, n: u32) -> Verdict
     requires { offset + 4 + 20 * n ≤ length s.now }
     ensures { result ≡ body_verdict rssi offset (entry_at s.now offset) n }
 {
     let mut known = false;
-    let mut i: u32 = 0;
-    while i < n {
+    for i in 0..n {
         let entry = entry_at(s, offset, i);
-        let verdict = judge_entry(offset, i, entry);
-        if let Verdict::Fault(refusal) = verdict {
-            return Verdict::Fault(refusal);
-        }
-        known = or(known, is_known(entry));
-        i += 1;
+        judge_entry(offset, i, entry)?;
+        known = known || is_known(entry);
     }
-    also(
-        Verdict::Fits,
-        is_contradiction(rssi, known),
-        CONTRADICTION,
-        RSSI,
-    )
+    refuse_if(is_contradiction(rssi, known), Reason::Contradiction, RSSI)
 }
 
+#[tactic(auto, unfolding(crate::specs::SignalState::entry_rules, protocol::specs::Verdict::judge_from, protocol::specs::Verdict::first_of, protocol::specs::Verdict::fault_if))]
 pub fn judge_entry(offset: u32, i: u32, entry: RsrpSnr) -> Verdict
     ensures { result ≡ judged (entry_rules (entry_place offset i) entry) }
 {
     let at = entry_place(offset, i);
-    let rsrp_known = also(Verdict::Fits, RSRP_UNKNOWN < entry.rsrp, OUTSIDE_TABLE, at);
-    let snr_known = also(rsrp_known, SNR_UNKNOWN < entry.snr, OUTSIDE_TABLE, at + 4);
-    also(
-        snr_known,
+    refuse_if(RSRP_UNKNOWN < entry.rsrp, Reason::OutsideTable, at)?;
+    refuse_if(SNR_UNKNOWN < entry.snr, Reason::OutsideTable, at + 4)?;
+    refuse_if(
         !is_one_class(Version::V2, entry.system_type),
-        OUTSIDE_TABLE,
+        Reason::OutsideTable,
         at + 16,
     )
 }
@@ -364,27 +352,12 @@ pub fn judge_entry(offset: u32, i: u32, entry: RsrpSnr) -> Verdict
 pub fn is_known(entry: RsrpSnr) -> bool
     ensures { result ≡ is_known entry }
 {
-    if entry.rsrp != RSRP_UNKNOWN {
-        return true;
-    }
-    entry.snr != SNR_UNKNOWN
-}
-
-fn or(a: bool, b: bool) -> bool
-    ensures { result ≡ (a || b) }
-{
-    if a {
-        return true;
-    }
-    b
+    entry.rsrp != RSRP_UNKNOWN || entry.snr != SNR_UNKNOWN
 }
 
 // Whether there is an RSSI beside an RSRP or an SNR.
 fn is_contradiction(rssi: u32, known: bool) -> bool
     ensures { result ≡ contradicts rssi known }
 {
-    if known {
-        return rssi != NUMBER_UNKNOWN;
-    }
-    false
+    known && rssi != NUMBER_UNKNOWN
 }

@@ -50,14 +50,6 @@ module _ (held : ℕ) (piece c : List ℕ) (fits : held ≤ length piece) where
       let b = piece_bounds (take held piece ++ c) n e in
       (omega (arith, b.2, held_length held piece c fits), b.1)
 
--- an ended stream repeats its refusal
-pub ended_prepared : (s : State) (piece c : List ℕ) (room : ℕ) → most_information ≤ room → most_transfer ≤ length piece → s.ended ≡ true
-    → prepared_of s piece c room ≡ prepared (done_by s (Ended length_fault)) piece
-unfolding prepared_of
-ended_prepared s piece c room l w e =
-    rw (le-ltb room most_information l, le-ltb (length piece) most_transfer w)
-    (ap (λ (b : Bool). cond b (prepared (done_by s (Ended length_fault)) piece) (prepared_by (held_in s piece) piece c (next_of (held_in s piece ++ c)))) e)
-
 -- ---- what is left to do, by its case, where the bytes h are held
 
 abbrev Says : List ℕ → List ℕ → ℕ → Ready → Type 0

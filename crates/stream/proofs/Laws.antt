@@ -1,19 +1,14 @@
 -- Laws of the bytes held and then a chunk, for the code.
 -- Assumes nothing.
 use mathlib.Core.Path.{◌≡◌, sym, ap, ◌∙◌}
-use mathlib.Core.Bool.{true, cond}
 use mathlib.Core.List.{List, ◌++◌}
 use Prim.Native.Nat.{ℕ, ◌+◌, ◌-◌, ◌≤◌, ◌<◌, min}
 use native.Mathlib.Omega.{arith}
 use native.Mathlib.Decide.{dec_le}
-use borrow.Author.Tests.{lt-ltb, le-ltb}
-use lib.Dec.{ltb}
 use lib.ListN.{length, get_or, take, length-append, get_or-append}
 use lib.Seq.{length-take-le, get_or-take, get_or-append-add, take_all}
 use Rattle.wire.specs.Numbers.{num, u32_at}
 use Rattle.wire.proofs.Laws.{num_skip, num_in}
-use Rattle.stream.specs.declared.front.Next.TheVariants.{Short, Ends, Piece}
-use Rattle.stream.specs.Stream.{wrong_start, next_of}
 use Rattle.stream.proofs.Starts.{word_front}
 
 -- no more bytes are held than the buffer has
@@ -50,21 +45,3 @@ module _ (held : ℕ) (piece chunk : List ℕ) (fits : held ≤ length piece) wh
   word_fed at l =
       let e : length (take held piece) + (at - held) ≡ at = omega (arith, length-take-le held piece fits) in
       sym (num_skip 4 (take held piece) chunk (at - held)) ∙ ap (num 4 (take held piece ++ chunk)) e
-
--- the sum need not fit
-pub short_left : (a b n : ℕ) → a < n → ltb b (n - a) ≡ ltb (a + b) n
-short_left a b n l = elim (dec_le n (a + b)) [
-  | yes k ↦ le-ltb b (n - a) (omega arith) ∙ sym (le-ltb (a + b) n k)
-  | no k ↦ lt-ltb b (n - a) (omega arith) ∙ sym (lt-ltb (a + b) n (omega arith))
-]
-
--- ---- what stands at their front, by the code's numbers
-
-pub next_head : (x : List ℕ) {m : ℕ} → length x ≡ m → ltb m 8 ≡ true → Short ≡ next_of x
-unfolding next_of
-next_head x {m} e h = rw (e, h)
-
-pub next_by : (x : List ℕ) {m t n : ℕ} → length x ≡ m → t ≡ u32_at x 0 → n ≡ u32_at x 4
-    → cond (ltb m 8) Short (cond (wrong_start t n) (Ends t) (cond (ltb m n) Short (Piece n))) ≡ next_of x
-unfolding next_of
-next_by x e f g = rw (e, ← f, ← g)

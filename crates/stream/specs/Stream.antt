@@ -22,6 +22,7 @@ use Rattle.stream.specs.declared.Said.{Said}
 use Rattle.stream.specs.declared.Said.TheVariants.{Nothing, Piece, Ended, Refused}
 use Rattle.stream.specs.declared.front.Next.{Next}
 use Rattle.stream.specs.declared.front.Next.TheVariants as next
+use Rattle.std.specs.Prelude.{Result}
 
 -- ---- what a stream keeps: its assembly, and of an unfinished piece the bytes held, at the front of a buffer of 4,096
 
@@ -58,7 +59,7 @@ next_of x =
 
 pub record Passing (A : Type 0) : Type 0 where
   pub assembly : A
-  pub received : Received
+  pub received : Result Received Refusal
   pub information : List ℕ
 
 pub record Door (A : Type 0) : Type 0 where

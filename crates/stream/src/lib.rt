@@ -14,7 +14,7 @@ use assembler::door::{ReceiptInPlace, Received, receive_in_place};
 use assembler::{Assembly, Progress, clear};
 use front::{Ready, prepare};
 use protocol::message_type::is_whole;
-use protocol::{Refusal, WRONG_LENGTH};
+use protocol::{Reason, Refusal};
 
 // What a stream keeps beside its assembly and its buffer: how many bytes of an unfinished piece the
 // buffer holds at its front, and whether a length field ended the stream.
@@ -31,12 +31,25 @@ pub struct Stream {
     pub piece: [u8; 4096],
 }
 
-// What a call answers: nothing while a piece is short; what a piece is that was taken; the refusal of a
-// length field, which ended the stream; or one that takes nothing.
+// Nothing is held.
+const IDLE: State = State {
+    held: 0,
+    ended: false,
+};
+
+// The refusal of a length field that ends a stream.
+const LENGTH_FAULT: Refusal = Refusal {
+    reason: Reason::WrongLength,
+    place: 4,
+};
+
+// What a call answers: nothing while a piece is short; what a piece is that was taken, or its refusal, after
+// which the stream goes on; the refusal of a length field, which ended the stream; or one that takes nothing.
+// Its refusals differ in what the stream does next, so they are no Result's.
 #[derive(Clone, Copy)]
 pub enum Said {
     Nothing,
-    Piece(Received),
+    Piece(Result<Received, Refusal>),
     Ended(Refusal),
     Refused(Refusal),
 }
@@ -59,14 +72,13 @@ pub struct FedInPlace {
 
 impl Stream {
     // What a reset leaves.
+    #[tactic(auto, unfolding(crate::specs::Stream::empty_stream))]
     pub fn empty() -> Stream
         ensures { result ≡ empty_stream }
     {
-        let assembly = Assembly::empty();
-        let state = idle();
         Stream {
-            assembly,
-            state,
+            assembly: Assembly::empty(),
+            state: IDLE,
             piece: [0; 4096],
         }
     }
@@ -77,24 +89,28 @@ pub fn feed(stream: Stream, chunk: &[u8], out: &mut [u8]) -> Fed
     ensures value { result ≡ by_value (feed_of stream chunk.now (length out.old)) }
     ensures out_after { out.new ≡ over (feed_of stream chunk.now (length out.old)).information out.old }
 {
-    let assembly = stream.assembly;
-    let mut bytes = assembly.bytes;
-    let progress = assembly.progress;
-    let state = stream.state;
+    let mut bytes = stream.assembly.bytes;
     let mut piece = stream.piece;
-    let fed = feed_in_place(progress, &mut bytes, state, &mut piece, chunk, out);
-    let progress = fed.progress;
-    let state = fed.state;
-    let said = fed.said;
-    let assembly = Assembly { progress, bytes };
+    let fed = feed_in_place(
+        stream.assembly.progress,
+        &mut bytes,
+        stream.state,
+        &mut piece,
+        chunk,
+        out,
+    );
+    let assembly = Assembly {
+        progress: fed.progress,
+        bytes,
+    };
     let stream = Stream {
         assembly,
-        state,
+        state: fed.state,
         piece,
     };
     Fed {
         stream,
-        said,
+        said: fed.said,
         taken: fed.taken,
     }
 }
@@ -155,32 +171,24 @@ fn feed_lent(
 }
 
 // A length field ended the stream; where it is no whole message's, the assembly is emptied.
+#[tactic(auto, using(assembler::proofs::Laws::cleared))]
 fn end(progress: Progress, bytes: &mut [u8; 4096], message_type: u32, taken: usize) -> FedInPlace
     ensures value { result ≡ ended_in_place (ended_on value_door (assembly_of progress bytes.old) message_type) taken }
     ensures bytes_after { bytes.new ≡ (ended_on value_door (assembly_of progress bytes.old) message_type).bytes }
 {
-    let state = State {
-        held: 0,
-        ended: true,
+    let progress = if is_whole(message_type) {
+        progress
+    } else {
+        clear(&mut bytes[..]);
+        Progress::none()
     };
-    let said = Said::Ended(Refusal {
-        number: WRONG_LENGTH,
-        place: 4,
-    });
-    if is_whole(message_type) {
-        return FedInPlace {
-            progress,
-            state,
-            said,
-            taken,
-        };
-    }
-    clear(&mut bytes[..]);
-    let progress = Progress::none();
     FedInPlace {
         progress,
-        state,
-        said,
+        state: State {
+            held: 0,
+            ended: true,
+        },
+        said: Said::Ended(LENGTH_FAULT),
         taken,
     }
 }
@@ -189,24 +197,10 @@ fn end(progress: Progress, bytes: &mut [u8; 4096], message_type: u32, taken: usi
 fn passed(receipt: ReceiptInPlace, taken: usize) -> FedInPlace
     ensures { result ≡ passed_in_place receipt taken }
 {
-    let progress = receipt.progress;
-    let received = receipt.received;
-    let state = idle();
-    let said = Said::Piece(received);
     FedInPlace {
-        progress,
-        state,
-        said,
+        progress: receipt.progress,
+        state: IDLE,
+        said: Said::Piece(receipt.received),
         taken,
-    }
-}
-
-// Nothing is held.
-fn idle() -> State
-    ensures { result ≡ empty_stream.state }
-{
-    State {
-        held: 0,
-        ended: false,
     }
 }

@@ -10,10 +10,8 @@ use lib.ListN.{length}
 use lib.Seq.{take_all, drop-length}
 use Rattle.wire.specs.Numbers.{u32_at}
 use Rattle.protocol.specs.MessageType.{is_whole}
-use Rattle.protocol.specs.Verdict.{judge}
+use Rattle.protocol.specs.Verdict.{judge, no_fault, Verdict}
 use Rattle.protocol.specs.declared.Refusal.{Refusal}
-use Rattle.protocol.specs.declared.Verdict.{Verdict}
-use Rattle.protocol.specs.declared.Verdict.TheVariants.{Fits, Fault}
 use Rattle.protocol.proofs.Verdicts.{fits_kept}
 use Rattle.message.specs.Message.{most_information, header_rules, header_of, header_by, fragment_by, fragment_of, is_whole_piece}
 use Rattle.message.specs.declared.MessageHeader.{MessageHeader}
@@ -44,6 +42,7 @@ use Rattle.stream.proofs.Split.{split_short, split_piece, split_enough}
 use Rattle.stream.proofs.Keeping.{nothing_held}
 use Rattle.stream_claims.specs.Pieces.{with_room, pieces_of, StreamDelivers}
 use Rattle.stream_claims.proofs.Received.{answers_are, after_pieces, split_append, pieces_both, both_room}
+use Rattle.std.specs.Prelude.{Ok, Err, Result}
 
 -- ---- a fragment whose header is accepted is a piece of a stream, and no whole message
 
@@ -51,14 +50,14 @@ record Fragmented (p : List ℕ) : Type 0 where
   sized : next_of p ≡ next.Piece (length p)
   apart : is_whole_piece p ≡ false
 
-field_right : (p : List ℕ) → judge (header_rules p) ≡ Fits → u32_at p 4 ≡ length p
+field_right : (p : List ℕ) → judge (header_rules p) ≡ no_fault → u32_at p 4 ≡ length p
 field_right p e = eqb-true _ _ (not-false _ (fits_kept (header_rules p) e).1.0)
 
 right_start : (t n : ℕ) → is_whole t ≡ false → 20 ≤ n → n ≤ 4096 → wrong_start t n ≡ false
 unfolding wrong_start
 right_start t n w l m = rw (w, le-ltb n 20 l, le-ltb 4096 n m)
 
-is_fragmented : (p : List ℕ) (h : FragmentHeader) → judge (header_rules p) ≡ Fits → Accepted p h → Fragmented p
+is_fragmented : (p : List ℕ) (h : FragmentHeader) → judge (header_rules p) ≡ no_fault → Accepted p h → Fragmented p
 unfolding is_whole_piece
 is_fragmented p h e A =
     let w = type_fragmented (u32_at p 0) A.known in
@@ -74,24 +73,24 @@ is_fragmented p h e A =
 
 -- ---- a piece that the assembler does not refuse is one
 
-abbrev refuses_it : Answer → Bool
-refuses_it (answer.Pending d) = false
-refuses_it (answer.Complete m n d) = false
-refuses_it (answer.Refused r) = true
+abbrev refuses_it : (Result Answer Refusal) → Bool
+refuses_it (Ok (answer.Pending d)) = false
+refuses_it (Ok (answer.Complete m n d)) = false
+refuses_it (Err r) = true
 
-header_fits : (p : List ℕ) {f : Fragment} → fragment_of p ≡ f → ((r : Refusal) → f ≡ fragment.Refused r → ⊥) → judge (header_rules p) ≡ Fits
+header_fits : (p : List ℕ) {f : (Result Fragment Refusal)} → fragment_of p ≡ f → ((r : Refusal) → f ≡ Err r → ⊥) → judge (header_rules p) ≡ no_fault
 unfolding fragment_of fragment_by header_of header_by
 header_fits p {f} e other = go (judge (header_rules p)) refl
   where
-    go : (v : Verdict) → judge (header_rules p) ≡ v → v ≡ Fits
-    go Fits ev = refl
-    go (Fault r) ev = absurd (other r (sym e ∙ (rw ev refl)))
+    go : (v : Verdict) → judge (header_rules p) ≡ v → v ≡ no_fault
+    go (Ok _) ev = refl
+    go (Err r) ev = absurd (other r (sym e ∙ (rw ev refl)))
 
 taken_is : (a : Assembly) (p : List ℕ) (room : ℕ) → refuses_it (step_of a p room).answer ≡ false → Fragmented p
 unfolding step_of step_by judged_of judged_by refused
 taken_is a p room = go (fragment_view p) refl
   where
-    go : {f : Fragment} → FragmentView p f → fragment_of p ≡ f → refuses_it (step_by a.bytes p room (judged_by a.progress (length p) f)).answer ≡ false → Fragmented p
+    go : {f : (Result Fragment Refusal)} → FragmentView p f → fragment_of p ≡ f → refuses_it (step_by a.bytes p room (judged_by a.progress (length p) f)).answer ≡ false → Fragmented p
     go (refuses r) e n = never (sym n)
     go (opens h f A z o) e n = is_fragmented p h (header_fits p e (λ r q. let w : ◌≡◌ {A = ℕ} 0 1 = cc in absurd (omega arith))) A
     go (follows h A z) e n = is_fragmented p h (header_fits p e (λ r q. let w : ◌≡◌ {A = ℕ} 0 1 = cc in absurd (omega arith))) A

@@ -12,8 +12,7 @@ use lib.ListN.{length, take, drop, replicate, length-drop}
 use lib.Seq.{length-take-le, take_all}
 use Rattle.wire.specs.Numbers.{u32_at}
 use Rattle.protocol.specs.MessageType.{is_whole}
-use Rattle.protocol.specs.Verdict.{judge}
-use Rattle.protocol.specs.declared.Verdict.TheVariants.{Fits}
+use Rattle.protocol.specs.Verdict.{judge, no_fault}
 use Rattle.protocol.proofs.Verdicts.{fits_kept, kept_fits}
 use Rattle.message.specs.Message.{most_information}
 use Rattle.assembler.specs.Assembly.{empty}
@@ -31,7 +30,7 @@ use Rattle.stream_claims.specs.Memory.{end_of, LeftByCalls, StreamTakenExactly}
 
 -- ---- what calls leave keeps the rules
 
-pub keeps : (m h : List ℕ) (e : Bool) → next_of h ≡ next.Short → (e ≡ true → h ≡ []) → u32_at m 0 ≡ length h → u32_at m 4 ≡ cond e 1 0 → take (u32_at m 0) (drop 8 m) ≡ h → judge (stream_rules m) ≡ Fits
+pub keeps : (m h : List ℕ) (e : Bool) → next_of h ≡ next.Short → (e ≡ true → h ≡ []) → u32_at m 0 ≡ length h → u32_at m 4 ≡ cond e 1 0 → take (u32_at m 0) (drop 8 m) ≡ h → judge (stream_rules m) ≡ no_fault
 unfolding ended_beside is_unfinished
 keeps m h e k none p q f =
     kept_fits (stream_rules m) (le-ltb 4095 (u32_at m 0) (omega (arith, p, short_bound h k)), (rw q (flag e), (rw (p, q) (beside e none), (rw (f, k) refl, tt))))
@@ -44,10 +43,10 @@ keeps m h e k none p q f =
     beside true g = rw (g refl) refl
     beside false g = refl
 
-left_taken : (m : List ℕ) → LeftByCalls m → judge (stream_rules m) ≡ Fits
+left_taken : (m : List ℕ) → LeftByCalls m → judge (stream_rules m) ≡ no_fault
 left_taken m L = go (calls_keep Assembly value_door empty L.bytes L.calls)
   where
-    go : Kept (end_of L.bytes L.calls) → judge (stream_rules m) ≡ Fits
+    go : Kept (end_of L.bytes L.calls) → judge (stream_rules m) ≡ no_fault
     go (short a h e k) =
         keeps m h false k (λ z. never z) (L.held ∙ ap (λ (s : StreamOn Assembly). s.state.held) e) (L.ended ∙ ap (λ (s : StreamOn Assembly). cond s.state.ended 1 0) e)
         (L.front ∙ ap (λ (s : StreamOn Assembly). held_in s.state s.piece) e ∙ held_back h)
@@ -80,7 +79,7 @@ is_short_says next.Short e = refl
 is_short_says (next.Ends t) e = let w : ◌≡◌ {A = ℕ} 0 1 = cc in absurd (omega arith)
 is_short_says (next.Piece n) e = let w : ◌≡◌ {A = ℕ} 0 1 = cc in absurd (omega arith)
 
-taken_left : (m : List ℕ) → stream_size ≤ length m → judge (stream_rules m) ≡ Fits → LeftByCalls m
+taken_left : (m : List ℕ) → stream_size ≤ length m → judge (stream_rules m) ≡ no_fault → LeftByCalls m
 unfolding ended_beside is_unfinished
 taken_left m own e =
     let k = fits_kept (stream_rules m) e in

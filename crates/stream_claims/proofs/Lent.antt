@@ -14,9 +14,7 @@ use lib.Seq.{take_at, take-append-le}
 use Rattle.wire.specs.Numbers.{num, u32_at, digits}
 use Rattle.wire.specs.Output.{over}
 use Rattle.wire.proofs.Laws.{num_digits, num_skip}
-use Rattle.protocol.specs.Verdict.{fault_if, first_of, judge_from, judge}
-use Rattle.protocol.specs.declared.Verdict.{Verdict}
-use Rattle.protocol.specs.declared.Verdict.TheVariants.{Fits, Fault}
+use Rattle.protocol.specs.Verdict.{fault_if, first_of, judge_from, judge, no_fault, Verdict}
 use Rattle.protocol.proofs.Verdicts.{fits_kept, kept_fits}
 use Rattle.message.specs.Message.{most_information, is_whole_piece}
 use Rattle.protocol.specs.MessageType.{is_whole}
@@ -33,8 +31,7 @@ use Rattle.stream.specs.declared.Said.{Said}
 use Rattle.stream.specs.declared.Said.TheVariants as said
 use Rattle.stream.specs.declared.front.Next.{Next}
 use Rattle.stream.specs.declared.front.Next.TheVariants as next
-use Rattle.stream.specs.Stream.{StreamOn, held_in, keeping, next_of, small, length_fault, untaken, feed_by, feed_on}
-use Rattle.stream.specs.Stream.{small as small_output}
+use Rattle.stream.specs.Stream.{StreamOn, held_in, keeping, next_of, small, length_fault, untaken, feed_by, feed_on, small as small_output}
 use Rattle.stream.specs.OneByOne.{Seen}
 use Rattle.stream.specs.Run.{is_answer, answers_of, Call, calls_of, Kept, short, ended}
 use Rattle.stream.proofs.Starts.{short_bound}
@@ -44,6 +41,7 @@ use Rattle.stream.proofs.Cut.{call_keeps, any_calls, calls_keep, small_output_fi
 use Rattle.lent_stream.specs.LentStream.{stream_size, piece_in, open_in, state_bytes, room_rules, reset_in, stream_rules, feed_rules, memory_door, FeedingIn, unfed_in, stream_bytes, stored_in, fed_in, feed_in}
 use Rattle.stream_claims.proofs.Left.{keeps}
 use Rattle.stream_claims.specs.Memory.{Lent, LentRun, answers_in, calls_in, reset_lent, stored_run, MemoryAnyCalls}
+use Rattle.std.specs.Prelude.{Ok, Err}
 
 -- ---- the stream that holds h, put into memory: what is read back
 
@@ -95,7 +93,7 @@ module _ (a h m : List ℕ) (e : Bool) (few : length h < 4096) where
 
 -- ---- one call
 
-small_verdict : (m : List ℕ) (lent room : ℕ) → room < most_information → judge (feed_rules m lent room) ≡ Fault small
+small_verdict : (m : List ℕ) (lent room : ℕ) → room < most_information → judge (feed_rules m lent room) ≡ Err small
 unfolding judge_from first_of fault_if
 small_verdict m lent room l = rw (lt-ltb room most_information l)
 
@@ -110,7 +108,7 @@ module _ (m a h : List ℕ) (e : Bool) (few : length h < 4096) where
 
 module _ (m a h c : List ℕ) (own : stream_size ≤ length m) (lent : assembly_size ≤ length a) (room : ℕ) where
   -- the memory of a stream that calls leave is taken
-  fits : (e : Bool) (few : length h < 4096) → (e ≡ true → h ≡ []) → next_of h ≡ next.Short → most_information ≤ room → judge (feed_rules (M a h m e few) (length a) room) ≡ Fits
+  fits : (e : Bool) (few : length h < 4096) → (e ≡ true → h ≡ []) → next_of h ≡ next.Short → most_information ≤ room → judge (feed_rules (M a h m e few) (length a) room) ≡ no_fault
   fits e few none k l =
       let x = M a h m e few in
       let p : u32_at x 0 ≡ length h = held_read a h m e few in
@@ -192,11 +190,11 @@ unfolding feed_assembly kept_of held
 fed_long a p room l = go (progress_verdict (progress_in a))
   where
     go : (v : Verdict) → length (judged_in v (progress_in a) a p room).memory ≡ length a
-    go Fits =
+    go (Ok _) =
         let x = step_of (assembly_of (progress_in a) (buffer_in a)) p room in
         let n = length_held x.assembly a (left_whole (assembly_of (progress_in a) (buffer_in a)) p room (length_buffer a l)) in
         over_length (progress_bytes x.assembly.progress ++ x.assembly.bytes) a (omega (arith, n, l))
-    go (Fault r) = cleared_long a l
+    go (Err r) = cleared_long a l
 
 door_long : (a p : List ℕ) (room : ℕ) → assembly_size ≤ length a → length (receive_in a p room).memory ≡ length a
 unfolding receive_in

@@ -11,9 +11,7 @@ use lib.Dec.{eqb}
 use lib.ListN.{length, take, drop}
 use lib.Seq.{take-take}
 use Rattle.wire.specs.Numbers.{u32_at}
-use Rattle.protocol.specs.Verdict.{judge}
-use Rattle.protocol.specs.declared.Verdict.{Verdict}
-use Rattle.protocol.specs.declared.Verdict.TheVariants.{Fits, Fault}
+use Rattle.protocol.specs.Verdict.{judge, no_fault, Verdict}
 use Rattle.message.specs.Message.{most_information}
 use Rattle.stream.specs.declared.front.Next.{Next}
 use Rattle.stream.specs.declared.front.Next.TheVariants as next
@@ -24,6 +22,7 @@ use Rattle.lent_stream.specs.LentStream.{piece_in, is_short, is_unfinished, feed
 use Rattle.lent_stream.proofs.Memory.{taken}
 use Rattle.stream_claims.specs.Memory.{is_refusal, MemoryProgresses}
 use Rattle.stream_claims.proofs.Left.{is_short_says}
+use Rattle.std.specs.Prelude.{Ok, Err}
 
 abbrev Moves : FeedingIn → Type 0
 Moves f = (0 < f.fed.taken) ⊎ (is_refusal f.fed.said ≡ true)
@@ -34,7 +33,7 @@ next_moves m a h piece c next.Short k e l = inl l
 next_moves m a h piece c (next.Ends t) k e l = inr refl
 next_moves m a h piece c (next.Piece n) k e l = inl (omega (arith, piece_past h c n k e))
 
-open_moves : (m a c : List ℕ) (room : ℕ) → judge (feed_rules m (length a) room) ≡ Fits → 0 < length c → Moves (fed_in m a c room)
+open_moves : (m a c : List ℕ) (room : ℕ) → judge (feed_rules m (length a) room) ≡ no_fault → 0 < length c → Moves (fed_in m a c room)
 unfolding fed_in feed_on is_unfinished
 open_moves m a c room e l =
     let T = taken m (length a) room e in
@@ -52,5 +51,5 @@ memory_progresses m a c room l = go (judge (feed_rules m (length a) room)) refl
     by_flag false x = x
 
     go : (v : Verdict) → judge (feed_rules m (length a) room) ≡ v → Moves (fed_by v m a c room)
-    go Fits e = by_flag (eqb (u32_at m 4) 1) (open_moves m a c room e l)
-    go (Fault r) e = inr refl
+    go (Ok _) e = by_flag (eqb (u32_at m 4) 1) (open_moves m a c room e l)
+    go (Err r) e = inr refl

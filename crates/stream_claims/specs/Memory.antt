@@ -4,8 +4,7 @@
 use Rattle.std.specs.Prelude.{ℕ, ◌≤◌, ◌<◌, ◌≡◌, ◌⊎◌, Bool, true, false, cond, List, [], ◌∷◌, ◌++◌, eqb, length, take, drop}
 use Rattle.wire.specs.Numbers.{u32_at}
 use Rattle.wire.specs.Output.{over}
-use Rattle.protocol.specs.Verdict.{judge}
-use Rattle.protocol.specs.declared.Verdict.TheVariants.{Fits}
+use Rattle.protocol.specs.Verdict.{judge, no_fault}
 use Rattle.assembler.specs.Assembly.{empty}
 use Rattle.lent.specs.LentAssembly.{assembly_size, emptied}
 use Rattle.lent_claims.specs.Given.{Bytes}
@@ -79,7 +78,7 @@ pub record LeftByCalls (m : List ℕ) : Type 0 where
   pub front : take (u32_at m 0) (drop 8 m) ≡ held_in (end_of bytes calls).state (end_of bytes calls).piece
 
 abbrev pub StreamTakenExactly : Type 0
-StreamTakenExactly = (m : List ℕ) → stream_size ≤ length m → (judge (stream_rules m) ≡ Fits → LeftByCalls m) × (LeftByCalls m → judge (stream_rules m) ≡ Fits)
+StreamTakenExactly = (m : List ℕ) → stream_size ≤ length m → (judge (stream_rules m) ≡ no_fault → LeftByCalls m) × (LeftByCalls m → judge (stream_rules m) ≡ no_fault)
 
 -- ---- no loop spins that is left where nothing is taken: given a byte or more, a call takes one at least, or refuses; whatever the two memories hold
 

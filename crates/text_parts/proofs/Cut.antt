@@ -9,10 +9,9 @@ use lib.Dec.{eqb}
 use lib.ListN.{length, take, drop}
 use lib.Seq.{take-take}
 use Rattle.ascii.specs.Ascii.{agreement, hex_run}
-use Rattle.text_parts.specs.Words.{WordRow, also_word, reach_from}
+use Rattle.text_parts.specs.Words.{Reached, WordRow, also_word, reach_from}
 use Rattle.text_parts.specs.Hex.{hex_digits_at}
-use Rattle.text_parts.specs.declared.Reached.{Reached}
-use Rattle.text_parts.specs.declared.Reached.TheVariants.{Word, Column}
+use Rattle.std.specs.Prelude.{Ok, Err}
 
 -- ---- a part of a front is the same part of the whole
 
@@ -34,19 +33,19 @@ agreement_cut at n s w h =
 
 -- ---- words of a text that is cut
 
-word_cut : (r : Reached) (at n : ℕ) (s : List ℕ) (w : WordRow) → at + length w.text ≤ n → also_word r (take n s) at w ≡ also_word r s at w
-word_cut (Word k) at n s w h = refl
-word_cut (Column c) at n s w h = rw (agreement_cut at n s w.text h)
+word_cut : {A : Type 0} (r : Reached A) (at n : ℕ) (s : List ℕ) (w : WordRow A) → at + length w.text ≤ n → also_word r (take n s) at w ≡ also_word r s at w
+word_cut (Ok k) at n s w h = refl
+word_cut (Err c) at n s w h = rw (agreement_cut at n s w.text h)
 
 -- each word of a table ends before n
-abbrev pub Short : ℕ → ℕ → List WordRow → Type 0
+abbrev pub Short : {A : Type 0} → ℕ → ℕ → List (WordRow A) → Type 0
 Short at n [] = Unit
 Short at n (w ∷ ws) = (at + length w.text ≤ n) × Short at n ws
 
-pub reach_cut : (ws : List WordRow) (r : Reached) (at n : ℕ) (s : List ℕ) → Short at n ws → reach_from r (take n s) at ws ≡ reach_from r s at ws
+pub reach_cut : {A : Type 0} (ws : List (WordRow A)) (r : Reached A) (at n : ℕ) (s : List ℕ) → Short at n ws → reach_from r (take n s) at ws ≡ reach_from r s at ws
 reach_cut [] r at n s h = refl
-reach_cut (w ∷ ws) r at n s h =
-    ap (λ (x : Reached). reach_from x (take n s) at ws) (word_cut r at n s w h.0) ∙ reach_cut ws (also_word r s at w) at n s h.1
+reach_cut {A} (w ∷ ws) r at n s h =
+    ap (λ (x : Reached A). reach_from x (take n s) at ws) (word_cut r at n s w h.0) ∙ reach_cut ws (also_word r s at w) at n s h.1
 
 -- ---- digits of a text that is cut
 

@@ -13,9 +13,9 @@ use Rattle.ascii.specs.Ascii.{line_feed, hex_run}
 use Rattle.ascii.proofs.Laws.{run_le}
 use Rattle.text_parts.specs.Parts.{whole, stops, further}
 use Rattle.text_parts.specs.Hex.{reach_hex_line, HexDigits, hex_digits_at, line_end_at, end_column}
-use Rattle.text_parts.specs.declared.LineEnd.TheVariants.{Digits, Column}
 use Rattle.text_parts.proofs.Hex.{hex_at, hex_found, hex_digits_le}
 use Rattle.text_parts.proofs.Cut.{hex_digits_cut}
+use Rattle.std.specs.Prelude.{Ok, Err}
 
 -- the digits lie in the text
 pub hex_digits_within : (most : ℕ) (s : List ℕ) (from : ℕ) → hex_digits_at most s from ≤ length s - from
@@ -46,7 +46,7 @@ end_column_lem most s from =
     go (eqb (n % 2) 1) (eqb (n % 2) 0) (eqb (get_or s (from + n) 0) 10) (ltb (from + n + 1) (length s)) n (odd_even n) ∙ sym (hex_at most from s n refl)
   where
     go : (a a' b c : Bool) (n : ℕ) → a' ≡ not a
-        → end_column (cond a (Column (from + n)) (cond b (cond c (Column (from + n + 1)) (Digits n)) (Column (from + n))))
+        → end_column (cond a (Err (from + n)) (cond b (cond c (Err (from + n + 1)) (Ok n)) (Err (from + n))))
         ≡ cond a' (cond b (cond c (stops (from + n + 1)) whole) (stops (from + n))) (stops (from + n))
     go true a' b c n p = rw p
     go false a' false c n p = rw p
@@ -55,7 +55,7 @@ end_column_lem most s from =
 
 -- ---- found where it stands, and only there
 
-pub end_found : (most : ℕ) (hex : List ℕ) → HexDigits most hex → (s : List ℕ) (from : ℕ) → drop from s ≡ hex ++ (line_feed ∷ []) → line_end_at most s from ≡ Digits (length hex)
+pub end_found : (most : ℕ) (hex : List ℕ) → HexDigits most hex → (s : List ℕ) (from : ℕ) → drop from s ≡ hex ++ (line_feed ∷ []) → line_end_at most s from ≡ Ok (length hex)
 unfolding line_end_at hex_digits_at
 end_found most hex p s from e =
     let d : hex_digits_at most s from ≡ length hex = ap (λ (u : List ℕ). hex_run (take most u)) e ∙ hex_found most hex p in
@@ -69,14 +69,14 @@ end_found most hex p s from e =
 abbrev pub Within : ℕ → List ℕ → ℕ → ℕ → Type 0
 Within most s from n = (from + n + 1 ≡ length s) × (n ≤ most)
 
-pub end_within : (most : ℕ) (s : List ℕ) (from n : ℕ) → line_end_at most s from ≡ Digits n → Within most s from n
+pub end_within : (most : ℕ) (s : List ℕ) (from n : ℕ) → line_end_at most s from ≡ Ok n → Within most s from n
 unfolding line_end_at
 end_within most s from n e =
     let k = hex_digits_at most s from in
     go (eqb (k % 2) 1) (eqb (get_or s (from + k) 0) line_feed) (ltb (from + k + 1) (length s)) refl refl e
   where
     go : (a b c : Bool) → eqb (get_or s (from + hex_digits_at most s from) 0) line_feed ≡ b → ltb (from + hex_digits_at most s from + 1) (length s) ≡ c
-        → cond a (Column (from + hex_digits_at most s from)) (cond b (cond c (Column (from + hex_digits_at most s from + 1)) (Digits (hex_digits_at most s from))) (Column (from + hex_digits_at most s from))) ≡ Digits n
+        → cond a (Err (from + hex_digits_at most s from)) (cond b (cond c (Err (from + hex_digits_at most s from + 1)) (Ok (hex_digits_at most s from))) (Err (from + hex_digits_at most s from))) ≡ Ok n
         → Within most s from n
     go true b c f h p = let z : ◌≡◌ {A = ℕ} 0 1 = cc in absurd (omega arith)
     go false false c f h p = let z : ◌≡◌ {A = ℕ} 0 1 = cc in absurd (omega arith)

@@ -3,11 +3,11 @@
 use mathlib.Core.Path.{◌≡◌, refl, ap}
 use mathlib.Core.Bool.{Bool, true, false, cond}
 use mathlib.Core.List.{List, [], ◌∷◌, ◌++◌}
-use Prim.Native.Nat.{ℕ, suc, ◌≤◌, ◌<◌}
+use Prim.Native.Nat.{ℕ, suc, ◌-◌, ◌≤◌, ◌<◌}
 use native.Mathlib.Omega.{arith}
 use borrow.Author.Tests.{ne_eqb, eqb-true, eqb-false}
 use lib.Dec.{eqb, eqb-suc-suc}
-use lib.ListN.{length, drop}
+use lib.ListN.{length, length-drop, drop}
 use Rattle.ascii.specs.Ascii.{agreement}
 use Rattle.ascii.proofs.Laws.{by_test}
 use Rattle.text_parts.specs.Parts.{Reach, stops, Right, further, next}
@@ -62,3 +62,7 @@ unfolding agreement
 agreement_in s [] = omega arith
 agreement_in [] (x ∷ w) = omega arith
 agreement_in (b ∷ s) (x ∷ w) = by_test (λ (k : ℕ). k ≤ suc (length s)) (eqb b x) (omega (arith, agreement_in s w)) (omega arith)
+
+-- and none goes past the text's end
+pub agreement_at : (s w : List ℕ) (at : ℕ) → agreement (drop at s) w ≤ length s - at
+agreement_at s w at = omega (arith, agreement_in (drop at s) w, length-drop at s)

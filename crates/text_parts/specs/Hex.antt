@@ -1,9 +1,7 @@
 -- The end of a line: an even number of hexadecimal digits, at most `most`, and a line feed; and how many of them stand at a place.
-use Rattle.std.specs.Prelude.{ℕ, ◌+◌, ◌%◌, ◌≤◌, ◌≡◌, false, cond, List, eqb, ltb, length, get_or, take, drop}
+use Rattle.std.specs.Prelude.{ℕ, ◌+◌, ◌%◌, ◌≤◌, ◌≡◌, false, cond, List, eqb, ltb, length, get_or, take, drop, Result, Ok, Err}
 use Rattle.ascii.specs.Ascii.{line_feed, is_hex, hex_run}
 use Rattle.text_parts.specs.Parts.{Part, run_of, one_of, All, Then, End, Reach, whole, stops, reach_then, reach_end}
-use Rattle.text_parts.specs.declared.LineEnd.{LineEnd}
-use Rattle.text_parts.specs.declared.LineEnd.TheVariants.{Digits, Column}
 
 abbrev pub byte : ℕ → Part
 byte x = one_of (λ b. eqb b x)
@@ -33,14 +31,18 @@ pub record HexDigits (most : ℕ) (hex : List ℕ) : Type 0 where
 unfoldable pub hex_digits_at : ℕ → List ℕ → ℕ → ℕ
 hex_digits_at most s from = hex_run (take most (drop from s))
 
+-- how many digits stand before a line's end, or a column
+abbrev pub LineEnd : Type 0
+LineEnd = Result ℕ ℕ
+
 -- the end of a line from a place of s on: its digits, or the first column where no good line goes on or ends
 unfoldable pub line_end_at : ℕ → List ℕ → ℕ → LineEnd
 line_end_at most s from =
-    cond (eqb (hex_digits_at most s from % 2) 1) (Column (from + hex_digits_at most s from))
+    cond (eqb (hex_digits_at most s from % 2) 1) (Err (from + hex_digits_at most s from))
     (cond (eqb (get_or s (from + hex_digits_at most s from) 0) line_feed)
-    (cond (ltb (from + hex_digits_at most s from + 1) (length s)) (Column (from + hex_digits_at most s from + 1)) (Digits (hex_digits_at most s from)))
-    (Column (from + hex_digits_at most s from)))
+    (cond (ltb (from + hex_digits_at most s from + 1) (length s)) (Err (from + hex_digits_at most s from + 1)) (Ok (hex_digits_at most s from)))
+    (Err (from + hex_digits_at most s from)))
 
 abbrev pub end_column : LineEnd → Reach
-end_column (Digits n) = whole
-end_column (Column c) = stops c
+end_column (Ok n) = whole
+end_column (Err c) = stops c

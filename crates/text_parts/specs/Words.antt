@@ -1,10 +1,12 @@
 -- A fixed word and what stands behind it, and words of a table.
 -- In this order: one word; a table of words, and how far a text goes by it.
-use Rattle.std.specs.Prelude.{ℕ, ◌+◌, max, ◌≡◌, cond, List, [], ◌∷◌, ◌++◌, eqb, length, drop}
+use Rattle.std.specs.Prelude.{ℕ, ◌+◌, max, ◌≡◌, cond, List, [], ◌∷◌, ◌++◌, eqb, length, drop, Result, Ok, Err}
 use Rattle.ascii.specs.Ascii.{agreement}
 use Rattle.text_parts.specs.Parts.{Reach, stops, further}
-use Rattle.text_parts.specs.declared.Reached.{Reached}
-use Rattle.text_parts.specs.declared.Reached.TheVariants.{Word, Column}
+
+-- what a word stands for, or a column
+abbrev pub Reached : Type 0 → Type 0
+Reached A = Result A ℕ
 
 -- ---- one word
 
@@ -16,21 +18,21 @@ Worded w T s = (t : List ℕ) × T t × (s ≡ w ++ t)
 abbrev pub worded : List ℕ → List ℕ → Reach → Reach
 worded w s r = cond (eqb (agreement s w) (length w)) (further (length w) r) (stops (agreement s w))
 
--- ---- a table: the words, and the number of each
+-- ---- a table: the words, and what each stands for
 
-pub record WordRow : Type 0 where
+pub record WordRow (A : Type 0) : Type 0 where
   pub text : List ℕ
-  pub number : ℕ
+  pub value : A
 
-abbrev pub word : List ℕ → ℕ → WordRow
-word t n = record { text = t; number = n }
+abbrev pub word : {A : Type 0} → List ℕ → A → WordRow A
+word t x = record { text = t; value = x }
 
 -- from a place of s on: a word of the table, or the first column where none goes on
-abbrev pub also_word : Reached → List ℕ → ℕ → WordRow → Reached
-also_word (Word k) s at w = Word k
-also_word (Column c) s at w =
-    cond (eqb (agreement (drop at s) w.text) (length w.text)) (Word w.number) (Column (max c (at + agreement (drop at s) w.text)))
+abbrev pub also_word : {A : Type 0} → Reached A → List ℕ → ℕ → WordRow A → Reached A
+also_word (Ok k) s at w = Ok k
+also_word (Err c) s at w =
+    cond (eqb (agreement (drop at s) w.text) (length w.text)) (Ok w.value) (Err (max c (at + agreement (drop at s) w.text)))
 
-abbrev pub reach_from : Reached → List ℕ → ℕ → List WordRow → Reached
+abbrev pub reach_from : {A : Type 0} → Reached A → List ℕ → ℕ → List (WordRow A) → Reached A
 reach_from r s at [] = r
 reach_from r s at (w ∷ ws) = reach_from (also_word r s at w) s at ws

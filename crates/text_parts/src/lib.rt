@@ -3,27 +3,13 @@
 // It knows no line's form.
 #![tactic(auto)]
 
-ghost use Rattle.std.specs.Prelude.{◌≡◌, ◌+◌, ◌-◌, ◌*◌, ◌≤◌, max};
+ghost use Rattle.std.specs.Prelude.{◌≡◌, ◌+◌, ◌-◌, ◌*◌, ◌≤◌, ◌<◌};
 ghost use Rattle.text_parts.specs.Words.{word, also_word};
 ghost use Rattle.text_parts.specs.Hex.{hex_digits_at, line_end_at};
-ghost use Rattle.text_parts.specs.Decimals.{takes_digit, number_of};
+ghost use Rattle.text_parts.specs.Decimals.{takes_digit, with_digit, number_of};
 
 use ascii::{agree_at, hex_run};
 use wire::byte_at;
-
-// The word of a table that stands in a text, or the column up to which one could.
-#[derive(Clone, Copy)]
-pub enum Reached {
-    Word(u32),
-    Column(usize),
-}
-
-// How many digits the end of a line has, or the first column where no good line goes on or ends.
-#[derive(Clone, Copy)]
-pub enum LineEnd {
-    Digits(usize),
-    Column(usize),
-}
 
 // The decimal digits that a text begins with, and their value.
 #[derive(Clone, Copy)]
@@ -32,102 +18,95 @@ pub struct Number {
     pub value: u32,
 }
 
-const LINE_FEED: u8 = 10;
-
 // What is reached so far, and one more word of the table, from a place of the text on.
-pub fn also_word(reached: Reached, s: &[u8], at: usize, text: &[u8], number: u32) -> Reached
-    ensures { result ≡ also_word reached s.now at (word text.now number) }
+#[tactic(auto, using(crate::proofs::Words::agreement_at))]
+pub fn also_word<T: Copy>(
+    reached: Result<T, usize>,
+    s: &[u8],
+    at: usize,
+    text: &[u8],
+    value: T,
+) -> Result<T, usize>
+    ensures { result ≡ also_word reached s.now at (word text.now value) }
 {
-    match reached {
-        Reached::Word(k) => Reached::Word(k),
-        Reached::Column(column) => {
-            let n = agree_at(s, at, text);
-            if n == text.len() {
-                return Reached::Word(number);
-            }
-            Reached::Column(larger(column, at + n))
-        }
+    let Err(column) = reached else {
+        return reached;
+    };
+    let n = agree_at(s, at, text);
+    if n == text.len() {
+        return Ok(value);
     }
+    Err(column.max(at + n))
 }
 
 // The end of a line from `from` on: an even number of hexadecimal digits, at most `most`, and the line
 // feed, with nothing behind it.
-#[tactic(auto, unfolding(crate::specs::Hex::line_end_at))]
-pub fn line_end_at(s: &[u8], from: usize, most: usize) -> LineEnd
+#[tactic(auto, using(crate::proofs::Ends::hex_digits_within, crate::proofs::Ends::feed_inside), unfolding(crate::specs::Hex::line_end_at))]
+pub fn line_end_at(s: &[u8], from: usize, most: usize) -> Result<usize, usize>
     ensures { result ≡ line_end_at most s.now from }
 {
     let digits = hex_digits_at(s, from, most);
     let end = from + digits;
     if digits % 2 == 1 {
-        return LineEnd::Column(end);
+        return Err(end);
     }
-    if byte_at(s, end) != LINE_FEED {
-        return LineEnd::Column(end);
+    if byte_at(s, end) != b'\n' {
+        return Err(end);
     }
     if end + 1 < s.len() {
-        return LineEnd::Column(end + 1);
+        return Err(end + 1);
     }
-    LineEnd::Digits(digits)
+    Ok(digits)
 }
 
 // How many hexadecimal digits stand from `from` on, at most `most`.
+#[tactic(auto, using(std::proofs::lemmas::List::take_min, wire::proofs::Laws::take_rest, crate::proofs::Ends::hex_digits_within), unfolding(crate::specs::Hex::hex_digits_at))]
 fn hex_digits_at(s: &[u8], from: usize, most: usize) -> usize
     ensures { result ≡ hex_digits_at most s.now from }
 {
-    if s.len() < from {
-        return 0;
+    match s.get(from..) {
+        Some(rest) => hex_run(&rest[..most.min(rest.len())]),
+        None => 0,
     }
-    let rest = &s[from..];
-    if rest.len() < most {
-        return hex_run(rest);
-    }
-    hex_run(&rest[..most])
 }
 
 // The digits that a text begins with, as long as they are at most `most` and their value is at most
 // `largest`.
+#[tactic(auto, using(crate::proofs::Parts::last_end), unfolding(crate::specs::Decimals::number_of))]
 pub fn number_of(s: &[u8], most: usize, largest: u32) -> Number
     ensures { result ≡ number_of most largest s.now }
 {
-    let mut value: u32 = 0;
-    let mut i: usize = 0;
-    while i < s.len() {
-        let b = s[i];
-        if !takes_digit(most, largest, i, value, b) {
-            return Number { digits: i, value };
+    let mut number = Number {
+        digits: 0,
+        value: 0,
+    };
+    for &b in s {
+        if !takes_digit(most, largest, number, b) {
+            return number;
         }
-        value = with_digit(value, b);
-        i += 1;
+        number = with_digit(number, b);
     }
-    Number { digits: i, value }
-}
-
-fn larger(a: usize, b: usize) -> usize
-    ensures { result ≡ max a b }
-{
-    if a < b { b } else { a }
+    number
 }
 
 // Whether b is one digit more of a number in bounds.
-fn takes_digit(most: usize, largest: u32, digits: usize, value: u32, b: u8) -> bool
-    ensures { result ≡ takes_digit most largest (record { digits = digits; value = value }) b }
+fn takes_digit(most: usize, largest: u32, number: Number, b: u8) -> bool
+    ensures { result ≡ takes_digit most largest number b }
 {
-    if b < 48 {
+    if !b.is_ascii_digit() || most <= number.digits {
         return false;
     }
-    if 57 < b {
-        return false;
-    }
-    if most <= digits {
-        return false;
-    }
-    let digit = (b - 48) as u64;
-    10 * (value as u64) + digit <= (largest as u64)
+    10 * u64::from(number.value) + u64::from(b - b'0') <= u64::from(largest)
 }
 
-fn with_digit(value: u32, b: u8) -> u32
-    requires { (48 ≤ b) × (10 * value + (b - 48) ≤ 4294967295) }
-    ensures { result ≡ 10 * value + (b - 48) }
+fn with_digit(number: Number, b: u8) -> Number
+    requires counted { number.digits < 18446744073709551615 }
+    requires decimal { 48 ≤ b }
+    requires bounded { 10 * number.value + (b - 48) ≤ 4294967295 }
+    ensures { result ≡ with_digit number b }
 {
-    10 * value + (b - 48) as u32
+    Number {
+        digits: number.digits + 1,
+        value: 10 * number.value + u32::from(b - b'0'),
+    }
 }

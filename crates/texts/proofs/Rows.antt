@@ -13,10 +13,9 @@ use lib.ListN.{length, get_or, drop, drop_of_length-le, length-append}
 use lib.Seq.{drop-cons, sets}
 use Rattle.wire.proofs.Laws.{sets_then, length_fitted}
 use Rattle.protocol.specs.Refusal.{refusal, wrong_size, offset_with_zero_size}
-use Rattle.protocol.specs.Verdict.{Rule, rule, Kept, judge, judge_from, first_of, fault_if}
+use Rattle.protocol.specs.Verdict.{Rule, rule, Kept, judge, judge_from, first_of, fault_if, no_fault, Verdict}
+use Rattle.protocol.specs.declared.Reason.{Reason}
 use Rattle.protocol.specs.declared.Refusal.{Refusal}
-use Rattle.protocol.specs.declared.Verdict.{Verdict}
-use Rattle.protocol.specs.declared.Verdict.TheVariants.{Fits, Fault}
 use Rattle.protocol.proofs.Verdicts.{left_fits, right_fits, last_fits, fault_stays}
 use Rattle.pairs.specs.declared.Range.{Range}
 use Rattle.pairs.specs.declared.PairKind.TheVariants.{Text}
@@ -26,6 +25,7 @@ use Rattle.pairs.specs.Pair.{range_at, unfit, offset_without_size, verdict_of, p
 use Rattle.texts.specs.Texts.{place_of, limit_of, ranges_at, all_shown, in_turn, each_verdict, texts_verdict, size_rules, laid, end_of, start_of, ranges_bytes, text_bytes, texts_bytes, sizes_of}
 use Rattle.texts.specs.Claims.{TextsFit, SizesFit, TextsShown, Adjoining, RangesOfWidth, first_inside, stray_rules, TextsExactly, StrictOfTexts}
 use Rattle.pairs.proofs.Laws.{size_said, said_size, fits_said, said_fits, absent_fits, strict_of_fitting, placed_fits, placed_inside, placed_sized, placed_shown, placed_back, range_back}
+use Rattle.std.specs.Prelude.{Err}
 
 -- ---- verdicts in turn
 
@@ -37,14 +37,14 @@ turn v (w ∷ ws) = refl
 -- ---- pairs fit exactly where each does, and sizes too
 
 module _ (z : ZeroSize) (fixed n : ℕ) where
-  pub texts_said : (rows : List (List ℕ)) (ps : List Range) → texts_verdict z fixed n rows ps ≡ Fits → TextsFit z fixed n rows ps
+  pub texts_said : (rows : List (List ℕ)) (ps : List Range) → texts_verdict z fixed n rows ps ≡ no_fault → TextsFit z fixed n rows ps
   texts_said [] ps e = tt
   texts_said (x ∷ xs) [] e = tt
   texts_said (x ∷ xs) (p ∷ ps) e =
       let k = sym (turn (verdict_of z Text fixed (limit_of x) (place_of x) n p) (each_verdict z fixed n xs ps)) ∙ e in
       (fits_said z Text fixed (limit_of x) (place_of x) n p (left_fits _ _ k), texts_said xs ps (right_fits _ _ k))
 
-  pub said_texts : (rows : List (List ℕ)) (ps : List Range) → TextsFit z fixed n rows ps → texts_verdict z fixed n rows ps ≡ Fits
+  pub said_texts : (rows : List (List ℕ)) (ps : List Range) → TextsFit z fixed n rows ps → texts_verdict z fixed n rows ps ≡ no_fault
   unfolding first_of
   said_texts [] ps f = refl
   said_texts (x ∷ xs) [] f = refl
@@ -57,10 +57,10 @@ texts_exactly z fixed n rows ps = (texts_said z fixed n rows ps, said_texts z fi
 -- ---- what the strict choice says of pairs that fit by default
 
 -- the first rule, then the others
-rule_turn : (b : Bool) (number place : ℕ) (rs : List Rule) → judge (rule b number place ∷ rs) ≡ first_of (judge (rule b number place ∷ [])) (judge rs)
+rule_turn : (b : Bool) (reason : Reason) (place : ℕ) (rs : List Rule) → judge (rule b reason place ∷ rs) ≡ first_of (judge (rule b reason place ∷ [])) (judge rs)
 unfolding judge_from fault_if first_of
-rule_turn true number place rs = fault_stays (refusal number place) rs
-rule_turn false number place rs = refl
+rule_turn true reason place rs = fault_stays (refusal reason place) rs
+rule_turn false reason place rs = refl
 
 pub strict_of_texts : StrictOfTexts
 unfolding judge_from
@@ -94,14 +94,18 @@ module _ (z : ZeroSize) (fixed : ℕ) (s : List ℕ) where
   verdict_from rows i = texts_verdict z fixed (length s) (drop i rows) (ranges_at s (drop i rows))
 
   -- a row that fits is passed
-  pub row_passed : (rows : List (List ℕ)) (i : ℕ) → i < length rows → verdict_at (get_or rows i []) ≡ Fits → verdict_from rows i ≡ verdict_from rows (i + 1)
+  pub row_passed : (rows : List (List ℕ)) (i : ℕ) → i < length rows → verdict_at (get_or rows i []) ≡ no_fault → verdict_from rows i ≡ verdict_from rows (i + 1)
   unfolding first_of
   row_passed rows i h e = rw (drop-cons rows i [] h, add-one i, turn, e)
 
   -- one that does not decides
-  pub row_decides : (rows : List (List ℕ)) (i : ℕ) {r : Refusal} → i < length rows → verdict_at (get_or rows i []) ≡ Fault r → verdict_from rows i ≡ Fault r
+  pub row_decides : (rows : List (List ℕ)) (i : ℕ) {r : Refusal} → i < length rows → verdict_at (get_or rows i []) ≡ Err r → verdict_from rows i ≡ Err r
   unfolding first_of
   row_decides rows i h e = rw (drop-cons rows i [] h, turn, e)
+
+  -- where the rows end, nothing is left to decide
+  pub rows_end : (rows : List (List ℕ)) (i : ℕ) → length rows ≤ i → verdict_from rows i ≡ no_fault
+  rows_end rows i h = rw (drop_of_length-le rows h)
 
 -- the pair of one row
 pub text_at : (s : List ℕ) (rows : List (List ℕ)) (i : ℕ) (d : Range) → i < length rows → get_or (all_shown (ranges_at s rows)) i d ≡ shown_at s (place_of (get_or rows i []))
@@ -120,17 +124,33 @@ text_past s (x ∷ xs) (suc i) d h = text_past s xs i d (omega arith)
 abbrev pub sizes_from : List (List ℕ) → List ℕ → ℕ → List Rule
 sizes_from rows ks i = size_rules (drop i rows) (drop i ks)
 
-pub size_passed : (rows : List (List ℕ)) (ks : List ℕ) (i : ℕ) (v : Verdict) → i < length rows → i < length ks
-    → judge_from v (sizes_from rows ks i)
-    ≡ judge_from (first_of v (fault_if (unfit Text (limit_of (get_or rows i [])) (get_or ks i 0)) wrong_size (place_of (get_or rows i [])))) (sizes_from rows ks (i + 1))
+-- the rule on one size
+abbrev size_verdict : List (List ℕ) → List ℕ → ℕ → Verdict
+size_verdict rows ks i = fault_if (unfit Text (limit_of (get_or rows i [])) (get_or ks i 0)) wrong_size (place_of (get_or rows i []))
+
+size_next : (rows : List (List ℕ)) (ks : List ℕ) (i : ℕ) → i < length rows → i < length ks
+    → judge (sizes_from rows ks i) ≡ judge_from (first_of no_fault (size_verdict rows ks i)) (sizes_from rows ks (i + 1))
 unfolding judge_from
-size_passed rows ks i v h k = rw (drop-cons rows i [] h, drop-cons ks i 0 k, add-one i)
+size_next rows ks i h k = rw (drop-cons rows i [] h, drop-cons ks i 0 k, add-one i)
+
+-- a size that fits is passed
+pub size_passed : (rows : List (List ℕ)) (ks : List ℕ) (i : ℕ) → i < length rows → i < length ks → size_verdict rows ks i ≡ no_fault
+    → judge (sizes_from rows ks i) ≡ judge (sizes_from rows ks (i + 1))
+unfolding first_of
+size_passed rows ks i h k e = size_next rows ks i h k ∙ ap (λ v. judge_from (first_of no_fault v) (sizes_from rows ks (i + 1))) e
+
+-- one that does not decides
+pub size_decides : (rows : List (List ℕ)) (ks : List ℕ) (i : ℕ) {r : Refusal} → i < length rows → i < length ks → size_verdict rows ks i ≡ Err r
+    → judge (sizes_from rows ks i) ≡ Err r
+unfolding first_of
+size_decides rows ks i {r} h k e =
+    size_next rows ks i h k ∙ ap (λ v. judge_from (first_of no_fault v) (sizes_from rows ks (i + 1))) e ∙ fault_stays r (sizes_from rows ks (i + 1))
 
 no_sizes : (rows : List (List ℕ)) → size_rules rows [] ≡ []
 no_sizes [] = refl
 no_sizes (x ∷ xs) = refl
 
-pub sizes_end : (rows : List (List ℕ)) (ks : List ℕ) (i : ℕ) → min (length rows) (length ks) ≤ i → sizes_from rows ks i ≡ []
+sizes_end : (rows : List (List ℕ)) (ks : List ℕ) (i : ℕ) → min (length rows) (length ks) ≤ i → sizes_from rows ks i ≡ []
 sizes_end rows ks i h = by_rows (ltb i (length rows)) refl
   where
     by_rows : (b : Bool) → ltb i (length rows) ≡ b → sizes_from rows ks i ≡ []
@@ -139,6 +159,11 @@ sizes_end rows ks i h = by_rows (ltb i (length rows)) refl
         let k : length ks ≤ i = omega arith in
         rw (drop_of_length-le ks k) (no_sizes (drop i rows))
     by_rows false e = rw (drop_of_length-le rows (ltb-false i (length rows) e))
+
+-- where the rows or the sizes end, nothing is left to decide
+pub sizes_ended : (rows : List (List ℕ)) (ks : List ℕ) (i : ℕ) → min (length rows) (length ks) ≤ i → judge (sizes_from rows ks i) ≡ no_fault
+unfolding judge_from
+sizes_ended rows ks i h = rw (sizes_end rows ks i h)
 
 -- ---- where texts go
 
@@ -177,7 +202,7 @@ end_within base most (x ∷ xs) (k ∷ ks) f l h =
 
 -- are accepted behind the fixed part
 pub laid_fit : (z : ZeroSize) (fixed n base : ℕ) (rows : List (List ℕ)) (ks : List ℕ) → Kept (size_rules rows ks) → fixed ≤ base → base % 4 ≡ 0 → end_of base ks ≤ n
-    → texts_verdict z fixed n rows (laid base ks) ≡ Fits
+    → texts_verdict z fixed n rows (laid base ks) ≡ no_fault
 unfolding first_of
 laid_fit z fixed n base [] ks k f a e = refl
 laid_fit z fixed n base (x ∷ xs) [] k f a e = refl
@@ -193,7 +218,7 @@ laid_shown base (k ∷ ks) = λ i. placed_shown base k i ∷ laid_shown (base + 
 
 -- and the first of them is refused as one in the fixed part where that reaches further
 pub laid_inside : (z : ZeroSize) (fixed n base : ℕ) (r : Refusal) (rows : List (List ℕ)) (ks : List ℕ) → Kept (size_rules rows ks) → length ks ≤ length rows → base < fixed
-    → (end_of base ks ≡ base → ⊥) → texts_verdict z fixed n rows (laid base ks) ≡ Fault (first_inside r rows ks)
+    → (end_of base ks ≡ base → ⊥) → texts_verdict z fixed n rows (laid base ks) ≡ Err (first_inside r rows ks)
 unfolding first_of
 laid_inside z fixed n base r rows [] k l b h = absurd (h refl)
 laid_inside z fixed n base r [] (m ∷ ks) k l b h = absurd (omega arith)

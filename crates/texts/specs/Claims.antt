@@ -1,9 +1,8 @@
 -- What is claimed of the texts of a record, row by row.
 use Rattle.std.specs.Prelude.{ℕ, ◌+◌, ◌≡◌, ◌↔◌, cond, List, [], ◌∷◌, eqb}
 use Rattle.protocol.specs.Refusal.{refusal, offset_in_fixed_part, offset_with_zero_size}
-use Rattle.protocol.specs.Verdict.{Rule, rule, judge}
+use Rattle.protocol.specs.Verdict.{Rule, rule, judge, no_fault}
 use Rattle.protocol.specs.declared.Refusal.{Refusal}
-use Rattle.protocol.specs.declared.Verdict.TheVariants.{Fits}
 use Rattle.pairs.specs.declared.Range.{Range}
 use Rattle.pairs.specs.declared.PairKind.TheVariants.{Text}
 use Rattle.pairs.specs.declared.ZeroSize.{ZeroSize}
@@ -55,9 +54,9 @@ first_inside r (x ∷ xs) (k ∷ ks) = cond (eqb k 0) (first_inside r xs ks) (re
 
 abbrev pub TextsExactly : Type 0
 TextsExactly =
-    (z : ZeroSize) (fixed n : ℕ) (rows : List (List ℕ)) (ps : List Range) → (texts_verdict z fixed n rows ps ≡ Fits) ↔ TextsFit z fixed n rows ps
+    (z : ZeroSize) (fixed n : ℕ) (rows : List (List ℕ)) (ps : List Range) → (texts_verdict z fixed n rows ps ≡ no_fault) ↔ TextsFit z fixed n rows ps
 
 -- of pairs that fit by default the strict choice refuses the first that has an offset beside size 0, and nothing else
 abbrev pub StrictOfTexts : Type 0
-StrictOfTexts = (fixed n : ℕ) (rows : List (List ℕ)) (ps : List Range) → texts_verdict Absent fixed n rows ps ≡ Fits
+StrictOfTexts = (fixed n : ℕ) (rows : List (List ℕ)) (ps : List Range) → texts_verdict Absent fixed n rows ps ≡ no_fault
     → texts_verdict Strict fixed n rows ps ≡ judge (stray_rules rows ps)

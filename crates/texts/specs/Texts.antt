@@ -4,9 +4,7 @@
 use Rattle.std.specs.Prelude.{ℕ, ◌+◌, List, [], ◌∷◌, ◌++◌, length, get_or, take}
 use Rattle.wire.specs.Output.{fitted}
 use Rattle.protocol.specs.Refusal.{wrong_size}
-use Rattle.protocol.specs.Verdict.{Rule, rule, first_of}
-use Rattle.protocol.specs.declared.Verdict.{Verdict}
-use Rattle.protocol.specs.declared.Verdict.TheVariants.{Fits}
+use Rattle.protocol.specs.Verdict.{Rule, rule, first_of, no_fault, Verdict}
 use Rattle.pairs.specs.Pair.{range_at, unfit, verdict_of, padded, placed, as_shown, range_bytes}
 use Rattle.pairs.specs.declared.Range.{Range}
 use Rattle.pairs.specs.declared.ZeroSize.{ZeroSize}
@@ -41,7 +39,7 @@ first_from v [] = v
 first_from v (w ∷ ws) = first_of v (first_from w ws)
 
 abbrev pub in_turn : List Verdict → Verdict
-in_turn [] = Fits
+in_turn [] = no_fault
 in_turn (v ∷ vs) = first_from v vs
 
 -- each pair by its own row, in n bytes, by the reader's choice

@@ -2,7 +2,7 @@
 // its limit; rows stand in field order. What stands in a text is not judged.
 #![tactic(auto)]
 
-ghost use Rattle.std.specs.Prelude.{◌≡◌, ◌≤◌, min, length, get_or};
+ghost use Rattle.std.specs.Prelude.{◌≡◌, ◌≤◌, length, get_or};
 ghost use Rattle.std.proofs.lemmas.List.Edits.{sets};
 ghost use Rattle.wire.specs.Output.{fitted};
 ghost use Rattle.protocol.specs.Verdict.{judge as judged};
@@ -13,33 +13,29 @@ use pairs::{
     PairKind, Range, ZeroSize, is_unfit, judge, padded_size, place_at, put_range, range_at,
     shown_at,
 };
-use protocol::{Verdict, WRONG_SIZE, also};
+use protocol::{Reason, Verdict, refuse_if};
+use std::cmp::min;
 use wire::put_run;
 
 // The verdict on the pairs of a payload with a fixed part.
+#[tactic(auto, using(crate::proofs::Rows::row_passed, crate::proofs::Rows::row_decides, crate::proofs::Rows::rows_end))]
 pub fn judge_texts(zero_size: ZeroSize, payload: &[u8], fixed: u16, rows: &[[u32; 2]]) -> Verdict
     ensures { result ≡ texts_verdict zero_size fixed (length payload.now) rows.now (ranges_at payload.now rows.now) }
 {
-    let mut i: usize = 0;
-    while i < rows.len() {
+    for i in 0..rows.len() {
         let place = wide(rows[i][0]);
         let pair = range_at(payload, place);
-        let limit = rows[i][1];
-        let verdict = judge(
+        judge(
             zero_size,
             PairKind::Text,
             fixed as u32,
-            limit,
+            rows[i][1],
             place,
             payload.len(),
             pair,
-        );
-        if let Verdict::Fault(refusal) = verdict {
-            return Verdict::Fault(refusal);
-        }
-        i += 1;
+        )?;
     }
-    Verdict::Fits
+    Ok(())
 }
 
 // The range of a text by its number, in a payload whose pairs were judged before; absent without a
@@ -58,31 +54,26 @@ pub fn judged_text(payload: &[u8], rows: &[[u32; 2]], number: u8) -> Range
 }
 
 // The verdict on the sizes of texts to be written, one for each row.
+#[tactic(auto, using(crate::proofs::Rows::size_passed, crate::proofs::Rows::size_decides, crate::proofs::Rows::sizes_ended))]
 pub fn judge_sizes(rows: &[[u32; 2]], sizes: &[usize]) -> Verdict
     ensures { result ≡ judged (size_rules rows.now sizes.now) }
 {
-    let n = smaller(rows.len(), sizes.len());
-    let mut verdict = Verdict::Fits;
-    let mut i: usize = 0;
-    while i < n {
-        let place = wide(rows[i][0]);
+    for i in 0..min(rows.len(), sizes.len()) {
         let unfit = is_unfit(PairKind::Text, rows[i][1], sizes[i]);
-        verdict = also(verdict, unfit, WRONG_SIZE, place);
-        i += 1;
+        refuse_if(unfit, Reason::WrongSize, wide(rows[i][0]))?;
     }
-    verdict
+    Ok(())
 }
 
 // Where a text goes by its number: behind the fixed part and the texts before it. Where they all
 // end, for the number past the last.
+#[tactic(auto, using(crate::proofs::Rows::start_next))]
 pub fn start_of(fixed: u16, sizes: &[u16], number: u8) -> u32
     ensures { result ≡ start_of fixed sizes.now number }
 {
     let mut base = fixed as u32;
-    let mut i: u8 = 0;
-    while i < number {
+    for i in 0..number {
         base += padded_size(size_at(sizes, i)) as u32;
-        i += 1;
     }
     base
 }
@@ -115,10 +106,4 @@ fn wide(x: u32) -> usize
     ensures { result ≡ x }
 {
     x as usize
-}
-
-fn smaller(a: usize, b: usize) -> usize
-    ensures { result ≡ min a b }
-{
-    if a < b { a } else { b }
 }

@@ -18,29 +18,29 @@ use Rattle.protocol.specs.declared.service.ServiceId.{ServiceId}
 use Rattle.assembler.specs.declared.door.Received.{Received}
 use Rattle.assembler.specs.declared.door.Received.TheVariants as received
 use Rattle.payload.specs.Payload.{shown_of}
-use Rattle.payload.specs.declared.Shown.{Shown}
-use Rattle.payload.specs.declared.Shown.TheVariants as shown
 use Rattle.pairs.specs.declared.ZeroSize.TheVariants.{Strict}
 use Rattle.device_services.specs.DeviceServices.{offset_of, cid_count_at, element_at, cid_at, read_with as services_read}
-use Rattle.device_services.specs.declared.DeviceServicesRead.{DeviceServicesRead}
-use Rattle.device_services.specs.declared.DeviceServicesRead.TheVariants.{Info, Refused}
 use Rattle.rows.specs.Rows.{header, field, row, indexed_row, refused_line}
 use Rattle.rows.proofs.Lengths.{refused_le}
 use Rattle.payload_rows.proofs.Lengths.{packet_le, version_le, registration_le, set_pin_le, pin_info_le}
 use Rattle.entry_rows.specs.Services.{id_row, cid_row, cid_rows, element_rows, elements_rows, services_text}
 use Rattle.entry_rows.proofs.Services.{few_cids}
 use Rattle.entry_rows.proofs.Lengths.{signal_le, services_le}
-use Rattle.request_line.specs.declared.ListingKind.{ListingKind}
-use Rattle.request_line.specs.declared.ListingKind.TheVariants as listing
+use Rattle.protocol.specs.declared.service.Kind.{Kind}
+use Rattle.protocol.specs.declared.service.Kind.TheVariants as kinds
 use Rattle.listing.specs.Listing.{payload_text}
-use Rattle.trace_step.specs.declared.Replayed.{Replayed}
-use Rattle.trace_step.specs.declared.Replayed.TheVariants.{BadLine, Piece}
+use Rattle.trace_step.specs.declared.Piece.{Piece}
 use Rattle.trace.specs.Marked.{marked_from, marked, header_in, without_header}
-use Rattle.trace.specs.Heads.{listing_kind, head_of}
+use Rattle.trace.specs.Heads.{head_of}
 use Rattle.trace.specs.Replay.{mark_of, fields_by, fields_in, fields_of, answer_text}
 use Rattle.trace.specs.Claims.{LineFits}
 use Rattle.trace.proofs.Laws.{mark_le}
 use Rattle.trace.proofs.Lengths.{head_le}
+use Rattle.std.specs.Prelude.{Ok, Err, Some, None}
+use Rattle.device_services.specs.DeviceServices.{DeviceServicesRead}
+use Rattle.payload.specs.Payload.{Shown}
+use Rattle.std.specs.Prelude.{Result}
+use Rattle.protocol.specs.declared.Refusal.{Refusal}
 
 -- ---- line feeds
 
@@ -167,8 +167,8 @@ unfolding services_text elements_rows feeds feed_of
 services_feeds s = go (services_read Strict s) refl
   where
     go : (r : DeviceServicesRead) → services_read Strict s ≡ r → feeds (services_text s r) ≤ 4300
-    go (Refused r) e = omega (arith, feeds_le (refused_line r), refused_le r)
-    go (Info p) e =
+    go (Err r) e = omega (arith, feeds_le (refused_line r), refused_le r)
+    go (Ok p) e =
         let k = few_cids Strict s e in
         let n = p.device_services_count in
         simp feeds_append
@@ -189,36 +189,36 @@ few s a b h k l mark m =
 short : (s : List ℕ) → length s ≤ 10000 → Fits s
 short s h = few s 10000 10000 h (omega (arith, feeds_le s)) (omega arith)
 
-payload_fits : (kind : ListingKind) (v : Version) (s : List ℕ) → Fits (payload_text kind v s)
+payload_fits : (kind : Kind) (v : Version) (s : List ℕ) → Fits (payload_text kind v s)
 unfolding payload_text
-payload_fits listing.PacketService v s = short _ (omega (arith, packet_le v s))
-payload_fits listing.Version v s = short _ (omega (arith, version_le s))
-payload_fits listing.Registration v s = short _ (omega (arith, registration_le v Strict s))
-payload_fits listing.SignalState v s = short _ (signal_le v Strict s)
-payload_fits listing.DeviceServices v s = few _ 524288 4300 (services_le Strict s) (services_feeds s) (omega arith)
-payload_fits listing.SetPin v s = short _ (omega (arith, set_pin_le Strict s))
-payload_fits listing.PinInfo v s = short _ (omega (arith, pin_info_le s))
+payload_fits kinds.PacketService v s = short _ (omega (arith, packet_le v s))
+payload_fits kinds.VersionInfo v s = short _ (omega (arith, version_le s))
+payload_fits kinds.RegisterState v s = short _ (omega (arith, registration_le v Strict s))
+payload_fits kinds.SignalState v s = short _ (signal_le v Strict s)
+payload_fits kinds.DeviceServices v s = few _ 524288 4300 (services_le Strict s) (services_feeds s) (omega arith)
+payload_fits kinds.SetPin v s = short _ (omega (arith, set_pin_le Strict s))
+payload_fits kinds.PinInfo v s = short _ (omega (arith, pin_info_le s))
 
 none_fits : Fits []
 none_fits = short [] (omega arith)
 
 shown_fits : (v : Version) (information : List ℕ) (x : Shown) → Fits (fields_by v information x)
 unfolding fields_by
-shown_fits v information (shown.Payload kind) = payload_fits (listing_kind kind) v information
-shown_fits v information shown.NoPayload = none_fits
-shown_fits v information (shown.Refused r) = none_fits
+shown_fits v information (Ok (Some kind)) = payload_fits kind v information
+shown_fits v information (Ok None) = none_fits
+shown_fits v information (Err r) = none_fits
 
-received_fits : (v : Version) (information : List ℕ) (x : Received) → Fits (fields_in v information x)
+received_fits : (v : Version) (information : List ℕ) (x : (Result Received Refusal)) → Fits (fields_in v information x)
 unfolding fields_in
-received_fits v information (received.Complete m n d) = shown_fits v information (shown_of m)
-received_fits v information (received.Whole t k w) = none_fits
-received_fits v information (received.Pending t k d) = none_fits
-received_fits v information (received.Refused r) = none_fits
+received_fits v information (Ok (received.Complete m n d)) = shown_fits v information (shown_of m)
+received_fits v information (Ok (received.Whole t k w)) = none_fits
+received_fits v information (Ok (received.Pending t k d)) = none_fits
+received_fits v information (Err r) = none_fits
 
-fields_fit : (x : Replayed) (information : List ℕ) → Fits (fields_of x information)
+fields_fit : (x : (Result Piece Refusal)) (information : List ℕ) → Fits (fields_of x information)
 unfolding fields_of
-fields_fit (BadLine r) information = none_fits
-fields_fit (Piece e s v w x) information = received_fits v information x
+fields_fit (Err r) information = none_fits
+fields_fit (Ok piece) information = received_fits piece.version information piece.received
 
 pub line_fits : LineFits
 unfolding answer_text Fits

@@ -17,8 +17,7 @@ use Rattle.rows.proofs.Laws.{put_then, put_kept, put_over}
 use Rattle.rows.proofs.Lengths.{field_le}
 use Rattle.trace_line.specs.declared.Sender.{Sender}
 use Rattle.trace_line.specs.declared.Sender.TheVariants.{Host, Device}
-use Rattle.trace_step.specs.declared.Replayed.{Replayed}
-use Rattle.trace_step.specs.declared.Replayed.TheVariants.{BadLine, Piece}
+use Rattle.trace_step.specs.declared.Piece.{Piece}
 use Rattle.protocol.specs.declared.Version.{Version}
 use Rattle.assembler.specs.declared.door.Received.{Received}
 use Rattle.assembler.specs.declared.door.Received.TheVariants as received
@@ -27,6 +26,8 @@ use Rattle.trace_step.specs.Step.{Fronted, front_for, Held, Holds}
 use Rattle.trace.specs.Marked.{marked_from, marked, without_header}
 use Rattle.trace.specs.Heads.{head_of}
 use Rattle.trace.specs.Replay.{sender_text, mark_of, fields_by, fields_in, fields_of, answer_text, FrontedIn, front_in}
+use Rattle.std.specs.Prelude.{Ok, Err, Result}
+use Rattle.protocol.specs.declared.Refusal.{Refusal}
 
 -- ---- a row and the rows behind it
 
@@ -66,10 +67,10 @@ sender_le : (sender : Sender) → length (sender_text sender) ≤ 3
 sender_le Host = omega arith
 sender_le Device = omega arith
 
-pub mark_le : (number : ℕ) (x : Replayed) → length (mark_of number x) ≤ 48
+pub mark_le : (number : ℕ) (x : (Result Piece Refusal)) → length (mark_of number x) ≤ 48
 unfolding mark_of
-mark_le number (BadLine r) = simp length-append (omega (arith, length_decimal 20 number))
-mark_le number (Piece elapsed sender version whole x) = simp length-append (omega (arith, length_decimal 20 number, field_le elapsed, sender_le sender))
+mark_le number (Err r) = simp length-append (omega (arith, length_decimal 20 number))
+mark_le number (Ok piece) = simp length-append (omega (arith, length_decimal 20 number, field_le piece.elapsed, sender_le piece.sender))
 
 -- ---- a word that a text agrees with is no longer than the text
 
@@ -108,29 +109,29 @@ stored {s} {u} {t} {x} {y} {n} {m} p q h =
 
 -- ---- the payload at the front of the bytes that a step gave is the information of the message
 
-held_front : (x : Received) (information out : List ℕ) → Held x information out → Fronted x out
-held_front (received.Complete m n d) information out h = h.0
-held_front (received.Whole t k w) information out h = tt
-held_front (received.Pending t k d) information out h = tt
-held_front (received.Refused r) information out h = tt
+held_front : (x : (Result Received Refusal)) (information out : List ℕ) → Held x information out → Fronted x out
+held_front (Ok (received.Complete m n d)) information out h = h.0
+held_front (Ok (received.Whole t k w)) information out h = tt
+held_front (Ok (received.Pending t k d)) information out h = tt
+held_front (Err r) information out h = tt
 
-pub holds_front : (x : Replayed) (information out : List ℕ) → Holds x information out → FrontedIn x out
-holds_front (BadLine r) information out h = tt
-holds_front (Piece e s v w x) information out h = held_front x information out h
+pub holds_front : (x : (Result Piece Refusal)) (information out : List ℕ) → Holds x information out → FrontedIn x out
+holds_front (Err r) information out h = tt
+holds_front (Ok piece) information out h = held_front piece.received information out h
 
-held_fields : (v : Version) (x : Received) (information out : List ℕ) → Held x information out → fields_in v (front_for x out) x ≡ fields_in v information x
+held_fields : (v : Version) (x : (Result Received Refusal)) (information out : List ℕ) → Held x information out → fields_in v (front_for x out) x ≡ fields_in v information x
 unfolding fields_in
-held_fields v (received.Complete m n d) information out h = ap (λ (s : List ℕ). fields_by v s (shown_of m)) h.1
-held_fields v (received.Whole t k w) information out h = refl
-held_fields v (received.Pending t k d) information out h = refl
-held_fields v (received.Refused r) information out h = refl
+held_fields v (Ok (received.Complete m n d)) information out h = ap (λ (s : List ℕ). fields_by v s (shown_of m)) h.1
+held_fields v (Ok (received.Whole t k w)) information out h = refl
+held_fields v (Ok (received.Pending t k d)) information out h = refl
+held_fields v (Err r) information out h = refl
 
-pub holds_fields : (x : Replayed) (information out : List ℕ) → Holds x information out → fields_of x (front_in x out) ≡ fields_of x information
+pub holds_fields : (x : (Result Piece Refusal)) (information out : List ℕ) → Holds x information out → fields_of x (front_in x out) ≡ fields_of x information
 unfolding fields_of
-holds_fields (BadLine r) information out h = refl
-holds_fields (Piece e s v w x) information out h = held_fields v x information out h
+holds_fields (Err r) information out h = refl
+holds_fields (Ok piece) information out h = held_fields piece.version piece.received information out h
 
-pub holds_answer : (number : ℕ) (x : Replayed) (information out : List ℕ) → Holds x information out → answer_text number x (front_in x out) ≡ answer_text number x information
+pub holds_answer : (number : ℕ) (x : (Result Piece Refusal)) (information out : List ℕ) → Holds x information out → answer_text number x (front_in x out) ≡ answer_text number x information
 unfolding answer_text
 holds_answer number x information out h =
     ap (λ (f : List ℕ). marked (mark_of number x) (head_of x) ++ marked (mark_of number x) (without_header f)) (holds_fields x information out h)

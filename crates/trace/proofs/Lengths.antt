@@ -15,19 +15,20 @@ use Rattle.protocol.specs.declared.Version.TheVariants.{V1, V2}
 use Rattle.protocol.proofs.Services.{length_id}
 use Rattle.message.specs.declared.MessageHeader.{MessageHeader}
 use Rattle.assembler.specs.declared.door.Received.{Received}
-use Rattle.assembler.specs.declared.door.Received.TheVariants.{Whole, Pending, Complete, Refused}
+use Rattle.assembler.specs.declared.door.Received.TheVariants.{Whole, Pending, Complete}
 use Rattle.payload.specs.Payload.{shown_of}
-use Rattle.payload.specs.declared.Shown.{Shown}
-use Rattle.payload.specs.declared.Shown.TheVariants as shown
 use Rattle.rows.proofs.Lengths.{row_le, text_le, refusal_le, refused_le}
 use Rattle.request_line.specs.Good.{kind_text}
-use Rattle.request_line.specs.declared.ListingKind.{ListingKind}
-use Rattle.request_line.specs.declared.ListingKind.TheVariants as listing
+use Rattle.protocol.specs.declared.service.Kind.{Kind}
+use Rattle.protocol.specs.declared.service.Kind.TheVariants as kinds
 use Rattle.listing.proofs.Lengths.{payload_le}
-use Rattle.trace_step.specs.declared.Replayed.{Replayed}
-use Rattle.trace_step.specs.declared.Replayed.TheVariants.{BadLine, Piece}
-use Rattle.trace.specs.Heads.{type_name, type_row, whole_word_row, whole_rows, dropped_row, fragment_rows, word_row, message_rows, listing_kind, version_row, shown_row, refused_name, piece_rows, head_of}
+use Rattle.trace_step.specs.declared.Piece.{Piece}
+use Rattle.trace.specs.Heads.{type_name, type_row, whole_word_row, whole_rows, dropped_row, fragment_rows, word_row, message_rows, version_row, shown_row, refused_name, piece_rows, head_of}
 use Rattle.trace.specs.Replay.{fields_by, fields_in, fields_of}
+use Rattle.std.specs.Prelude.{Ok, Err, Some, None}
+use Rattle.payload.specs.Payload.{Shown}
+use Rattle.std.specs.Prelude.{Result}
+use Rattle.protocol.specs.declared.Refusal.{Refusal}
 
 abbrev Short : ℕ → List ℕ → Type 0
 Short n s = length s ≤ n
@@ -71,14 +72,14 @@ message_le m n d =
     simp length-append
     (omega (arith, fragment_le (ascii "complete") m.message_type m.transaction d (omega arith), text_le (ascii "DeviceServiceId") (id_bytes m.service) (omega arith) (omega (arith, length_id m.service)), row_le (ascii "CID") m.cid (omega arith), word_le m.message_type m.word, row_le (ascii "InformationBufferLength") n (omega arith)))
 
-kind_le : (k : ListingKind) → Short 16 (kind_text k)
-kind_le listing.PacketService = omega arith
-kind_le listing.Version = omega arith
-kind_le listing.Registration = omega arith
-kind_le listing.SignalState = omega arith
-kind_le listing.DeviceServices = omega arith
-kind_le listing.SetPin = omega arith
-kind_le listing.PinInfo = omega arith
+kind_le : (k : Kind) → Short 16 (kind_text k)
+kind_le kinds.PacketService = omega arith
+kind_le kinds.VersionInfo = omega arith
+kind_le kinds.RegisterState = omega arith
+kind_le kinds.SignalState = omega arith
+kind_le kinds.DeviceServices = omega arith
+kind_le kinds.SetPin = omega arith
+kind_le kinds.PinInfo = omega arith
 
 version_le : (v : Version) → Short 5 (version_row v)
 version_le V1 = omega arith
@@ -86,43 +87,43 @@ version_le V2 = omega arith
 
 shown_le : (v : Version) (x : Shown) → Short 93 (shown_row v x)
 unfolding shown_row
-shown_le v (shown.Payload k) = simp length-append (omega (arith, kind_le (listing_kind k), version_le v))
-shown_le v shown.NoPayload = omega arith
-shown_le v (shown.Refused r) = refused_le r
+shown_le v (Ok (Some k)) = simp length-append (omega (arith, kind_le k, version_le v))
+shown_le v (Ok None) = omega arith
+shown_le v (Err r) = refused_le r
 
 refused_name_le : (whole : Bool) → Short 50 (refused_name whole)
 refused_name_le whole = by_test (Short 50) whole (omega arith) (omega arith)
 
-piece_le : (v : Version) (whole : Bool) (x : Received) → Short 1024 (piece_rows v whole x)
+piece_le : (v : Version) (whole : Bool) (x : (Result Received Refusal)) → Short 1024 (piece_rows v whole x)
 unfolding piece_rows whole_rows type_row
-piece_le v whole (Whole t transaction word) = simp length-append (omega (arith, type_le t, row_le (ascii "TransactionId") transaction (omega arith), whole_word_le t word))
-piece_le v whole (Pending t transaction d) = omega (arith, fragment_le (ascii "pending") t transaction d (omega arith))
-piece_le v whole (Complete m n d) = simp length-append (omega (arith, message_le m n d, shown_le v (shown_of m)))
-piece_le v whole (Refused r) = omega (arith, refusal_le (refused_name whole) r (refused_name_le whole))
+piece_le v whole (Ok (Whole t transaction word)) = simp length-append (omega (arith, type_le t, row_le (ascii "TransactionId") transaction (omega arith), whole_word_le t word))
+piece_le v whole (Ok (Pending t transaction d)) = omega (arith, fragment_le (ascii "pending") t transaction d (omega arith))
+piece_le v whole (Ok (Complete m n d)) = simp length-append (omega (arith, message_le m n d, shown_le v (shown_of m)))
+piece_le v whole (Err r) = omega (arith, refusal_le (refused_name whole) r (refused_name_le whole))
 
-pub head_le : (x : Replayed) → Short 1024 (head_of x)
+pub head_le : (x : (Result Piece Refusal)) → Short 1024 (head_of x)
 unfolding head_of
-head_le (BadLine r) = omega (arith, refusal_le (ascii "bad line") r (omega arith))
-head_le (Piece elapsed sender v whole x) = piece_le v whole x
+head_le (Err r) = omega (arith, refusal_le (ascii "bad line") r (omega arith))
+head_le (Ok piece) = piece_le piece.version piece.is_whole piece.received
 
 fields_by_le : (v : Version) (information : List ℕ) (x : Shown) → Short 524288 (fields_by v information x)
 unfolding fields_by
-fields_by_le v information (shown.Payload k) = payload_le (listing_kind k) v information
-fields_by_le v information shown.NoPayload = omega arith
-fields_by_le v information (shown.Refused r) = omega arith
+fields_by_le v information (Ok (Some k)) = payload_le k v information
+fields_by_le v information (Ok None) = omega arith
+fields_by_le v information (Err r) = omega arith
 
-fields_in_le : (v : Version) (information : List ℕ) (x : Received) → Short 524288 (fields_in v information x)
+fields_in_le : (v : Version) (information : List ℕ) (x : (Result Received Refusal)) → Short 524288 (fields_in v information x)
 unfolding fields_in
-fields_in_le v information (Complete m n d) = fields_by_le v information (shown_of m)
-fields_in_le v information (Whole t transaction word) = omega arith
-fields_in_le v information (Pending t transaction d) = omega arith
-fields_in_le v information (Refused r) = omega arith
+fields_in_le v information (Ok (Complete m n d)) = fields_by_le v information (shown_of m)
+fields_in_le v information (Ok (Whole t transaction word)) = omega arith
+fields_in_le v information (Ok (Pending t transaction d)) = omega arith
+fields_in_le v information (Err r) = omega arith
 
-pub fields_le : (x : Replayed) (information : List ℕ) → Short 524288 (fields_of x information)
+pub fields_le : (x : (Result Piece Refusal)) (information : List ℕ) → Short 524288 (fields_of x information)
 unfolding fields_of
-fields_le (BadLine r) information = omega arith
-fields_le (Piece elapsed sender v whole x) information = fields_in_le v information x
+fields_le (Err r) information = omega arith
+fields_le (Ok piece) information = fields_in_le piece.version information piece.received
 
 -- without their marks they have room
-pub unmarked_le : (x : Replayed) (information : List ℕ) → Short 525312 (head_of x ++ fields_of x information)
+pub unmarked_le : (x : (Result Piece Refusal)) (information : List ℕ) → Short 525312 (head_of x ++ fields_of x information)
 unmarked_le x information = rw (length-append (head_of x) (fields_of x information)) (omega (arith, head_le x, fields_le x information))

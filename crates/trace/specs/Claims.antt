@@ -3,8 +3,10 @@
 use Rattle.std.specs.Prelude.{ℕ, ◌+◌, ◌≤◌, ◌≡◌, List, [], ◌∷◌, ◌++◌, length}
 use Rattle.assembler.specs.Assembly.{zeros}
 use Rattle.trace_step.specs.Step.{State, start, step_of, state_of, kept}
-use Rattle.trace_step.specs.declared.Replayed.{Replayed}
+use Rattle.trace_step.specs.declared.Piece.{Piece}
 use Rattle.trace.specs.Replay.{answer_text, line_text, columns, replay_text}
+use Rattle.std.specs.Prelude.{Result}
+use Rattle.protocol.specs.declared.Refusal.{Refusal}
 
 -- ---- a run of `put_line`: each line with what the one before left, and with the next number
 
@@ -23,4 +25,4 @@ TextOfLines = (lines : List (List ℕ)) → replay_text lines ≡ columns ++ lin
 -- ---- no line's text is longer than what `replay` has room for
 
 abbrev pub LineFits : Type 0
-LineFits = (number : ℕ) (x : Replayed) (information : List ℕ) → length (answer_text number x information) ≤ 786432
+LineFits = (number : ℕ) (x : (Result Piece Refusal)) (information : List ℕ) → length (answer_text number x information) ≤ 786432

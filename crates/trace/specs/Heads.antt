@@ -6,20 +6,17 @@ use Rattle.protocol.specs.MessageType.{OPEN, CLOSE, COMMAND, HOST_ERROR, OPEN_DO
 use Rattle.protocol.specs.Service.{id_bytes}
 use Rattle.protocol.specs.declared.Version.{Version}
 use Rattle.protocol.specs.declared.Version.TheVariants.{V1, V2}
-use Rattle.protocol.specs.declared.service.Kind.{Kind}
-use Rattle.protocol.specs.declared.service.Kind.TheVariants.{RegisterState, PacketService, SignalState, DeviceServices, VersionInfo, SetPin, PinInfo}
 use Rattle.message.specs.declared.MessageHeader.{MessageHeader}
 use Rattle.assembler.specs.declared.door.Received.{Received}
-use Rattle.assembler.specs.declared.door.Received.TheVariants.{Whole, Pending, Complete, Refused}
+use Rattle.assembler.specs.declared.door.Received.TheVariants.{Whole, Pending, Complete}
 use Rattle.payload.specs.Payload.{shown_of}
-use Rattle.payload.specs.declared.Shown.{Shown}
-use Rattle.payload.specs.declared.Shown.TheVariants as shown
 use Rattle.rows.specs.Rows.{row, text_row, refusal_line, refused_line}
 use Rattle.request_line.specs.Good.{kind_text}
-use Rattle.request_line.specs.declared.ListingKind.{ListingKind}
-use Rattle.request_line.specs.declared.ListingKind.TheVariants as listing
-use Rattle.trace_step.specs.declared.Replayed.{Replayed}
-use Rattle.trace_step.specs.declared.Replayed.TheVariants.{BadLine, Piece}
+use Rattle.trace_step.specs.declared.Piece.{Piece}
+use Rattle.std.specs.Prelude.{Ok, Err, Some, None}
+use Rattle.payload.specs.Payload.{Shown}
+use Rattle.std.specs.Prelude.{Result}
+use Rattle.protocol.specs.declared.Refusal.{Refusal}
 
 -- ---- a row with a message type's name
 
@@ -68,35 +65,26 @@ message_rows m n dropped =
 
 -- ---- what a complete message shows: a kind and the version that it is read at, nothing, or a refusal
 
-abbrev pub listing_kind : Kind → ListingKind
-listing_kind RegisterState = listing.Registration
-listing_kind PacketService = listing.PacketService
-listing_kind SignalState = listing.SignalState
-listing_kind DeviceServices = listing.DeviceServices
-listing_kind VersionInfo = listing.Version
-listing_kind SetPin = listing.SetPin
-listing_kind PinInfo = listing.PinInfo
-
 abbrev pub version_row : Version → List ℕ
 version_row V1 = ascii "1.00\n"
 version_row V2 = ascii "2.00\n"
 
 unfoldable pub shown_row : Version → Shown → List ℕ
-shown_row version (shown.Payload kind) = kind_text (listing_kind kind) ++ version_row version
-shown_row version shown.NoPayload = ascii "payload\tnone\n"
-shown_row version (shown.Refused r) = refused_line r
+shown_row version (Ok (Some kind)) = kind_text kind ++ version_row version
+shown_row version (Ok None) = ascii "payload\tnone\n"
+shown_row version (Err r) = refused_line r
 
 -- ---- any answer
 
 abbrev pub refused_name : Bool → List ℕ
 refused_name whole = cond whole (ascii "whole refused") (ascii "piece refused")
 
-unfoldable pub piece_rows : Version → Bool → Received → List ℕ
-piece_rows version whole (Whole t transaction word) = whole_rows t transaction word
-piece_rows version whole (Pending t transaction dropped) = fragment_rows (ascii "pending") t transaction dropped
-piece_rows version whole (Complete m n dropped) = message_rows m n dropped ++ shown_row version (shown_of m)
-piece_rows version whole (Refused r) = refusal_line (refused_name whole) r
+unfoldable pub piece_rows : Version → Bool → (Result Received Refusal) → List ℕ
+piece_rows version whole (Ok (Whole t transaction word)) = whole_rows t transaction word
+piece_rows version whole (Ok (Pending t transaction dropped)) = fragment_rows (ascii "pending") t transaction dropped
+piece_rows version whole (Ok (Complete m n dropped)) = message_rows m n dropped ++ shown_row version (shown_of m)
+piece_rows version whole (Err r) = refusal_line (refused_name whole) r
 
-unfoldable pub head_of : Replayed → List ℕ
-head_of (BadLine r) = refusal_line (ascii "bad line") r
-head_of (Piece elapsed sender version whole received) = piece_rows version whole received
+unfoldable pub head_of : (Result Piece Refusal) → List ℕ
+head_of (Err r) = refusal_line (ascii "bad line") r
+head_of (Ok piece) = piece_rows piece.version piece.is_whole piece.received

@@ -6,19 +6,20 @@ use Rattle.protocol.specs.declared.Version.{Version}
 use Rattle.assembler.specs.declared.door.Received.{Received}
 use Rattle.assembler.specs.declared.door.Received.TheVariants as received
 use Rattle.payload.specs.Payload.{shown_of}
-use Rattle.payload.specs.declared.Shown.{Shown}
-use Rattle.payload.specs.declared.Shown.TheVariants as shown
 use Rattle.rows.specs.Rows.{field, Put}
 use Rattle.listing.specs.Listing.{payload_text}
 use Rattle.trace_line.specs.declared.Sender.{Sender}
 use Rattle.trace_line.specs.declared.Sender.TheVariants.{Host, Device}
 use Rattle.trace_step.specs.Step.{State, Step, start, step_of, kept, Fronted, front_for}
 use Rattle.trace_step.specs.Run.{Answered, run_of}
-use Rattle.trace_step.specs.declared.Replayed.{Replayed}
-use Rattle.trace_step.specs.declared.Replayed.TheVariants.{BadLine, Piece}
+use Rattle.trace_step.specs.declared.Piece.{Piece}
 use Rattle.trace.specs.Marked.{marked, without_header}
-use Rattle.trace.specs.Heads.{listing_kind, head_of}
+use Rattle.trace.specs.Heads.{head_of}
 use Rattle.trace.specs.declared.Listed.{Listed}
+use Rattle.std.specs.Prelude.{Ok, Err, Some, None}
+use Rattle.payload.specs.Payload.{Shown}
+use Rattle.std.specs.Prelude.{Result}
+use Rattle.protocol.specs.declared.Refusal.{Refusal}
 
 -- ---- the mark: line, elapsed and sender; a bad line has only the first
 
@@ -26,30 +27,30 @@ abbrev pub sender_text : Sender → List ℕ
 sender_text Host = ascii "\tH\t"
 sender_text Device = ascii "\tD\t"
 
-unfoldable pub mark_of : ℕ → Replayed → List ℕ
-mark_of number (BadLine r) = decimal number ++ ascii "\t\t\t"
-mark_of number (Piece elapsed sender version whole x) = decimal number ++ (field elapsed ++ sender_text sender)
+unfoldable pub mark_of : ℕ → (Result Piece Refusal) → List ℕ
+mark_of number (Err r) = decimal number ++ ascii "\t\t\t"
+mark_of number (Ok piece) = decimal number ++ (field piece.elapsed ++ sender_text piece.sender)
 
 -- ---- "on completion the fields": the listing of the payload that a complete message shows
 
 unfoldable pub fields_by : Version → List ℕ → Shown → List ℕ
-fields_by version information (shown.Payload kind) = payload_text (listing_kind kind) version information
-fields_by version information shown.NoPayload = []
-fields_by version information (shown.Refused r) = []
+fields_by version information (Ok (Some kind)) = payload_text kind version information
+fields_by version information (Ok None) = []
+fields_by version information (Err r) = []
 
-unfoldable pub fields_in : Version → List ℕ → Received → List ℕ
-fields_in version information (received.Complete m n dropped) = fields_by version information (shown_of m)
-fields_in version information (received.Whole t transaction word) = []
-fields_in version information (received.Pending t transaction dropped) = []
-fields_in version information (received.Refused r) = []
+unfoldable pub fields_in : Version → List ℕ → (Result Received Refusal) → List ℕ
+fields_in version information (Ok (received.Complete m n dropped)) = fields_by version information (shown_of m)
+fields_in version information (Ok (received.Whole t transaction word)) = []
+fields_in version information (Ok (received.Pending t transaction dropped)) = []
+fields_in version information (Err r) = []
 
-unfoldable pub fields_of : Replayed → List ℕ → List ℕ
-fields_of (BadLine r) information = []
-fields_of (Piece elapsed sender version whole x) information = fields_in version information x
+unfoldable pub fields_of : (Result Piece Refusal) → List ℕ → List ℕ
+fields_of (Err r) information = []
+fields_of (Ok piece) information = fields_in piece.version information piece.received
 
 -- ---- the text of a line's answer, with its number
 
-unfoldable pub answer_text : ℕ → Replayed → List ℕ → List ℕ
+unfoldable pub answer_text : ℕ → (Result Piece Refusal) → List ℕ → List ℕ
 answer_text number x information = marked (mark_of number x) (head_of x) ++ marked (mark_of number x) (without_header (fields_of x information))
 
 abbrev pub line_text : ℕ → State → List ℕ → List ℕ
@@ -69,13 +70,13 @@ replay_text lines = columns ++ answers_text 1 (run_of start lines).answers
 
 -- ---- the payload at the front of the bytes that a step gave
 
-abbrev pub FrontedIn : Replayed → List ℕ → Type 0
-FrontedIn (BadLine r) out = Unit
-FrontedIn (Piece elapsed sender version whole x) out = Fronted x out
+abbrev pub FrontedIn : (Result Piece Refusal) → List ℕ → Type 0
+FrontedIn (Err r) out = Unit
+FrontedIn (Ok piece) out = Fronted piece.received out
 
-abbrev pub front_in : Replayed → List ℕ → List ℕ
-front_in (BadLine r) out = []
-front_in (Piece elapsed sender version whole x) out = front_for x out
+abbrev pub front_in : (Result Piece Refusal) → List ℕ → List ℕ
+front_in (Err r) out = []
+front_in (Ok piece) out = front_for piece.received out
 
 -- ---- what a call leaves: the state, the two buffers, the rows without their marks, and the text in the output
 

@@ -1,68 +1,69 @@
 // The first rows of a line's answer: what came of the line, and a message's own numbers.
-ghost use Rattle.std.specs.Prelude.{◌≡◌, length};
+ghost use Rattle.std.specs.Prelude.{◌≡◌};
 ghost use Rattle.ascii.specs.Ascii.{ascii};
 ghost use Rattle.protocol.specs.Service.{id_bytes};
 ghost use Rattle.rows.specs.Rows.{Put, text_row};
 ghost use Rattle.request_line.specs.Good.{kind_text};
-ghost use Rattle.trace.specs.Heads.{type_name, whole_word_row, whole_rows, dropped_row, fragment_rows, word_row, message_rows, listing_kind, version_row, shown_row, piece_rows, head_of};
+ghost use Rattle.trace.specs.Heads.{type_name, whole_word_row, whole_rows, dropped_row, fragment_rows, word_row, message_rows, version_row, shown_row, piece_rows, head_of};
 
 use assembler::door::Received;
 use message::MessageHeader;
-use payload::{Shown, payload_of};
-use protocol::Version;
+use payload::payload_of;
 use protocol::message_type::{
     CLOSE, CLOSE_DONE, COMMAND, COMMAND_DONE, FUNCTION_ERROR, HOST_ERROR, OPEN, OPEN_DONE,
 };
 use protocol::service::{Kind, ServiceId, put_id};
-use request_line::ListingKind;
+use protocol::{Refusal, Version};
 use rows::{put_refusal, put_refused, put_row, put_text, put_text_row};
-use trace_step::Replayed;
+use trace_step::Piece;
 
 // Like every function here it answers the place behind what it put.
-pub fn put_head(replayed: Replayed, out: &mut [u8], at: usize) -> usize
+#[tactic(auto, unfolding(crate::specs::Heads::head_of))]
+pub fn put_head(replayed: Result<Piece, Refusal>, out: &mut [u8], at: usize) -> usize
     ensures { Put out.old at (head_of replayed) out.new result }
 {
     match replayed {
-        Replayed::BadLine(refusal) => put_refusal(out, at, b"bad line", refusal),
-        Replayed::Piece {
-            elapsed,
-            sender,
-            version,
-            is_whole,
-            received,
-        } => put_piece(version, is_whole, received, out, at),
+        Err(refusal) => put_refusal(out, at, b"bad line", refusal),
+        Ok(piece) => put_piece(piece.version, piece.is_whole, piece.received, out, at),
     }
 }
 
+#[tactic(auto, unfolding(crate::specs::Heads::piece_rows))]
 fn put_piece(
     version: Version,
     is_whole: bool,
-    received: Received,
+    received: Result<Received, Refusal>,
     out: &mut [u8],
     at: usize,
 ) -> usize
     ensures { Put out.old at (piece_rows version is_whole received) out.new result }
 {
     match received {
-        Received::Whole {
-            message_type,
-            transaction,
-            word,
-        } => put_whole(message_type, transaction, word, out, at),
-        Received::Pending {
-            message_type,
-            transaction,
-            dropped,
-        } => put_fragment(b"pending", message_type, transaction, dropped, out, at),
-        Received::Complete {
-            message,
-            length,
-            dropped,
-        } => {
+        Ok(
+            Received::Whole {
+                message_type,
+                transaction,
+                word,
+            },
+        ) => put_whole(message_type, transaction, word, out, at),
+        Ok(
+            Received::Pending {
+                message_type,
+                transaction,
+                dropped,
+            },
+        ) => put_fragment(b"pending", message_type, transaction, dropped, out, at),
+        Ok(
+            Received::Complete {
+                message,
+                length,
+                dropped,
+            },
+        ) => {
             let next = put_message(message, length, dropped, out, at);
             put_shown(version, payload_of(message), out, next)
         }
-        Received::Refused(refusal) => {
+        Err(refusal) => {
             if is_whole {
                 return put_refusal(out, at, b"whole refused", refusal);
             }
@@ -80,22 +81,16 @@ fn put_whole(message_type: u32, transaction: u32, word: u32, out: &mut [u8], at:
     put_whole_word(message_type, word, out, next)
 }
 
+#[tactic(auto, using(rows::proofs::Laws::put_start), unfolding(crate::specs::Heads::whole_word_row))]
 fn put_whole_word(message_type: u32, word: u32, out: &mut [u8], at: usize) -> usize
     ensures { Put out.old at (whole_word_row message_type word) out.new result }
 {
-    if message_type == OPEN {
-        return put_row(out, at, b"MaxControlTransfer", word as u64);
+    match message_type {
+        OPEN => put_row(out, at, b"MaxControlTransfer", word as u64),
+        CLOSE => at,
+        OPEN_DONE | CLOSE_DONE => put_row(out, at, b"Status", word as u64),
+        _ => put_row(out, at, b"ErrorStatusCode", word as u64),
     }
-    if message_type == CLOSE {
-        return at;
-    }
-    if message_type == OPEN_DONE {
-        return put_row(out, at, b"Status", word as u64);
-    }
-    if message_type == CLOSE_DONE {
-        return put_row(out, at, b"Status", word as u64);
-    }
-    put_row(out, at, b"ErrorStatusCode", word as u64)
 }
 
 // A message of which a fragment was taken, or that is complete.
@@ -115,6 +110,7 @@ fn put_fragment(
     put_row(out, number, b"TransactionId", transaction as u64)
 }
 
+#[tactic(auto, using(rows::proofs::Laws::put_start), unfolding(crate::specs::Heads::dropped_row))]
 fn put_dropped(dropped: bool, out: &mut [u8], at: usize) -> usize
     ensures { Put out.old at (dropped_row dropped) out.new result }
 {
@@ -158,70 +154,54 @@ fn put_service(service: ServiceId, out: &mut [u8], at: usize) -> usize
 fn id_bytes(service: ServiceId) -> [u8; 16]
     ensures { result ≡ id_bytes service }
 {
-    let mut bytes = id_room();
+    let mut bytes = [0; 16];
     put_id(&mut bytes, 0, service);
     bytes
 }
 
-fn id_room() -> [u8; 16]
-    ensures { 16 ≡ length result }
-{
-    [0; 16]
-}
-
 // A command's type or a reply's status.
+#[tactic(auto, using(rows::proofs::Laws::put_start), unfolding(crate::specs::Heads::word_row))]
 fn put_word(message_type: u32, word: u32, out: &mut [u8], at: usize) -> usize
     ensures { Put out.old at (word_row message_type word) out.new result }
 {
-    if message_type == COMMAND {
-        return put_row(out, at, b"CommandType", word as u64);
+    match message_type {
+        COMMAND => put_row(out, at, b"CommandType", word as u64),
+        COMMAND_DONE => put_row(out, at, b"Status", word as u64),
+        _ => at,
     }
-    if message_type == COMMAND_DONE {
-        return put_row(out, at, b"Status", word as u64);
-    }
-    at
 }
 
 // What a complete message shows, read at a version.
-fn put_shown(version: Version, shown: Shown, out: &mut [u8], at: usize) -> usize
+#[tactic(auto, using(rows::proofs::Laws::put_then), unfolding(crate::specs::Heads::shown_row))]
+fn put_shown(
+    version: Version,
+    shown: Result<Option<Kind>, Refusal>,
+    out: &mut [u8],
+    at: usize,
+) -> usize
     ensures { Put out.old at (shown_row version shown) out.new result }
 {
     match shown {
-        Shown::Payload(kind) => {
-            let next = put_kind(listing_kind(kind), out, at);
+        Ok(Some(kind)) => {
+            let next = put_kind(kind, out, at);
             put_version(version, out, next)
         }
-        Shown::NoPayload => put_text(out, at, b"payload\tnone\n"),
-        Shown::Refused(refusal) => put_refused(out, at, refusal),
+        Ok(None) => put_text(out, at, b"payload\tnone\n"),
+        Err(refusal) => put_refused(out, at, refusal),
     }
 }
 
-// The listing program's kind for a payload.
-pub fn listing_kind(kind: Kind) -> ListingKind
-    ensures { result ≡ listing_kind kind }
-{
-    match kind {
-        Kind::RegisterState => ListingKind::Registration,
-        Kind::PacketService => ListingKind::PacketService,
-        Kind::SignalState => ListingKind::SignalState,
-        Kind::DeviceServices => ListingKind::DeviceServices,
-        Kind::VersionInfo => ListingKind::Version,
-        Kind::SetPin => ListingKind::SetPin,
-        Kind::PinInfo => ListingKind::PinInfo,
-    }
-}
-
-fn put_kind(kind: ListingKind, out: &mut [u8], at: usize) -> usize
+fn put_kind(kind: Kind, out: &mut [u8], at: usize) -> usize
     ensures { Put out.old at (kind_text kind) out.new result }
 {
     match kind {
-        ListingKind::PacketService => put_text(out, at, b"packet_service\t"),
-        ListingKind::Version => put_text(out, at, b"version\t"),
-        ListingKind::Registration => put_text(out, at, b"registration\t"),
-        ListingKind::SignalState => put_text(out, at, b"signal_state\t"),
-        ListingKind::DeviceServices => put_text(out, at, b"device_services\t"),
-        ListingKind::SetPin => put_text(out, at, b"set_pin\t"),
-        ListingKind::PinInfo => put_text(out, at, b"pin_info\t"),
+        Kind::PacketService => put_text(out, at, b"packet_service\t"),
+        Kind::VersionInfo => put_text(out, at, b"version\t"),
+        Kind::RegisterState => put_text(out, at, b"registration\t"),
+        Kind::SignalState => put_text(out, at, b"signal_state\t"),
+        Kind::DeviceServices => put_text(out, at, b"device_services\t"),
+        Kind::SetPin => put_text(out, at, b"set_pin\t"),
+        Kind::PinInfo => put_text(out, at, b"pin_info\t"),
     }
 }
 
@@ -235,6 +215,7 @@ fn put_version(version: Version, out: &mut [u8], at: usize) -> usize
 }
 
 // A message type's name, as the value of its row.
+#[tactic(auto, unfolding(crate::specs::Heads::type_name))]
 fn put_type(message_type: u32, out: &mut [u8], at: usize) -> usize
     ensures { Put out.old at (type_name message_type) out.new result }
 {

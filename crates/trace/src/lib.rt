@@ -14,15 +14,15 @@ ghost use Rattle.trace.specs.Marked.{marked, without_header};
 ghost use Rattle.trace.specs.Heads.{head_of};
 ghost use Rattle.trace.specs.Replay.{mark_of, fields_by, fields_in, fields_of, answer_text, columns, FrontedIn, front_in, Leaves};
 
-use crate::heads::{listing_kind, put_head};
+use crate::heads::put_head;
 use crate::marks::{header_in, put_mark, put_marked};
 use assembler::door::Received;
 use listing::put_payload;
 use message::MessageHeader;
-use payload::{Shown, payload_of};
-use protocol::Version;
+use payload::payload_of;
+use protocol::{Refusal, Version};
 use rows::put_text;
-use trace_step::{Replay, Replayed, step};
+use trace_step::{Piece, Replay, step};
 
 // What stands from line to line after this one, and the place behind its text.
 #[derive(Clone, Copy)]
@@ -32,6 +32,7 @@ pub struct Listed {
 }
 
 // The names of the columns, at any place of any output.
+#[tactic(auto, unfolding(crate::specs::Replay::columns))]
 pub fn put_columns(out: &mut [u8], at: usize) -> usize
     ensures { Put out.old at columns out.new result }
 {
@@ -54,17 +55,25 @@ pub fn put_line(
 {
     let mut information = [0u8; 4096];
     let stepped = step(replay, host, device, line, &mut information);
-    let replay = stepped.replay;
-    let replayed = stepped.replayed;
-    let next = put_replayed(number, replayed, &information, &mut rows[..], out, at);
-    Listed { replay, next }
+    let next = put_replayed(
+        number,
+        stepped.replayed,
+        &information,
+        &mut rows[..],
+        out,
+        at,
+    );
+    Listed {
+        replay: stepped.replay,
+        next,
+    }
 }
 
 // The rows of an answer, whose payload the front of `front` has, without their marks in `rows`, and
 // with them in the output.
 fn put_replayed(
     number: u64,
-    replayed: Replayed,
+    replayed: Result<Piece, Refusal>,
     front: &[u8; 4096],
     rows: &mut [u8],
     out: &mut [u8],
@@ -83,7 +92,7 @@ fn put_replayed(
 // The rows of an answer with their marks. Those from `head` on are a listing, whose header is left out.
 fn put_marks(
     number: u64,
-    replayed: Replayed,
+    replayed: Result<Piece, Refusal>,
     rows: &[u8],
     head: usize,
     out: &mut [u8],
@@ -92,43 +101,31 @@ fn put_marks(
     requires { head ≤ length rows.now }
     ensures { Put out.old at (marked (mark_of number replayed) (take head rows.now) ++ marked (mark_of number replayed) (without_header (drop head rows.now))) out.new result }
 {
-    let mut bytes = mark_room();
-    let n = put_mark(number, replayed, &mut bytes, 0);
-    let all: &[u8] = &bytes;
-    let mark = &all[..n];
+    let mut longest = [0; 48];
+    let n = put_mark(number, replayed, &mut longest, 0);
+    let mark = &longest[..n];
     let next = put_marked(mark, &rows[..head], out, at);
     let fields = &rows[head..];
     let from = header_in(fields);
     put_marked(mark, &fields[from..], out, next)
 }
 
-// Room for the longest mark.
-fn mark_room() -> [u8; 48]
-    ensures { 48 ≡ length result }
-{
-    [0; 48]
-}
-
 // The listing of the payload that a complete message shows.
-fn put_fields(replayed: Replayed, front: &[u8], out: &mut [u8], at: usize) -> usize
+#[tactic(auto, using(rows::proofs::Laws::put_start), unfolding(crate::specs::Replay::fields_of))]
+fn put_fields(replayed: Result<Piece, Refusal>, front: &[u8], out: &mut [u8], at: usize) -> usize
     requires { FrontedIn replayed front.now }
     ensures { Put out.old at (fields_of replayed (front_in replayed front.now)) out.new result }
 {
     match replayed {
-        Replayed::BadLine(refusal) => at,
-        Replayed::Piece {
-            elapsed,
-            sender,
-            version,
-            is_whole,
-            received,
-        } => put_received(version, received, front, out, at),
+        Err(_) => at,
+        Ok(piece) => put_received(piece.version, piece.received, front, out, at),
     }
 }
 
+#[tactic(auto, using(rows::proofs::Laws::put_start), unfolding(crate::specs::Replay::fields_in))]
 fn put_received(
     version: Version,
-    received: Received,
+    received: Result<Received, Refusal>,
     front: &[u8],
     out: &mut [u8],
     at: usize,
@@ -137,25 +134,18 @@ fn put_received(
     ensures { Put out.old at (fields_in version (front_for received front.now) received) out.new result }
 {
     match received {
-        Received::Whole {
-            message_type,
-            transaction,
-            word,
-        } => at,
-        Received::Pending {
-            message_type,
-            transaction,
-            dropped,
-        } => at,
-        Received::Complete {
-            message,
-            length,
-            dropped,
-        } => put_shown_payload(version, message, &front[..length], out, at),
-        Received::Refused(refusal) => at,
+        Ok(
+            Received::Complete {
+                message,
+                length,
+                ..
+            },
+        ) => { put_shown_payload(version, message, &front[..length], out, at) }
+        _ => at,
     }
 }
 
+#[tactic(auto, using(rows::proofs::Laws::put_start), unfolding(crate::specs::Replay::fields_by))]
 fn put_shown_payload(
     version: Version,
     message: MessageHeader,
@@ -166,8 +156,7 @@ fn put_shown_payload(
     ensures { Put out.old at (fields_by version payload.now (shown_of message)) out.new result }
 {
     match payload_of(message) {
-        Shown::Payload(kind) => put_payload(listing_kind(kind), version, payload, out, at),
-        Shown::NoPayload => at,
-        Shown::Refused(refusal) => at,
+        Ok(Some(kind)) => put_payload(kind, version, payload, out, at),
+        _ => at,
     }
 }

@@ -5,29 +5,24 @@ ghost use Rattle.trace.specs.Marked.{marked, header_in};
 ghost use Rattle.trace.specs.Replay.{sender_text, mark_of};
 
 use ascii::{agree, length_through};
+use protocol::Refusal;
 use rows::{put_field, put_number, put_text};
 use trace_line::Sender;
-use trace_step::Replayed;
+use trace_step::Piece;
 
 const LINE_FEED: u8 = 10;
 
 const HEADER_LENGTH: usize = 12;
 
-pub fn put_mark(number: u64, replayed: Replayed, out: &mut [u8], at: usize) -> usize
+pub fn put_mark(number: u64, replayed: Result<Piece, Refusal>, out: &mut [u8], at: usize) -> usize
     ensures { Put out.old at (mark_of number replayed) out.new result }
 {
     let next = put_number(out, at, number);
     match replayed {
-        Replayed::BadLine(refusal) => put_text(out, next, b"\t\t\t"),
-        Replayed::Piece {
-            elapsed,
-            sender,
-            version,
-            is_whole,
-            received,
-        } => {
-            let end = put_field(out, next, elapsed as u64);
-            put_sender(sender, out, end)
+        Err(_) => put_text(out, next, b"\t\t\t"),
+        Ok(piece) => {
+            let end = put_field(out, next, piece.elapsed as u64);
+            put_sender(piece.sender, out, end)
         }
     }
 }
@@ -46,6 +41,7 @@ pub fn put_marked(mark: &[u8], text: &[u8], out: &mut [u8], at: usize) -> usize
     ensures { Put out.old at (marked mark.now text.now) out.new result }
 {
     let mut next = at;
+    // A row is as long as its text: no range to go over, and std has no split_inclusive.
     let mut i: usize = 0;
     while i < text.len() {
         let rest = &text[i..];

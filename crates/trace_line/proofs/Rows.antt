@@ -12,17 +12,18 @@ use Rattle.ascii.specs.Ascii.{tab, line_feed}
 use Rattle.text_parts.specs.Parts.{one_of, Then, Reach, Right, further, reach_then, length_taken, last}
 use Rattle.text_parts.specs.Decimals.{is_digit, number_part, no_digit, number_of}
 use Rattle.text_parts.specs.Hex.{byte, HexLine, reach_hex_line, line_end_at, end_column}
-use Rattle.text_parts.specs.declared.LineEnd.{LineEnd}
-use Rattle.text_parts.specs.declared.LineEnd.TheVariants.{Digits, Column}
 use Rattle.text_parts.proofs.Parts.{differ, same_right, one_right, one_then, then_one, run_at, byte_at, further_zero}
 use Rattle.text_parts.proofs.Decimals.{number_right, number_said, said_number, number_taken}
 use Rattle.text_parts.proofs.Hex.{hex_right, hex_said, said_hex}
 use Rattle.text_parts.proofs.Ends.{end_column_lem}
 use Rattle.trace_line.specs.declared.Sender.{Sender}
 use Rattle.trace_line.specs.declared.Sender.TheVariants.{Host, Device}
-use Rattle.trace_line.specs.declared.LineRead.{LineRead}
+use Rattle.trace_line.specs.declared.Line.{Line}
 use Rattle.trace_line.specs.Good.{letter, most_decimal, largest, most_digits, text_of, Good}
 use Rattle.trace_line.specs.TraceLine.{is_sender, sender_of, line_by, bytes_from, sender_from, line_of, column_of}
+use Rattle.std.specs.Prelude.{Ok, Err}
+use Rattle.text_parts.specs.Hex.{LineEnd}
+use Rattle.std.specs.Prelude.{Result}
 
 -- ---- the row, and how far a text goes with it
 
@@ -103,7 +104,7 @@ good_row s g =
 
 -- ---- the column
 
-choose : (t : Bool) (a b : LineRead) (x y : Reach) → column_of a ≡ x → column_of b ≡ y → column_of (cond t a b) ≡ cond t x y
+choose : (t : Bool) (a b : (Result Line ℕ)) (x y : Reach) → column_of a ≡ x → column_of b ≡ y → column_of (cond t a b) ≡ cond t x y
 choose true a b x y p q = p
 choose false a b x y p q = q
 
@@ -112,8 +113,8 @@ unfolding bytes_from
 bytes_column s counter sender from = shown (line_end_at most_digits s from) ∙ end_column_lem most_digits s from
   where
     shown : (x : LineEnd) → column_of (line_by counter sender from x) ≡ end_column x
-    shown (Digits n) = refl
-    shown (Column c) = refl
+    shown (Ok n) = refl
+    shown (Err c) = refl
 
 sender_column : (s : List ℕ) (counter at : ℕ) → column_of (sender_from s counter at) ≡ further at (reach_sent (drop at s))
 unfolding sender_from

@@ -1,10 +1,10 @@
 // One line of a station's trace: counter, tab, sender, tab, the piece's bytes in hexadecimal, line feed.
 #![tactic(auto)]
 
-ghost use Rattle.std.specs.Prelude.{◌≡◌, ◌≤◌};
-ghost use Rattle.trace_line.specs.TraceLine.{is_sender, sender_of, bytes_from, sender_from, line_of};
+ghost use Rattle.std.specs.Prelude.{◌≡◌, Some, None, cond};
+ghost use Rattle.trace_line.specs.TraceLine.{is_sender, sender_of, line_of};
 
-use text_parts::{LineEnd, line_end_at, number_of};
+use text_parts::{line_end_at, number_of};
 use wire::byte_at;
 
 #[derive(Clone, Copy)]
@@ -13,89 +13,54 @@ pub enum Sender {
     Device,
 }
 
+// What a line says: its bytes' digits stand from `from` on.
 #[derive(Clone, Copy)]
-pub enum LineRead {
-    // The piece's digits stand in the line from `from` on.
-    Line {
-        counter: u32,
-        sender: Sender,
-        from: usize,
-        digits: usize,
-    },
-    // The first column where no good line can go on or end.
-    BadLine(usize),
+pub struct Line {
+    pub counter: u32,
+    pub sender: Sender,
+    pub from: usize,
+    pub digits: usize,
 }
 
-const TAB: u8 = 9;
-
-const HOST: u8 = 72;
-
-const DEVICE: u8 = 68;
-// The most digits of a counter and its largest value, and the most digits of a line's bytes: those of 256 bytes.
+// The most digits of a counter, and of a line's bytes: those of 256 bytes.
 const MOST_DECIMAL: usize = 10;
-
-const LARGEST: u32 = 4294967295;
 
 const MOST_DIGITS: usize = 512;
 
-pub fn read_line(line: &[u8]) -> LineRead
+// A line, or the column where it is bad.
+#[tactic(auto, using(text_parts::proofs::Decimals::number_few), unfolding(crate::specs::TraceLine::line_of, crate::specs::TraceLine::sender_from, crate::specs::TraceLine::bytes_from))]
+pub fn read_line(line: &[u8]) -> Result<Line, usize>
     ensures { result ≡ line_of line.now }
 {
-    let counter = number_of(line, MOST_DECIMAL, LARGEST);
-    let digits = counter.digits;
-    if digits == 0 {
-        return LineRead::BadLine(digits);
+    let counter = number_of(line, MOST_DECIMAL, u32::MAX);
+    let tab = counter.digits;
+    if tab == 0 {
+        return Err(tab);
     }
-    if byte_at(line, digits) != TAB {
-        return LineRead::BadLine(digits);
+    if byte_at(line, tab) != b'\t' {
+        return Err(tab);
     }
-    sender_from(line, counter.value, digits + 1)
+    let at = tab + 1;
+    let sender = sender_of(byte_at(line, at)).ok_or(at)?;
+    if byte_at(line, at + 1) != b'\t' {
+        return Err(at + 1);
+    }
+    let from = at + 2;
+    let digits = line_end_at(line, from, MOST_DIGITS)?;
+    Ok(Line {
+        counter: counter.value,
+        sender,
+        from,
+        digits,
+    })
 }
 
-// The rest of a line whose sender stands at `at`.
-fn sender_from(line: &[u8], counter: u32, at: usize) -> LineRead
-    requires { at ≤ 16 }
-    ensures { result ≡ sender_from line.now counter at }
+fn sender_of(b: u8) -> Option<Sender>
+    ensures { result ≡ cond (is_sender b) (Some (sender_of b)) None }
 {
-    let letter = byte_at(line, at);
-    if !is_sender(letter) {
-        return LineRead::BadLine(at);
+    match b {
+        b'H' => Some(Sender::Host),
+        b'D' => Some(Sender::Device),
+        _ => None,
     }
-    if byte_at(line, at + 1) != TAB {
-        return LineRead::BadLine(at + 1);
-    }
-    bytes_from(line, counter, sender_of(letter), at + 2)
-}
-
-// The rest of a line whose bytes begin at `from`.
-fn bytes_from(line: &[u8], counter: u32, sender: Sender, from: usize) -> LineRead
-    ensures { result ≡ bytes_from line.now counter sender from }
-{
-    match line_end_at(line, from, MOST_DIGITS) {
-        LineEnd::Column(column) => LineRead::BadLine(column),
-        LineEnd::Digits(digits) => LineRead::Line {
-            counter,
-            sender,
-            from,
-            digits,
-        },
-    }
-}
-
-fn is_sender(b: u8) -> bool
-    ensures { result ≡ is_sender b }
-{
-    if b == HOST {
-        return true;
-    }
-    b == DEVICE
-}
-
-fn sender_of(b: u8) -> Sender
-    ensures { result ≡ sender_of b }
-{
-    if b == HOST {
-        return Sender::Host;
-    }
-    Sender::Device
 }

@@ -7,10 +7,10 @@ use Rattle.assembler.specs.Door.{Seen, seen_of, receive_of, receive_all}
 use Rattle.trace_line.specs.TraceLine.{line_of}
 use Rattle.trace_line.specs.declared.Sender.{Sender}
 use Rattle.trace_line.specs.declared.Sender.TheVariants.{Host, Device}
-use Rattle.trace_line.specs.declared.LineRead.{LineRead}
-use Rattle.trace_line.specs.declared.LineRead.TheVariants as line
+use Rattle.trace_line.specs.declared.Line.{Line}
 use Rattle.trace_step.specs.Step.{State, own_of, elapsed_of, piece_step, step_by, step_of}
 use Rattle.trace_step.specs.Run.{Answered, answered_of, run_of, good_lines, good_answers, pieces_of, seen_by, elapsed_in, counters_of, steps_from, last_version, WholeTraces}
+use Rattle.std.specs.Prelude.{Ok, Err, Result}
 
 -- ---- bad lines
 
@@ -19,21 +19,21 @@ unfolding run_of good_answers good_lines step_of step_by piece_step
 bad_answers s [] = refl
 bad_answers s (l ∷ ls) = go (line_of l) refl (bad_answers s ls) (λ t. bad_answers t ls)
   where
-    go : (r : LineRead) → line_of l ≡ r → good_answers (run_of s ls).answers ≡ (run_of s (good_lines ls)).answers
+    go : (r : (Result Line ℕ)) → line_of l ≡ r → good_answers (run_of s ls).answers ≡ (run_of s (good_lines ls)).answers
         → ((t : State) → good_answers (run_of t ls).answers ≡ (run_of t (good_lines ls)).answers)
         → good_answers (run_of s (l ∷ ls)).answers ≡ (run_of s (good_lines (l ∷ ls))).answers
-    go (line.BadLine c) e h k = rw e h
-    go (line.Line counter sender from n) e h k = rw (e, e) (ap (λ (x : List Answered). answered_of (step_by s l (line.Line counter sender from n)) ∷ x) (k (step_by s l (line.Line counter sender from n)).state))
+    go (Err c) e h k = rw e h
+    go (Ok line) e h k = rw (e, e) (ap (λ (x : List Answered). answered_of (step_by s l (Ok line)) ∷ x) (k (step_by s l (Ok line)).state))
 
 bad_end : (s : State) (ls : List (List ℕ)) → (run_of s ls).end ≡ (run_of s (good_lines ls)).end
 unfolding run_of good_lines step_of step_by
 bad_end s [] = refl
 bad_end s (l ∷ ls) = go (line_of l) refl (bad_end s ls) (λ t. bad_end t ls)
   where
-    go : (r : LineRead) → line_of l ≡ r → (run_of s ls).end ≡ (run_of s (good_lines ls)).end → ((t : State) → (run_of t ls).end ≡ (run_of t (good_lines ls)).end)
+    go : (r : (Result Line ℕ)) → line_of l ≡ r → (run_of s ls).end ≡ (run_of s (good_lines ls)).end → ((t : State) → (run_of t ls).end ≡ (run_of t (good_lines ls)).end)
         → (run_of s (l ∷ ls)).end ≡ (run_of s (good_lines (l ∷ ls))).end
-    go (line.BadLine c) e h k = rw e h
-    go (line.Line counter sender from n) e h k = rw (e, e) (k (step_by s l (line.Line counter sender from n)).state)
+    go (Err c) e h k = rw e h
+    go (Ok line) e h k = rw (e, e) (k (step_by s l (Ok line)).state)
 
 -- ---- one sender
 
@@ -46,12 +46,16 @@ unfolding Apart run_of seen_by pieces_of receive_all step_of step_by piece_step
 apart who s [] = (refl, refl)
 apart who s (l ∷ ls) = go who (line_of l) refl (λ t. apart who t ls)
   where
-    go : (x : Sender) (r : LineRead) → line_of l ≡ r → ((t : State) → Apart x t ls) → Apart x s (l ∷ ls)
-    go x (line.BadLine c) e k = rw e (k s)
-    go Host (line.Line counter Host from n) e k = rw e (let h = k (step_by s l (line.Line counter Host from n)).state in (ap (λ (q : List Seen). seen_of (receive_of (own_of Host s) (unhexed (n / 2) (take n (drop from l))) most_information) ∷ q) h.0, h.1))
-    go Host (line.Line counter Device from n) e k = rw e (k (step_by s l (line.Line counter Device from n)).state)
-    go Device (line.Line counter Host from n) e k = rw e (k (step_by s l (line.Line counter Host from n)).state)
-    go Device (line.Line counter Device from n) e k = rw e (let h = k (step_by s l (line.Line counter Device from n)).state in (ap (λ (q : List Seen). seen_of (receive_of (own_of Device s) (unhexed (n / 2) (take n (drop from l))) most_information) ∷ q) h.0, h.1))
+    go : (x : Sender) (r : (Result Line ℕ)) → line_of l ≡ r → ((t : State) → Apart x t ls) → Apart x s (l ∷ ls)
+    go x (Err c) e k = rw e (k s)
+    go x (Ok line) e k = good x line.counter line.sender line.from line.digits e k
+      where
+        good : (x : Sender) (counter : ℕ) (sender : Sender) (from n : ℕ) → line_of l ≡ Ok (record { counter = counter; sender = sender; from = from; digits = n })
+            → ((t : State) → Apart x t ls) → Apart x s (l ∷ ls)
+        good Host counter Host from n e k = rw e (let h = k (step_by s l (Ok (record { counter = counter; sender = Host; from = from; digits = n }))).state in (ap (λ (q : List Seen). seen_of (receive_of (own_of Host s) (unhexed (n / 2) (take n (drop from l))) most_information) ∷ q) h.0, h.1))
+        good Host counter Device from n e k = rw e (k (step_by s l (Ok (record { counter = counter; sender = Device; from = from; digits = n }))).state)
+        good Device counter Host from n e k = rw e (k (step_by s l (Ok (record { counter = counter; sender = Host; from = from; digits = n }))).state)
+        good Device counter Device from n e k = rw e (let h = k (step_by s l (Ok (record { counter = counter; sender = Device; from = from; digits = n }))).state in (ap (λ (q : List Seen). seen_of (receive_of (own_of Device s) (unhexed (n / 2) (take n (drop from l))) most_information) ∷ q) h.0, h.1))
 
 -- ---- elapsed milliseconds
 
@@ -60,10 +64,10 @@ unfolding run_of elapsed_in counters_of steps_from step_of step_by piece_step
 elapsed_steps s [] = refl
 elapsed_steps s (l ∷ ls) = go (line_of l) refl (λ t. elapsed_steps t ls)
   where
-    go : (r : LineRead) → line_of l ≡ r → ((t : State) → elapsed_in (run_of t ls).answers ≡ steps_from t.previous (counters_of ls))
+    go : (r : (Result Line ℕ)) → line_of l ≡ r → ((t : State) → elapsed_in (run_of t ls).answers ≡ steps_from t.previous (counters_of ls))
         → elapsed_in (run_of s (l ∷ ls)).answers ≡ steps_from s.previous (counters_of (l ∷ ls))
-    go (line.BadLine c) e k = rw e (k s)
-    go (line.Line counter sender from n) e k = rw e (ap (λ (q : List ℕ). elapsed_of s.previous counter ∷ q) (k (step_by s l (line.Line counter sender from n)).state))
+    go (Err c) e k = rw e (k s)
+    go (Ok line) e k = rw e (ap (λ (q : List ℕ). elapsed_of s.previous line.counter ∷ q) (k (step_by s l (Ok line)).state))
 
 -- ---- the version
 
@@ -72,11 +76,16 @@ unfolding run_of pieces_of receive_all last_version step_of step_by piece_step
 versions s [] = refl
 versions s (l ∷ ls) = go (line_of l) refl (λ t. versions t ls)
   where
-    go : (r : LineRead) → line_of l ≡ r → ((t : State) → (run_of t ls).end.version ≡ last_version t.version (receive_all t.device (pieces_of Device ls)).seen)
+    go : (r : (Result Line ℕ)) → line_of l ≡ r → ((t : State) → (run_of t ls).end.version ≡ last_version t.version (receive_all t.device (pieces_of Device ls)).seen)
         → (run_of s (l ∷ ls)).end.version ≡ last_version s.version (receive_all s.device (pieces_of Device (l ∷ ls))).seen
-    go (line.BadLine c) e k = rw e (k s)
-    go (line.Line counter Host from n) e k = rw e (k (step_by s l (line.Line counter Host from n)).state)
-    go (line.Line counter Device from n) e k = rw e (k (step_by s l (line.Line counter Device from n)).state)
+    go (Err c) e k = rw e (k s)
+    go (Ok line) e k = good line.counter line.sender line.from line.digits e k
+      where
+        good : (counter : ℕ) (sender : Sender) (from n : ℕ) → line_of l ≡ Ok (record { counter = counter; sender = sender; from = from; digits = n })
+            → ((t : State) → (run_of t ls).end.version ≡ last_version t.version (receive_all t.device (pieces_of Device ls)).seen)
+            → (run_of s (l ∷ ls)).end.version ≡ last_version s.version (receive_all s.device (pieces_of Device (l ∷ ls))).seen
+        good counter Host from n e k = rw e (k (step_by s l (Ok (record { counter = counter; sender = Host; from = from; digits = n }))).state)
+        good counter Device from n e k = rw e (k (step_by s l (Ok (record { counter = counter; sender = Device; from = from; digits = n }))).state)
 
 pub whole_traces : WholeTraces
 unfolding Apart

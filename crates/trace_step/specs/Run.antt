@@ -9,19 +9,19 @@ use Rattle.assembler.specs.Door.{Seen, receive_all}
 use Rattle.trace_line.specs.TraceLine.{line_of}
 use Rattle.trace_line.specs.declared.Sender.{Sender}
 use Rattle.trace_line.specs.declared.Sender.TheVariants.{Host, Device}
-use Rattle.trace_line.specs.declared.LineRead.{LineRead}
-use Rattle.trace_line.specs.declared.LineRead.TheVariants as line
+use Rattle.trace_line.specs.declared.Line.{Line}
 use Rattle.trace_step.specs.Step.{State, Step, own_of, elapsed_of, version_from, step_of}
-use Rattle.trace_step.specs.declared.Previous.{Previous}
-use Rattle.trace_step.specs.declared.Previous.TheVariants.{Counter}
-use Rattle.trace_step.specs.declared.Replayed.{Replayed}
-use Rattle.trace_step.specs.declared.Replayed.TheVariants.{BadLine, Piece}
+use Rattle.trace_step.specs.declared.Piece.{Piece}
+use Rattle.std.specs.Prelude.{Some}
+use Rattle.trace_step.specs.Step.{Previous}
+use Rattle.std.specs.Prelude.{Ok, Err, Result}
+use Rattle.protocol.specs.declared.Refusal.{Refusal}
 
 -- ---- the run
 
 -- what a line gives
 pub record Answered : Type 0 where
-  pub replayed : Replayed
+  pub replayed : Result Piece Refusal
   pub information : List ℕ
 
 abbrev pub answered_of : Step → Answered
@@ -40,17 +40,17 @@ run_of s (l ∷ ls) = and_then (answered_of (step_of s l)) (run_of (step_of s l)
 
 -- ---- the good lines of a trace, and the answers to them
 
-abbrev pub cons_if_good : LineRead → List ℕ → List (List ℕ) → List (List ℕ)
-cons_if_good (line.BadLine c) l ls = ls
-cons_if_good (line.Line counter sender from n) l ls = l ∷ ls
+abbrev pub cons_if_good : (Result Line ℕ) → List ℕ → List (List ℕ) → List (List ℕ)
+cons_if_good (Err c) l ls = ls
+cons_if_good (Ok line) l ls = l ∷ ls
 
 unfoldable pub good_lines : List (List ℕ) → List (List ℕ)
 good_lines [] = []
 good_lines (l ∷ ls) = cons_if_good (line_of l) l (good_lines ls)
 
-abbrev pub cons_if_piece : Replayed → Answered → List Answered → List Answered
-cons_if_piece (BadLine r) a xs = xs
-cons_if_piece (Piece elapsed sender version whole received) a xs = a ∷ xs
+abbrev pub cons_if_piece : (Result Piece Refusal) → Answered → List Answered → List Answered
+cons_if_piece (Err r) a xs = xs
+cons_if_piece (Ok piece) a xs = a ∷ xs
 
 unfoldable pub good_answers : List Answered → List Answered
 good_answers [] = []
@@ -64,17 +64,17 @@ own Host Device x xs = xs
 own Device Host x xs = xs
 own Device Device x xs = x ∷ xs
 
-abbrev pub cons_piece : Sender → List ℕ → LineRead → List Fed → List Fed
-cons_piece who l (line.BadLine c) ps = ps
-cons_piece who l (line.Line counter sender from n) ps = own who sender (record { bytes = unhexed (n / 2) (take n (drop from l)); room = most_information }) ps
+abbrev pub cons_piece : Sender → List ℕ → (Result Line ℕ) → List Fed → List Fed
+cons_piece who l (Err c) ps = ps
+cons_piece who l (Ok line) ps = own who line.sender (record { bytes = unhexed (line.digits / 2) (take line.digits (drop line.from l)); room = most_information }) ps
 
 unfoldable pub pieces_of : Sender → List (List ℕ) → List Fed
 pieces_of who [] = []
 pieces_of who (l ∷ ls) = cons_piece who l (line_of l) (pieces_of who ls)
 
-abbrev pub cons_seen : Sender → Answered → Replayed → List Seen → List Seen
-cons_seen who a (BadLine r) ss = ss
-cons_seen who a (Piece elapsed sender version whole received) ss = own who sender (record { received = received; information = a.information }) ss
+abbrev pub cons_seen : Sender → Answered → (Result Piece Refusal) → List Seen → List Seen
+cons_seen who a (Err r) ss = ss
+cons_seen who a (Ok piece) ss = own who piece.sender (record { received = piece.received; information = a.information }) ss
 
 unfoldable pub seen_by : Sender → List Answered → List Seen
 seen_by who [] = []
@@ -82,17 +82,17 @@ seen_by who (a ∷ xs) = cons_seen who a a.replayed (seen_by who xs)
 
 -- ---- elapsed milliseconds: those of the answers, and those of the trace's counters
 
-abbrev pub cons_elapsed : Replayed → List ℕ → List ℕ
-cons_elapsed (BadLine r) es = es
-cons_elapsed (Piece elapsed sender version whole received) es = elapsed ∷ es
+abbrev pub cons_elapsed : (Result Piece Refusal) → List ℕ → List ℕ
+cons_elapsed (Err r) es = es
+cons_elapsed (Ok piece) es = piece.elapsed ∷ es
 
 unfoldable pub elapsed_in : List Answered → List ℕ
 elapsed_in [] = []
 elapsed_in (a ∷ xs) = cons_elapsed a.replayed (elapsed_in xs)
 
-abbrev pub cons_counter : LineRead → List ℕ → List ℕ
-cons_counter (line.BadLine c) ns = ns
-cons_counter (line.Line counter sender from n) ns = counter ∷ ns
+abbrev pub cons_counter : (Result Line ℕ) → List ℕ → List ℕ
+cons_counter (Err c) ns = ns
+cons_counter (Ok line) ns = line.counter ∷ ns
 
 unfoldable pub counters_of : List (List ℕ) → List ℕ
 counters_of [] = []
@@ -100,7 +100,7 @@ counters_of (l ∷ ls) = cons_counter (line_of l) (counters_of ls)
 
 unfoldable pub steps_from : Previous → List ℕ → List ℕ
 steps_from p [] = []
-steps_from p (n ∷ ns) = elapsed_of p n ∷ steps_from (Counter n) ns
+steps_from p (n ∷ ns) = elapsed_of p n ∷ steps_from (Some n) ns
 
 -- ---- the version after what was seen of D
 

@@ -11,8 +11,6 @@ use Rattle.protocol.specs.Service.{extensions, id_at, same_id}
 use Rattle.protocol.specs.declared.Version.{Version}
 use Rattle.protocol.specs.declared.Version.TheVariants.{V1}
 use Rattle.version_info.specs.VersionInfo.{read_of}
-use Rattle.version_info.specs.declared.VersionInfoRead.{VersionInfoRead}
-use Rattle.version_info.specs.declared.VersionInfoRead.TheVariants.{Info, Refused}
 use Rattle.handshake.specs.Versions.{version_of}
 use Rattle.message.specs.Message.{most_information, is_whole_piece}
 use Rattle.message.specs.declared.MessageHeader.{MessageHeader}
@@ -24,14 +22,18 @@ use Rattle.assembler.specs.declared.door.Received.TheVariants as received
 use Rattle.trace_line.specs.TraceLine.{line_of}
 use Rattle.trace_line.specs.declared.Sender.{Sender}
 use Rattle.trace_line.specs.declared.Sender.TheVariants.{Host, Device}
-use Rattle.trace_line.specs.declared.LineRead.{LineRead}
-use Rattle.trace_line.specs.declared.LineRead.TheVariants as line
-use Rattle.trace_step.specs.declared.Previous.{Previous}
-use Rattle.trace_step.specs.declared.Previous.TheVariants.{Nothing, Counter}
+use Rattle.trace_line.specs.declared.Line.{Line}
 use Rattle.trace_step.specs.declared.Replay.{Replay}
-use Rattle.trace_step.specs.declared.Replayed.{Replayed}
-use Rattle.trace_step.specs.declared.Replayed.TheVariants.{BadLine, Piece}
+use Rattle.trace_step.specs.declared.Piece.{Piece}
 use Rattle.trace_step.specs.declared.Stepped.{Stepped}
+use Rattle.std.specs.Prelude.{Ok, Err, Some, None}
+use Rattle.version_info.specs.VersionInfo.{VersionInfoRead}
+use Rattle.std.specs.Prelude.{Option}
+use Rattle.std.specs.Prelude.{Result}
+use Rattle.protocol.specs.declared.Refusal.{Refusal}
+
+abbrev pub Previous : Type 0
+Previous = Option ℕ
 
 -- ---- what stands from line to line
 
@@ -43,7 +45,7 @@ pub record State : Type 0 where
 
 -- before the first line; "before one at 1.00"
 abbrev pub start : State
-start = record { host = empty; device = empty; previous = Nothing; version = V1 }
+start = record { host = empty; device = empty; previous = None; version = V1 }
 
 -- of two things the one for the sender
 abbrev pub by_sender : {A : Type 0} → Sender → A → A → A
@@ -63,8 +65,8 @@ device_after sender a s = by_sender sender s.device a
 -- ---- "the milliseconds since the previous line (wrapping subtraction, 0 at the first)"
 
 abbrev pub elapsed_of : Previous → ℕ → ℕ
-elapsed_of Nothing counter = 0
-elapsed_of (Counter previous) counter = (counter + (2 ^ 32 - previous)) % 2 ^ 32
+elapsed_of None counter = 0
+elapsed_of (Some previous) counter = (counter + (2 ^ 32 - previous)) % 2 ^ 32
 
 -- ---- "the version of D's last accepted VERSION reply"
 
@@ -74,23 +76,23 @@ is_version_reply m =
     (m.message_type == COMMAND_DONE) && (m.word == success && (same_id m.service (id_at extensions 0) && m.cid == 15))
 
 abbrev pub version_by : Version → VersionInfoRead → Version
-version_by v (Info i) = version_of i.bcd_mbim_extended_version
-version_by v (Refused r) = v
+version_by v (Ok i) = version_of i.bcd_mbim_extended_version
+version_by v (Err r) = v
 
-unfoldable pub version_from : Version → Received → List ℕ → Version
-version_from v (received.Complete m n dropped) information = cond (is_version_reply m) (version_by v (read_of information)) v
-version_from v (received.Whole type transaction word) information = v
-version_from v (received.Pending type transaction dropped) information = v
-version_from v (received.Refused r) information = v
+unfoldable pub version_from : Version → (Result Received Refusal) → List ℕ → Version
+version_from v (Ok (received.Complete m n dropped)) information = cond (is_version_reply m) (version_by v (read_of information)) v
+version_from v (Ok (received.Whole type transaction word)) information = v
+version_from v (Ok (received.Pending type transaction dropped)) information = v
+version_from v (Err r) information = v
 
-abbrev pub version_after : Sender → Version → Received → List ℕ → Version
+abbrev pub version_after : Sender → Version → (Result Received Refusal) → List ℕ → Version
 version_after sender v x information = by_sender sender v (version_from v x information)
 
 -- ---- the piece of a good line: the state behind it, what it gives, and the information of a message that it completes
 
 pub record Step : Type 0 where
   pub state : State
-  pub replayed : Replayed
+  pub replayed : Result Piece Refusal
   pub information : List ℕ
 
 -- its fields are read at the version before it; "whole messages, by type, .. touch neither assembler"
@@ -99,10 +101,10 @@ piece_by s counter sender piece x = record {
   state = record {
     host = host_after sender x.assembly s;
     device = device_after sender x.assembly s;
-    previous = Counter counter;
+    previous = Some counter;
     version = version_after sender s.version x.received x.information;
   };
-  replayed = Piece (elapsed_of s.previous counter) sender s.version (is_whole_piece piece) x.received;
+  replayed = Ok (record { elapsed = (elapsed_of s.previous counter); sender = sender; version = s.version; is_whole = (is_whole_piece piece); received = x.received });
   information = x.information;
 }
 
@@ -111,9 +113,9 @@ piece_step s counter sender piece = piece_by s counter sender piece (receive_of 
 
 -- ---- any line: "a bad line is listed as such, changes neither assembler and doesn't count as previous"
 
-unfoldable pub step_by : State → List ℕ → LineRead → Step
-step_by s text (line.BadLine c) = record { state = s; replayed = BadLine (refusal bad_line c); information = [] }
-step_by s text (line.Line counter sender from n) = piece_step s counter sender (unhexed (n / 2) (take n (drop from text)))
+unfoldable pub step_by : State → List ℕ → (Result Line ℕ) → Step
+step_by s text (Err c) = record { state = s; replayed = Err (refusal bad_line c); information = [] }
+step_by s text (Ok line) = piece_step s line.counter line.sender (unhexed (line.digits / 2) (take line.digits (drop line.from text)))
 
 unfoldable pub step_of : State → List ℕ → Step
 step_of s text = step_by s text (line_of text)
@@ -132,28 +134,28 @@ abbrev pub kept : State → Replay
 kept s = record { host = s.host.progress; device = s.device.progress; previous = s.previous; version = s.version }
 
 -- the output holds the information of a complete message, at its front
-abbrev pub Fronted : Received → List ℕ → Type 0
-Fronted (received.Complete m n dropped) out = n ≤ length out
-Fronted (received.Whole type transaction word) out = Unit
-Fronted (received.Pending type transaction dropped) out = Unit
-Fronted (received.Refused r) out = Unit
+abbrev pub Fronted : (Result Received Refusal) → List ℕ → Type 0
+Fronted (Ok (received.Complete m n dropped)) out = n ≤ length out
+Fronted (Ok (received.Whole type transaction word)) out = Unit
+Fronted (Ok (received.Pending type transaction dropped)) out = Unit
+Fronted (Err r) out = Unit
 
-abbrev pub front_for : Received → List ℕ → List ℕ
-front_for (received.Complete m n dropped) out = take n out
-front_for (received.Whole type transaction word) out = []
-front_for (received.Pending type transaction dropped) out = []
-front_for (received.Refused r) out = []
+abbrev pub front_for : (Result Received Refusal) → List ℕ → List ℕ
+front_for (Ok (received.Complete m n dropped)) out = take n out
+front_for (Ok (received.Whole type transaction word)) out = []
+front_for (Ok (received.Pending type transaction dropped)) out = []
+front_for (Err r) out = []
 
 -- so that its payload can be read there
-abbrev pub Held : Received → List ℕ → List ℕ → Type 0
-Held (received.Complete m n dropped) information out = (n ≤ length out) × (take n out ≡ information)
-Held (received.Whole type transaction word) information out = Unit
-Held (received.Pending type transaction dropped) information out = Unit
-Held (received.Refused r) information out = Unit
+abbrev pub Held : (Result Received Refusal) → List ℕ → List ℕ → Type 0
+Held (Ok (received.Complete m n dropped)) information out = (n ≤ length out) × (take n out ≡ information)
+Held (Ok (received.Whole type transaction word)) information out = Unit
+Held (Ok (received.Pending type transaction dropped)) information out = Unit
+Held (Err r) information out = Unit
 
-abbrev pub Holds : Replayed → List ℕ → List ℕ → Type 0
-Holds (BadLine r) information out = Unit
-Holds (Piece elapsed sender version whole x) information out = Held x information out
+abbrev pub Holds : (Result Piece Refusal) → List ℕ → List ℕ → Type 0
+Holds (Err r) information out = Unit
+Holds (Ok piece) information out = Held piece.received information out
 
 pub record Leaves (x : Step) (r : Stepped) (host device out end : List ℕ) : Type 0 where
   pub answer : r ≡ record { replay = kept x.state; replayed = x.replayed }

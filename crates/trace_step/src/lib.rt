@@ -9,8 +9,8 @@ ghost use Rattle.ascii.specs.Ascii.{unhexed};
 ghost use Rattle.protocol.specs.Refusal.{refusal, bad_line};
 ghost use Rattle.version_info.specs.VersionInfo.{read_of};
 ghost use Rattle.assembler.specs.Door.{in_place, receive_of, Delivered};
-ghost use Rattle.trace_step.specs.declared.Replayed.TheVariants.{BadLine};
 ghost use Rattle.trace_step.specs.Step.{start, by_sender, own_of, host_after, device_after, elapsed_of, is_version_reply, version_by, version_from, version_after, piece_step, step_of, state_of, kept, Fronted, front_for, Leaves};
+ghost use Rattle.std.specs.Prelude.{Err};
 
 use ascii::unhex;
 use assembler::Progress;
@@ -20,16 +20,9 @@ use message::{MessageHeader, is_whole_piece};
 use protocol::message_type::COMMAND_DONE;
 use protocol::service::{VERSION, extensions_id, is_same_id};
 use protocol::status::SUCCESS;
-use protocol::{BAD_LINE, Refusal, Version};
-use trace_line::{LineRead, Sender, read_line};
-use version_info::VersionInfoRead;
-
-// The counter of the last good line.
-#[derive(Clone, Copy)]
-pub enum Previous {
-    Nothing,
-    Counter(u32),
-}
+use protocol::{Reason, Refusal, Version};
+use trace_line::{Line, Sender, read_line};
+use version_info::VersionInfo;
 
 // What stands from line to line beside the two buffers: how far each sender's message has come, the
 // previous counter, and the version that payloads are read at.
@@ -37,39 +30,35 @@ pub enum Previous {
 pub struct Replay {
     pub host: Progress,
     pub device: Progress,
-    pub previous: Previous,
+    pub previous: Option<u32>,
     pub version: Version,
 }
 
 // What a line gives. The version is the one that a payload in it is read at.
 #[derive(Clone, Copy)]
-pub enum Replayed {
-    BadLine(Refusal),
-    Piece {
-        elapsed: u32,
-        sender: Sender,
-        version: Version,
-        is_whole: bool,
-        received: Received,
-    },
+pub struct Piece {
+    pub elapsed: u32,
+    pub sender: Sender,
+    pub version: Version,
+    pub is_whole: bool,
+    pub received: Result<Received, Refusal>,
 }
 
 #[derive(Clone, Copy)]
 pub struct Stepped {
     pub replay: Replay,
-    pub replayed: Replayed,
+    pub replayed: Result<Piece, Refusal>,
 }
 
 impl Replay {
+    #[tactic(auto, unfolding(assembler::specs::Assembly::empty))]
     pub fn start() -> Replay
         ensures { result ≡ kept start }
     {
-        let host = Progress::none();
-        let device = Progress::none();
         Replay {
-            host,
-            device,
-            previous: Previous::Nothing,
+            host: Progress::none(),
+            device: Progress::none(),
+            previous: None,
             version: Version::V1,
         }
     }
@@ -86,30 +75,24 @@ pub fn step(
     ensures { Leaves (step_of (state_of replay host.old device.old) line.now) result host.new device.new out.old out.new }
 {
     match read_line(line) {
-        LineRead::BadLine(column) => refuse_line(replay, column),
-        LineRead::Line {
-            counter,
-            sender,
-            from,
-            digits,
-        } => {
-            let bytes = piece_of(line, from, digits);
-            let n = digits / 2;
-            let all: &[u8] = &bytes;
-            step_piece(replay, host, device, counter, sender, &all[..n], out)
+        Err(column) => refuse_line(replay, column),
+        Ok(good) => {
+            let bytes = piece_of(line, good.from, good.digits);
+            let piece = &bytes[..good.digits / 2];
+            step_piece(replay, host, device, good.counter, good.sender, piece, out)
         }
     }
 }
 
 // A bad line leaves everything as it was.
 fn refuse_line(replay: Replay, column: usize) -> Stepped
-    ensures { result ≡ record { replay = replay; replayed = BadLine (refusal bad_line column) } }
+    ensures { result ≡ record { replay = replay; replayed = Err (refusal bad_line column) } }
 {
     let refusal = Refusal {
-        number: BAD_LINE,
+        reason: Reason::BadLine,
         place: column,
     };
-    let replayed = Replayed::BadLine(refusal);
+    let replayed = Err(refusal);
     Stepped { replay, replayed }
 }
 
@@ -118,16 +101,9 @@ fn piece_of(line: &[u8], from: usize, digits: usize) -> [u8; 256]
     requires { (from + digits ≤ length line.now) × (digits ≤ 512) }
     ensures { (take (digits / 2) result ≡ unhexed (digits / 2) (take digits (drop from line.now))) × (length result ≡ 256) }
 {
-    let mut bytes = piece_room();
-    let end = from + digits;
-    unhex(&line[from..end], &mut bytes);
+    let mut bytes = [0; 256];
+    unhex(&line[from..from + digits], &mut bytes);
     bytes
-}
-
-fn piece_room() -> [u8; 256]
-    ensures { 256 ≡ length result }
-{
-    [0; 256]
 }
 
 // The piece of a good line.
@@ -149,16 +125,16 @@ fn step_piece(
     let next = Replay {
         host: by_sender(sender, receipt.progress, replay.host),
         device: by_sender(sender, replay.device, receipt.progress),
-        previous: Previous::Counter(counter),
+        previous: Some(counter),
         version: version_after(sender, version, received, &out[..]),
     };
-    let replayed = Replayed::Piece {
+    let replayed = Ok(Piece {
         elapsed: elapsed_since(previous, counter),
         sender,
         version,
         is_whole: is_whole_piece(piece),
         received,
-    };
+    });
     Stepped {
         replay: next,
         replayed,
@@ -196,24 +172,23 @@ fn by_sender(sender: Sender, for_host: Progress, for_device: Progress) -> Progre
     }
 }
 
-fn elapsed_since(previous: Previous, counter: u32) -> u32
+// The counters may have wrapped.
+fn elapsed_since(previous: Option<u32>, counter: u32) -> u32
     ensures { result ≡ elapsed_of previous counter }
 {
     match previous {
-        Previous::Nothing => 0,
-        Previous::Counter(before) => difference(counter, before),
+        None => 0,
+        Some(before) => counter.wrapping_sub(before),
     }
 }
 
-// From one counter to another, which may have wrapped.
-fn difference(counter: u32, before: u32) -> u32
-    ensures { result ≡ (counter + (2 ^ 32 - before)) % 2 ^ 32 }
-{
-    std::num::wrapping_sub_u32(counter, before)
-}
-
 // The version behind a piece of the sender. The front of `out` has a complete message's information.
-fn version_after(sender: Sender, version: Version, received: Received, out: &[u8]) -> Version
+fn version_after(
+    sender: Sender,
+    version: Version,
+    received: Result<Received, Refusal>,
+    out: &[u8],
+) -> Version
     requires { Fronted received out.now }
     ensures { result ≡ version_after sender version received (front_for received out.now) }
 {
@@ -223,27 +198,20 @@ fn version_after(sender: Sender, version: Version, received: Received, out: &[u8
     }
 }
 
-fn version_from(version: Version, received: Received, out: &[u8]) -> Version
+#[tactic(auto, unfolding(crate::specs::Step::version_from))]
+fn version_from(version: Version, received: Result<Received, Refusal>, out: &[u8]) -> Version
     requires { Fronted received out.now }
     ensures { result ≡ version_from version received (front_for received out.now) }
 {
     match received {
-        Received::Whole {
-            message_type,
-            transaction,
-            word,
-        } => version,
-        Received::Pending {
-            message_type,
-            transaction,
-            dropped,
-        } => version,
-        Received::Complete {
-            message,
-            length,
-            dropped,
-        } => version_by(version, message, &out[..length]),
-        Received::Refused(refusal) => version,
+        Ok(
+            Received::Complete {
+                message,
+                length,
+                ..
+            },
+        ) => version_by(version, message, &out[..length]),
+        _ => version,
     }
 }
 
@@ -255,23 +223,17 @@ fn version_by(version: Version, message: MessageHeader, payload: &[u8]) -> Versi
         return version;
     }
     match version_info::read(payload) {
-        VersionInfoRead::Info(info) => version_of(info.bcd_mbim_extended_version),
-        VersionInfoRead::Refused(refusal) => version,
+        Ok(info) => version_of(info.bcd_mbim_extended_version),
+        Err(_) => version,
     }
 }
 
+#[tactic(auto, unfolding(crate::specs::Step::is_version_reply))]
 fn is_version_reply(message: MessageHeader) -> bool
     ensures { result ≡ is_version_reply message }
 {
-    if message.message_type != COMMAND_DONE {
-        return false;
-    }
-    if message.word != SUCCESS {
-        return false;
-    }
-    let service = message.service;
-    if !is_same_id(service, extensions_id()) {
-        return false;
-    }
-    message.cid == VERSION
+    message.message_type == COMMAND_DONE
+        && message.word == SUCCESS
+        && is_same_id(message.service, extensions_id())
+        && message.cid == VERSION
 }

@@ -5,19 +5,16 @@ use mathlib.Core.Path.{◌≡◌, refl, sym}
 use mathlib.Core.Logic.{⊎_map}
 use mathlib.Core.List.{List}
 use Prim.Native.Nat.{ℕ}
-use native.Mathlib.Omega.{arith}
 use borrow.Author.Tests.{eqb-true, eq-eqb}
 use lib.Dec.{eqb}
 use lib.ListN.{length}
-use Rattle.protocol.specs.Verdict.{Kept, judge, first_of, exact_length}
-use Rattle.protocol.specs.declared.Verdict.{Verdict}
-use Rattle.protocol.specs.declared.Verdict.TheVariants.{Fits, Fault}
+use Rattle.protocol.specs.Verdict.{Kept, judge, first_of, exact_length, no_fault, Verdict}
 use Rattle.protocol.proofs.Tests.{or_cases, cases_or, not_kept, kept_not, equal_kept, kept_equal}
 use Rattle.protocol.proofs.Verdicts.{fits_kept, kept_fits, then_kept, kept_then, exact_length_lem, length_exact, written_both, both_written}
 use Rattle.version_info.specs.declared.VersionInfo.{VersionInfo}
-use Rattle.version_info.specs.declared.VersionInfoRead.TheVariants.{Info}
 use Rattle.version_info.specs.VersionInfo.{is_extension, record_at, rules, verdict_of, shown, read_of, bytes_of, write_of}
 use Rattle.version_info.specs.Claims.{InfoFits, Acceptable, Accepted, AcceptedExactly, WrittenExactly}
+use Rattle.std.specs.Prelude.{Ok, Err}
 
 info_said : (i : VersionInfo) → Kept (rules i) → InfoFits i
 unfolding rules
@@ -36,9 +33,9 @@ said_info i f =
       (kept_not (is_extension x) (cases_or (eqb x 0x0100) (eqb x 0x0200) (⊎_map (eq-eqb x 0x0100) (eq-eqb x 0x0200) f.extension)), tt),
     )
 
-shows : (d : Verdict) (i j : VersionInfo) → shown d i ≡ Info j → (d ≡ Fits) × (i ≡ j)
-shows Fits i j e = (refl, cc)
-shows (Fault r) i j e = let z : ◌≡◌ {A = ℕ} 0 1 = cc in absurd (omega arith)
+shows : (d : Verdict) (i j : VersionInfo) → shown d i ≡ Ok j → (d ≡ no_fault) × (i ≡ j)
+shows (Ok _) i j e = (refl, cc)
+shows (Err r) i j e = cc
 
 -- an accepted payload keeps the rules, and shows the record at its places
 pub accepted : Accepted
@@ -48,10 +45,10 @@ accepted s i e =
     let k = then_kept (exact_length 4 (length s)) (rules (record_at s)) d.0 in
     (record { long = exact_length_lem 4 (length s) k.0; info = info_said (record_at s) k.1 }, sym d.1)
 
-pub acceptable : (s : List ℕ) → Acceptable s → read_of s ≡ Info (record_at s)
+pub acceptable : (s : List ℕ) → Acceptable s → read_of s ≡ Ok (record_at s)
 unfolding read_of verdict_of
 acceptable s a =
-    let f : first_of (exact_length 4 (length s)) (judge (rules (record_at s))) ≡ Fits =
+    let f : first_of (exact_length 4 (length s)) (judge (rules (record_at s))) ≡ no_fault =
     kept_then (exact_length 4 (length s)) (rules (record_at s)) (length_exact 4 (length s) a.long) (said_info (record_at s) a.info) in
     rw f
 

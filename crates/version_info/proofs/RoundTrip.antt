@@ -10,21 +10,20 @@ use borrow.Author.Tests.{eqb-true}
 use lib.Dec.{eqb}
 use Rattle.wire.specs.Numbers.{u16_at}
 use Rattle.wire.proofs.Laws.{num_digits}
-use Rattle.protocol.specs.Verdict.{first_of}
-use Rattle.protocol.specs.declared.Verdict.TheVariants.{Fits}
+use Rattle.protocol.specs.Verdict.{first_of, no_fault}
 use Rattle.protocol.proofs.Tests.{or_cases, not_kept, equal_kept}
 use Rattle.protocol.proofs.Verdicts.{fits_kept, length_exact, written_fits, written_front}
 use Rattle.version_info.specs.declared.VersionInfo.{VersionInfo}
-use Rattle.version_info.specs.declared.VersionInfoRead.TheVariants.{Info}
 use Rattle.version_info.specs.VersionInfo.{is_extension, record_at, rules, verdict_of, read_of, bytes_of, write_of}
 use Rattle.version_info.specs.Claims.{RoundTrip}
+use Rattle.std.specs.Prelude.{Ok}
 
 -- a known extension fits two bytes
 small : (n : ℕ) → (eqb n 0x0100 ≡ true) ⊎ (eqb n 0x0200 ≡ true) → n < 65536
 small n (inl e) = omega (arith, eqb-true n 0x0100 e)
 small n (inr e) = omega (arith, eqb-true n 0x0200 e)
 
-record_back : (i : VersionInfo) → verdict_of i ≡ Fits → record_at (bytes_of i) ≡ i
+record_back : (i : VersionInfo) → verdict_of i ≡ no_fault → record_at (bytes_of i) ≡ i
 unfolding verdict_of rules record_at u16_at bytes_of
 record_back i e =
     let k = fits_kept (rules i) e in
@@ -36,7 +35,7 @@ record_back i e =
     }
 
 -- the bytes of a record that fits show the record
-pub bytes_read : (i : VersionInfo) → verdict_of i ≡ Fits → read_of (bytes_of i) ≡ Info i
+pub bytes_read : (i : VersionInfo) → verdict_of i ≡ no_fault → read_of (bytes_of i) ≡ Ok i
 unfolding read_of first_of bytes_of
 bytes_read i e = rw (record_back i e, length_exact 4 4 refl, e)
 

@@ -1,21 +1,21 @@
 -- The VERSION payload (document 01, "The handshake"; source 000, MBIM_VERSION_INFO): "two BCD numbers, MBIM 0100h at 0 and extension at 2; length exactly 4".
 -- In this order: the fields and their places; the rules; what a reader answers; what a writer gives. There is one form, at both versions.
-use Rattle.std.specs.Prelude.{ℕ, Bool, not, ◌||◌, List, [], ◌∷◌, ◌++◌, eqb, length}
+use Rattle.std.specs.Prelude.{ℕ, Bool, not, ◌||◌, List, [], ◌∷◌, ◌++◌, eqb, length, Ok, Err, Result}
 use Rattle.wire.specs.Numbers.{u16_at, digits}
 use Rattle.protocol.specs.Refusal.{wrong_version}
-use Rattle.protocol.specs.Verdict.{Rule, rule, judge, first_of, exact_length, Writing, writing}
-use Rattle.protocol.specs.declared.Verdict.{Verdict}
-use Rattle.protocol.specs.declared.Verdict.TheVariants.{Fits, Fault}
+use Rattle.protocol.specs.Verdict.{Rule, rule, judge, first_of, exact_length, Writing, writing, Verdict}
 use Rattle.version_info.specs.declared.VersionInfo.{VersionInfo}
-use Rattle.version_info.specs.declared.VersionInfoRead.{VersionInfoRead}
-use Rattle.version_info.specs.declared.VersionInfoRead.TheVariants.{Info, Refused}
+use Rattle.protocol.specs.declared.Refusal.{Refusal}
+
+abbrev pub VersionInfoRead : Type 0
+VersionInfoRead = Result VersionInfo Refusal
 
 -- ---- fields and places
 
 unfoldable pub record_at : List ℕ → VersionInfo
 record_at s = record { bcd_mbim_version = u16_at s 0; bcd_mbim_extended_version = u16_at s 2 }
 
--- ---- rules: broken, number, place; the first broken one decides
+-- ---- rules: broken, reason, place; the first broken one decides
 
 -- 0100h or 0200h
 abbrev pub is_extension : ℕ → Bool
@@ -33,8 +33,8 @@ verdict_of i = judge (rules i)
 -- ---- what a reader answers
 
 abbrev pub shown : Verdict → VersionInfo → VersionInfoRead
-shown Fits i = Info i
-shown (Fault r) i = Refused r
+shown (Ok _) i = Ok i
+shown (Err r) i = Err r
 
 unfoldable pub read_of : List ℕ → VersionInfoRead
 read_of s = shown (first_of (exact_length 4 (length s)) (verdict_of (record_at s))) (record_at s)

@@ -23,12 +23,17 @@ struct Run {
     h: u8,
 }
 
+// An output and the place in it stay two parameters here and above: each function of a struct that borrows the output
+// would have to say besides that it keeps the borrow.
+
+// One function for each width: of the wider ones each has its own short way, so a generic one would be no plainer.
 pub fn byte_at(s: &[u8], at: usize) -> u8
     ensures { result ≡ get_or s.now at 0 }
 {
     if at < s.len() { s[at] } else { 0 }
 }
 
+#[tactic(auto, using(crate::proofs::Laws::num_out, crate::proofs::Laws::two), unfolding(crate::specs::Numbers::u16_at))]
 pub fn u16_at(s: &[u8], at: usize) -> u16
     ensures { result ≡ u16_at s.now at }
 {
@@ -40,6 +45,7 @@ pub fn u16_at(s: &[u8], at: usize) -> u16
     a + 256 * b
 }
 
+#[tactic(auto, using(crate::proofs::Laws::num_out, crate::proofs::Laws::four), unfolding(crate::specs::Numbers::u32_at))]
 pub fn u32_at(s: &[u8], at: usize) -> u32
     ensures { result ≡ u32_at s.now at }
 {
@@ -56,6 +62,7 @@ pub fn u32_at(s: &[u8], at: usize) -> u32
     a + 256 * (b + 256 * (c + 256 * d))
 }
 
+#[tactic(auto, using(crate::proofs::Laws::num_out, crate::proofs::Laws::eight), unfolding(crate::specs::Numbers::u64_at, crate::specs::Numbers::u32_at))]
 pub fn u64_at(s: &[u8], at: usize) -> u64
     ensures { result ≡ u64_at s.now at }
 {
@@ -102,6 +109,7 @@ pub fn put_u64(out: &mut [u8], at: usize, v: u64)
 }
 
 // The first n bytes of t, with zeros past its end.
+#[tactic(auto, using(crate::proofs::Laws::sets_out, crate::proofs::Laws::run_past))]
 pub fn put_run(out: &mut [u8], at: usize, t: &[u8], n: usize)
     ensures { out.new ≡ sets out.old at (fitted n t.now) }
 {
@@ -243,6 +251,7 @@ fn put_eight(out: &mut [u8], at: usize, run: Run)
 
 // Through a block of its own, of which the compiler knows that it overlaps with neither: it makes one
 // copy of the two, by memmove, and leaves out the block.
+#[tactic(auto, using(crate::proofs::Laws::fitted_through, crate::proofs::Laws::fitted_all, crate::proofs::Laws::sets_all))]
 fn copy_at_once(out: &mut [u8], t: &[u8])
     requires { length out.old ≡ length t.now }
     ensures { out.new ≡ t.now }
@@ -258,14 +267,13 @@ fn copy_at_once(out: &mut [u8], t: &[u8])
 }
 
 // The first n bytes of t, where they are there and have room, byte by byte: no test for each.
+#[tactic(auto, using(crate::proofs::Laws::run_more), unfolding(crate::specs::Output::fitted))]
 fn put_each(out: &mut [u8], at: usize, t: &[u8], n: usize)
     requires { (at + n ≤ length out.old) × (n ≤ length t.now) }
     ensures { out.new ≡ sets out.old at (fitted n t.now) }
 {
-    let mut i: usize = 0;
-    while i < n {
+    for i in 0..n {
         out[at + i] = t[i];
-        i += 1;
     }
 }
 
@@ -284,14 +292,13 @@ fn put_fitting(out: &mut [u8], at: usize, t: &[u8], n: usize)
     put_zeros(out, end, n - t.len());
 }
 
+#[tactic(auto, using(crate::proofs::Laws::run_more), unfolding(crate::specs::Output::fitted))]
 fn put_zeros(out: &mut [u8], at: usize, n: usize)
     requires { at + n ≤ length out.old }
     ensures { out.new ≡ sets out.old at (fitted n []) }
 {
-    let mut i: usize = 0;
-    while i < n {
+    for i in 0..n {
         out[at + i] = 0;
-        i += 1;
     }
 }
 
@@ -302,6 +309,7 @@ fn wide(x: u8) -> u32
 }
 
 // Where all four bytes are there: one load.
+#[tactic(auto, using(crate::proofs::Laws::four), unfolding(crate::specs::Numbers::u32_at))]
 fn four_at(s: &[u8], at: usize) -> u32
     requires { at + 4 ≤ length s.now }
     ensures { result ≡ u32_at s.now at }

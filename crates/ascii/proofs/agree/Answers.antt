@@ -1,20 +1,18 @@
-use native.Mathlib.Nat.{zero-add}
-use Rattle.ascii.specs.Ascii.{agreement}
-use Rattle.ascii.proofs.Laws.{agree_more, agree_stop, agree_short, agree_end}
-use Rattle.std.proofs.Common.{rules}
+-- The pairs that agree, counted.
+use Rattle.std.proofs.Common.{rules, tests, eqb, ℕ, sym, ◌∙◌}
+use Rattle.std.specs.List.{zip}
+use Rattle.std.proofs.lemmas.Iterator.{YieldsList-from_slice, YieldsList-from_zip}
+use Rattle.std.proofs.lemmas.Iterator.Consumers.{count_from_yields_List}
+use Rattle.std.proofs.lemmas.Iterator.Search.{YieldsList-from_take_while}
+use Rattle.std.proofs.lemmas.List.Folds.{length-prefix_len}
+use Rattle.ascii.proofs.Laws.{agreement_is}
 use Rattle.ascii.proofs.agree.Goals as goal
 
-pub loop-i-init : goal.loop-i-init
-loop-i-init c = (search rules, zero-add (agreement c.args.s.now c.args.word.now))
-
-pub returns-then-s-i : goal.returns-then-s-i
-returns-then-s-i c = agree_short c.args.s.now c.args.word.now c.loop-i.i c.if-s-i.true c.loop-i.invariant.1
-
-pub returns-then-s-i-2 : goal.returns-then-s-i-2
-returns-then-s-i-2 c = agree_stop c.args.s.now c.args.word.now c.loop-i.i c.if-s-i.false c.loop-i-test.true c.if-s-i-2.true c.loop-i.invariant.1
-
-pub loop-i-preserved : goal.loop-i-preserved
-loop-i-preserved c = (search rules, agree_more c.args.s.now c.args.word.now c.loop-i.i c.if-s-i.false c.loop-i-test.true c.if-s-i-2.false c.loop-i.invariant.1)
-
 pub returns : goal.returns
-returns c = agree_end c.args.s.now c.args.word.now c.loop-i.i c.loop-i-test.false c.loop-i.invariant.1
+returns c =
+    let s = c.args.s.now in
+    let w = c.args.word.now in
+    count_from_yields_List c.take_while.result _ c.count.ensures.ran
+    (YieldsList-from_take_while _ (λ (p : ℕ × ℕ). eqb p.0 p.1) (YieldsList-from_zip (YieldsList-from_slice s (cc)) (YieldsList-from_slice w (cc))) c.take_while.ensures.closure c.take_while.ensures.done (λ x b q k. search (rules, tests)))
+    ∙ length-prefix_len (λ (p : ℕ × ℕ). eqb p.0 p.1) (zip s w)
+    ∙ sym (agreement_is s w)

@@ -1,17 +1,19 @@
-use native.Mathlib.Nat.{zero-add}
-use Rattle.ascii.specs.Ascii.{through}
-use Rattle.ascii.proofs.Laws.{through_more, through_stop, through_end}
-use Rattle.std.proofs.Common.{rules}
+-- By the first place where the byte stands.
+use Rattle.std.proofs.Common.{rules, tests, eqb, ℕ, Option, length, ◌≡◌, ◌∙◌, sym, ap}
+use Rattle.std.specs.List.{position}
+use Rattle.std.proofs.lemmas.Iterator.{YieldsList-from_slice}
+use Rattle.std.proofs.lemmas.Iterator.Search.{position_from_yields_List}
+use Rattle.ascii.proofs.Laws.{through_by, through_found}
 use Rattle.ascii.proofs.length_through.Goals as goal
 
-pub loop-i-init : goal.loop-i-init
-loop-i-init c = (search rules, zero-add (through c.args.s.now c.args.b))
+pub returns-in-Some : goal.returns-in-Some
+returns-in-Some c =
+    let s = c.args.s.now in
+    let e : c.position.result ≡ position (λ (x : ℕ). eqb x c.args.b) s = position_from_yields_List (λ (x : ℕ). eqb x c.args.b) _ _ c.position.result c.position.ensures.ran (YieldsList-from_slice s (cc)) (λ x b q k. search (rules, tests)) in
+    ap (λ (r : Option ℕ). through_by r (length s)) (sym c.in-Some.is ∙ e) ∙ through_found s c.args.b
 
-pub returns-then-s-i : goal.returns-then-s-i
-returns-then-s-i c = through_stop c.args.s.now c.args.b c.loop-i.i c.loop-i-test.true c.if-s-i.true c.loop-i.invariant.1
-
-pub loop-i-preserved : goal.loop-i-preserved
-loop-i-preserved c = (search rules, through_more c.args.s.now c.args.b c.loop-i.i c.loop-i-test.true c.if-s-i.false c.loop-i.invariant.1)
-
-pub returns : goal.returns
-returns c = through_end c.args.s.now c.args.b c.loop-i.i c.loop-i-test.false c.loop-i.invariant.1
+pub returns-in-None : goal.returns-in-None
+returns-in-None c =
+    let s = c.args.s.now in
+    let e : c.position.result ≡ position (λ (x : ℕ). eqb x c.args.b) s = position_from_yields_List (λ (x : ℕ). eqb x c.args.b) _ _ c.position.result c.position.ensures.ran (YieldsList-from_slice s (cc)) (λ x b q k. search (rules, tests)) in
+    ap (λ (r : Option ℕ). through_by r (length s)) (sym c.in-None.is ∙ e) ∙ through_found s c.args.b

@@ -4,8 +4,5 @@ use lib.ListN.{take, length-take}
 use Rattle.assembler.proofs.Laws.{information_stored}
 use Rattle.assembler.proofs.deliver.Goals as goal
 
-pub slice_bounds-put_bytes-end : goal.slice_bounds-put_bytes-end
-slice_bounds-put_bytes-end c = simp length-take (omega arith)
-
 pub returns : goal.returns
 returns c = information_stored (take c.args.gathered c.args.bytes.now) c.args.source.now c.args.out.now c.args.gathered (simp length-take (omega arith)) c.requires.1 c.put_bytes.ensures c.put_bytes-2.ensures

@@ -7,9 +7,8 @@ use Rattle.assembler.proofs.Delivered.{step_delivers}
 use Rattle.std.proofs.Common.{rules}
 use Rattle.assembler.proofs.feed_in_place.Goals as goal
 
-pub returns : goal.returns
-returns c =
+pub returns-clause-delivers : goal.returns-clause-delivers
+returns-clause-delivers c =
     let a = c.args in
     let whole : length a.bytes.now ≡ 4096 = search rules in
-    let f = c.feed_whole.ensures in
-    record { value = f.value; bytes_after = f.bytes_after; out_after = f.out_after; delivers = rw (ap (λ (x : FedInPlace). x.answer) f.value) (step_delivers (assembly_of a.progress a.bytes.now) a.piece.now (length a.out.now) whole) }
+    rw (ap (λ (x : FedInPlace). x.answer) c.feed_whole.ensures.value) (step_delivers (assembly_of a.progress a.bytes.now) a.piece.now (length a.out.now) whole)

@@ -6,33 +6,15 @@ use Rattle.cutter.proofs.put_later.Goals as goal
 pub loop-number-init : goal.loop-number-init
 loop-number-init c = begin _ _ _ _ _ _ _ c.requires.from_in_bounds.2 c.requires.from_in_bounds.0 c.requires.from_in_bounds.4
 
-pub overflow_sub-information : goal.overflow_sub-information
-overflow_sub-information c = omega arith
-
-pub overflow_add-position : goal.overflow_add-position
-overflow_add-position c = omega (arith, c.least-amount.ensures)
-
-pub slice_bounds-put_fragment-count : goal.slice_bounds-put_fragment-count
-slice_bounds-put_fragment-count c = omega (arith, c.least-amount.ensures)
-
-pub slice_bounds-put_fragment-start : goal.slice_bounds-put_fragment-start
-slice_bounds-put_fragment-start c = omega (arith, c.least-amount.ensures)
-
-pub slice_bounds-put_fragment-end : goal.slice_bounds-put_fragment-end
-slice_bounds-put_fragment-end c = omega (arith, c.least-amount.ensures)
-
 pub put_fragment-requires : goal.put_fragment-requires
 put_fragment-requires c =
     let a = c.args in
-    let n = c.least-amount.result in
-    let room = room a.message a.each a.total a.information.now a.from a.out.now a.at n c.loop-number.invariant c.loop-number-test.true c.least-amount.ensures c.requires.information_in_bounds in
-    (simp (length-take, length-drop) (omega (arith, room, c.least-amount.ensures)), simp (length-take, length-drop) (omega (arith, c.least-amount.ensures, c.requires.from_in_bounds.1)))
-
-pub loop-number-smaller : goal.loop-number-smaller
-loop-number-smaller c = omega arith
+    let n = c.min-amount.result in
+    let room = room a.message a.each a.total a.information.now a.from a.out.now a.at n c.loop-number.invariant c.loop-number-test.true c.min-amount.ensures c.requires.information_in_bounds in
+    (simp (length-take, length-drop) (omega (arith, room, c.min-amount.ensures)), simp (length-take, length-drop) (omega (arith, c.min-amount.ensures, c.requires.from_in_bounds.1)))
 
 pub loop-number-preserved : goal.loop-number-preserved
-loop-number-preserved c = turn _ _ _ _ _ _ _ c.least-amount.result c.requires.from_in_bounds.1 c.loop-number.invariant c.loop-number-test.true c.least-amount.ensures c.put_fragment.ensures
+loop-number-preserved c = turn _ _ _ _ _ _ _ c.min-amount.result c.requires.from_in_bounds.1 c.loop-number.invariant c.loop-number-test.true c.min-amount.ensures c.put_fragment.ensures
 
 pub shape_of-out : goal.shape_of-out
 shape_of-out c = let a = c.args in stored_length a.out.now a.at c.loop-number.invariant.w c.loop-number.invariant.is

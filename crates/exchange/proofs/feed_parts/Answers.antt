@@ -1,31 +1,22 @@
-use mathlib.Core.Path.{ap}
+-- Each turn feeds the next part; at the end no part is left.
+use mathlib.Core.Path.{◌≡◌, ap, ◌∙◌}
+use Prim.Native.Nat.{◌-◌}
 use native.Mathlib.Omega.{arith}
-use Rattle.exchange.specs.Collected.{Collected, told}
-use Rattle.exchange.proofs.Collect.{begin, turn, finish}
+use Rattle.exchange.specs.Messages.{parts}
+use Rattle.exchange.specs.Collected.{Collected, before, collected, told}
+use Rattle.exchange.proofs.Collect.{now, turn, finish}
 use Rattle.exchange.proofs.feed_parts.Goals as goal
 
-pub loop-fed_parts-init : goal.loop-fed_parts-init
-loop-fed_parts-init c = begin _ _ _ _ _ _
-
-pub part_end-end-requires : goal.part_end-end-requires
-part_end-end-requires c = c.loop-fed_parts.invariant.within
-
-pub slice_bounds-feed_in_place-count : goal.slice_bounds-feed_in_place-count
-slice_bounds-feed_in_place-count c = omega (arith, c.part_end-end.ensures)
-
-pub slice_bounds-feed_in_place-start : goal.slice_bounds-feed_in_place-start
-slice_bounds-feed_in_place-start c = omega (arith, c.part_end-end.ensures)
-
-pub slice_bounds-feed_in_place-end : goal.slice_bounds-feed_in_place-end
-slice_bounds-feed_in_place-end c = omega (arith, c.part_end-end.ensures, c.loop-fed_parts.invariant.within)
-
-pub loop-fed_parts-preserved : goal.loop-fed_parts-preserved
-loop-fed_parts-preserved c = turn _ _ _ _ c.loop-fed_parts.invariant c.loop-fed_parts-test.true c.part_end-end.ensures c.feed_in_place-fed.ensures.value c.feed_in_place-fed.ensures.bytes_after c.feed_in_place-fed.ensures.out_after c.feed_in_place-fed.auto.out
-
-pub shape_of-out : goal.shape_of-out
-shape_of-out c = c.loop-fed_parts.invariant.same
+pub loop-k-preserved : goal.loop-k-preserved
+loop-k-preserved c =
+    let l = c.loop-k in
+    let f = c.feed_in_place-fed.ensures in
+    turn l.fed l.bytes l.out l.rest.now c.args.size c.args.count l.k c.min.result c.loop-k-test.true c.min.ensures c.split_at.ensures.front c.split_at.ensures.back f.value f.bytes_after f.out_after ∙ l.invariant
 
 pub returns : goal.returns
 returns c =
-    let e = finish _ _ _ _ c.loop-fed_parts.invariant c.loop-fed_parts-test.false in
+    let l = c.loop-k in
+    let a = c.args in
+    let e : now l.fed l.bytes l.out ≡ collected (before a.progress a.bytes.now a.out.now) (parts a.count a.size a.stream.now) =
+    finish (now l.fed l.bytes l.out) a.size (a.count - l.k) l.rest.now (omega arith) ∙ l.invariant in
     record { value = ap told e; bytes_after = ap (λ (r : Collected). r.assembly.bytes) e; out_after = ap (λ (r : Collected). r.output) e }

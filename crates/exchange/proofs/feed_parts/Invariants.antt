@@ -1,10 +1,10 @@
--- The loop's invariant: some parts are fed, and those from `at` on are still to come.
+-- The loop's invariant: feeding what is left comes to what feeding all of it does.
+use mathlib.Core.Path.{◌≡◌}
 use Prim.Native.Nat.{◌-◌}
-use Rattle.exchange.proofs.Collect.{now, Going}
+use Rattle.exchange.specs.Messages.{parts}
+use Rattle.exchange.specs.Collected.{collected}
+use Rattle.exchange.proofs.Collect.{now}
 use Rattle.exchange.proofs.feed_parts.Given as goal
 
-abbrev pub invariant-loop-fed_parts : goal.invariant-loop-fed_parts
-invariant-loop-fed_parts l = Going (now l.initial.fed l.initial.bytes l.initial.out) l.stream l.size l.count l.fed l.bytes l.out l.at l.fed_parts
-
-abbrev pub decreases-loop-fed_parts : goal.decreases-loop-fed_parts
-decreases-loop-fed_parts l = l.count - l.fed_parts
+abbrev pub invariant-loop-k : goal.invariant-loop-k
+invariant-loop-k l = collected (now l.fed l.bytes l.out) (parts (l.count - l.k) l.size l.rest) ≡ collected (now l.initial.fed l.initial.bytes l.initial.out) (parts l.count l.size l.stream)

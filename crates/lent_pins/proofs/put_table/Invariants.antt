@@ -1,6 +1,5 @@
 -- One row more at each turn.
 use mathlib.Core.Path.{◌≡◌}
-use Prim.Native.Nat.{◌-◌, ◌≤◌}
 use lib.Seq.{sets}
 use Rattle.folds.specs.Folds.{joined}
 use Rattle.pin_entry.specs.Meaning.{table_of}
@@ -8,7 +7,4 @@ use Rattle.lent_pins.specs.LentPins.{row_bytes_at}
 use Rattle.lent_pins.proofs.put_table.Given as goal
 
 abbrev pub invariant-loop-i : goal.invariant-loop-i
-invariant-loop-i l = (l.i ≤ 17) × (l.memory ≡ sets l.initial.memory 0 (joined (row_bytes_at (table_of l.table)) l.i))
-
-abbrev pub decreases-loop-i : goal.decreases-loop-i
-decreases-loop-i l = 17 - l.i
+invariant-loop-i l = l.memory ≡ sets l.initial.memory 0 (joined (row_bytes_at (table_of l.table)) l.i)

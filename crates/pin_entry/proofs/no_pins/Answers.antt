@@ -5,4 +5,4 @@ use Rattle.pin_entry.proofs.no_pins.Goals as goal
 
 pub returns : goal.returns
 unfolding table_of
-returns c = all_absent 17 c.absent_row-row.result c.absent_row-row.ensures
+returns c = all_absent 17 c.absent_row.result c.absent_row.ensures

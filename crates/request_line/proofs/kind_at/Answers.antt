@@ -1,5 +1,7 @@
--- The words in their order.
+-- One word more is tried.
+use Rattle.std.proofs.Common.{arith}
+use Rattle.request_line.proofs.Requests.{kinds_more}
 use Rattle.request_line.proofs.kind_at.Goals as goal
 
-pub returns : goal.returns
-returns c = rw (c.also_word.ensures, c.also_word-set_pin.ensures, c.also_word-services.ensures, c.also_word-signal.ensures, c.also_word-registration.ensures, c.also_word-version.ensures, c.also_word-packet.ensures)
+pub loop-kind-preserved : goal.loop-kind-preserved
+loop-kind-preserved c = kinds_more c.loop-kind.reached c.also_word-reached.result _ c.args.line.now c.kind_text.result.now c.loop-kind.kind-index (omega arith) c.kind_text.ensures.value c.also_word-reached.ensures c.loop-kind.invariant

@@ -5,4 +5,4 @@ use Rattle.rows.proofs.put_refusal.Goals as goal
 
 pub returns : goal.returns
 unfolding refusal_line
-returns c = put_then c.put_text-number.ensures (put_then c.put_field-place.ensures (put_then c.put_field-end.ensures c.put_text.ensures))
+returns c = rw (← c.from.ensures, ← c.from-2.ensures) (put_then c.put_text-number.ensures (put_then c.put_field-place.ensures (put_then c.put_field-end.ensures c.put_text.ensures)))

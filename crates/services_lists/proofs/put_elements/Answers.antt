@@ -1,5 +1,6 @@
-use mathlib.Core.Path.{refl, sym, ap, ◌∙◌}
-use Prim.Native.Nat.{◌+◌, ◌*◌, ◌≤◌, ◌<◌}
+-- One element more: its numbers, and its CIDs, which stand behind those before it and have room.
+use mathlib.Core.Path.{◌≡◌, refl, ap, ◌∙◌}
+use Prim.Native.Nat.{ℕ, ◌+◌, ◌*◌, ◌≤◌, ◌<◌}
 use native.Mathlib.Nat.{le_antisymm}
 use native.Mathlib.Omega.{arith}
 use lib.ListN.{length}
@@ -15,68 +16,66 @@ use Rattle.services_lists.proofs.put_elements.Goals as goal
 
 pub loop-i-init : goal.loop-i-init
 unfolding joined start_of sum_of
-loop-i-init c = (omega arith, (refl, (omega (arith, c.pair_place-start.ensures, c.requires.0), refl)))
+loop-i-init c = (refl, omega (arith, c.pair_place-start.ensures, c.args.elements.counted), refl)
 
 pub cid_count-n-requires : goal.cid_count-n-requires
-cid_count-n-requires c = omega (arith, c.loop-i-test.true, c.requires.0)
+cid_count-n-requires c = omega (arith, c.loop-i-test.true, c.args.elements.counted)
 
 pub slice_bounds-put_words-end : goal.slice_bounds-put_words-end
-slice_bounds-put_words-end c = omega (arith, c.loop-i-test.true, c.requires.0)
+slice_bounds-put_words-end c = omega (arith, c.loop-i-test.true, c.args.elements.counted)
 
 pub put_words-requires : goal.put_words-requires
 put_words-requires c =
     let v = c.loop-i in
-    let f = c.args.fields.now in
-    omega (arith, element_inside c.args.fields.now c.args.cids.now c.loop-i.i (omega (arith, c.loop-i-test.true, c.requires.0)) c.loop-i.invariant.1.1.0 c.cid_count-n.ensures c.requires.1.1, simp length-sets at (ap length v.invariant.1.1.1), part_length f (7 * v.i) 7 (omega (arith, c.loop-i-test.true, c.requires.0)))
+    let f = c.args.elements.fields.now in
+    omega (arith, element_inside c.args.elements.fields.now c.args.cids.now c.loop-i.i (omega (arith, c.loop-i-test.true, c.args.elements.counted)) c.loop-i.invariant.1 c.cid_count-n.ensures c.requires.room, simp length-sets at (ap length v.invariant.2), part_length f (7 * v.i) 7 (omega (arith, c.loop-i-test.true, c.args.elements.counted)))
 
 pub overflow_add-start : goal.overflow_add-start
-overflow_add-start c = let h = element_inside c.args.fields.now c.args.cids.now c.loop-i.i (omega (arith, c.loop-i-test.true, c.requires.0)) c.loop-i.invariant.1.1.0 c.cid_count-n.ensures c.requires.1.1 in omega (arith, h)
+overflow_add-start c = let h = element_inside c.args.elements.fields.now c.args.cids.now c.loop-i.i (omega (arith, c.loop-i-test.true, c.args.elements.counted)) c.loop-i.invariant.1 c.cid_count-n.ensures c.requires.room in omega (arith, h)
 
 pub overflow_add-from : goal.overflow_add-from
-overflow_add-from c = let h = cids_inside c.args.fields.now c.args.count c.loop-i.i c.loop-i-test.true c.loop-i.invariant.1.0 c.cid_count-n.ensures c.requires.1.0 in omega (arith, h)
+overflow_add-from c = let h = cids_inside c.args.elements.fields.now (count_of c.args.elements.fields.now) c.loop-i.i (omega (arith, c.loop-i-test.true, c.args.elements.counted)) c.loop-i.invariant.0 c.cid_count-n.ensures c.requires.given in omega (arith, h)
 
 pub offset_bounds-cids-from : goal.offset_bounds-cids-from
-offset_bounds-cids-from c = let h = cids_inside c.args.fields.now c.args.count c.loop-i.i c.loop-i-test.true c.loop-i.invariant.1.0 c.cid_count-n.ensures c.requires.1.0 in omega (arith, h)
+offset_bounds-cids-from c = let h = cids_inside c.args.elements.fields.now (count_of c.args.elements.fields.now) c.loop-i.i (omega (arith, c.loop-i-test.true, c.args.elements.counted)) c.loop-i.invariant.0 c.cid_count-n.ensures c.requires.given in omega (arith, h)
 
 pub slice_bounds-put_words-end-in-loop-i : goal.slice_bounds-put_words-end-in-loop-i
-slice_bounds-put_words-end-in-loop-i c = cids_inside c.args.fields.now c.args.count c.loop-i.i c.loop-i-test.true c.loop-i.invariant.1.0 c.cid_count-n.ensures c.requires.1.0
+slice_bounds-put_words-end-in-loop-i c = cids_inside c.args.elements.fields.now (count_of c.args.elements.fields.now) c.loop-i.i (omega (arith, c.loop-i-test.true, c.args.elements.counted)) c.loop-i.invariant.0 c.cid_count-n.ensures c.requires.given
 
 pub put_words-requires-in-loop-i : goal.put_words-requires-in-loop-i
 put_words-requires-in-loop-i c =
     let v = c.loop-i in
     let n = c.cid_count-n.result in
-    let inside = part_length c.args.cids.now v.from n (cids_inside c.args.fields.now c.args.count c.loop-i.i c.loop-i-test.true c.loop-i.invariant.1.0 c.cid_count-n.ensures c.requires.1.0) in
-    omega (arith, element_inside c.args.fields.now c.args.cids.now c.loop-i.i (omega (arith, c.loop-i-test.true, c.requires.0)) c.loop-i.invariant.1.1.0 c.cid_count-n.ensures c.requires.1.1, inside, simp length-sets at (ap length v.invariant.1.1.1), simp length-sets at (ap length c.put_words.ensures))
+    let inside = part_length c.args.cids.now v.from n (cids_inside c.args.elements.fields.now (count_of c.args.elements.fields.now) c.loop-i.i (omega (arith, c.loop-i-test.true, c.args.elements.counted)) c.loop-i.invariant.0 c.cid_count-n.ensures c.requires.given) in
+    omega (arith, element_inside c.args.elements.fields.now c.args.cids.now c.loop-i.i (omega (arith, c.loop-i-test.true, c.args.elements.counted)) c.loop-i.invariant.1 c.cid_count-n.ensures c.requires.room, inside, simp length-sets at (ap length v.invariant.2), simp length-sets at (ap length c.put_words.ensures))
 
 pub overflow_mul-start : goal.overflow_mul-start
-overflow_mul-start c = let h = element_inside c.args.fields.now c.args.cids.now c.loop-i.i (omega (arith, c.loop-i-test.true, c.requires.0)) c.loop-i.invariant.1.1.0 c.cid_count-n.ensures c.requires.1.1 in omega (arith, h)
+overflow_mul-start c = let h = element_inside c.args.elements.fields.now c.args.cids.now c.loop-i.i (omega (arith, c.loop-i-test.true, c.args.elements.counted)) c.loop-i.invariant.1 c.cid_count-n.ensures c.requires.room in omega (arith, h)
 
 pub overflow_add-start-in-loop-i : goal.overflow_add-start-in-loop-i
-overflow_add-start-in-loop-i c = let h = element_inside c.args.fields.now c.args.cids.now c.loop-i.i (omega (arith, c.loop-i-test.true, c.requires.0)) c.loop-i.invariant.1.1.0 c.cid_count-n.ensures c.requires.1.1 in omega (arith, h)
+overflow_add-start-in-loop-i c = let h = element_inside c.args.elements.fields.now c.args.cids.now c.loop-i.i (omega (arith, c.loop-i-test.true, c.args.elements.counted)) c.loop-i.invariant.1 c.cid_count-n.ensures c.requires.room in omega (arith, h)
 
 pub overflow_add-from-in-loop-i : goal.overflow_add-from-in-loop-i
-overflow_add-from-in-loop-i c = let h = cids_inside c.args.fields.now c.args.count c.loop-i.i c.loop-i-test.true c.loop-i.invariant.1.0 c.cid_count-n.ensures c.requires.1.0 in omega (arith, h)
+overflow_add-from-in-loop-i c = let h = cids_inside c.args.elements.fields.now (count_of c.args.elements.fields.now) c.loop-i.i (omega (arith, c.loop-i-test.true, c.args.elements.counted)) c.loop-i.invariant.0 c.cid_count-n.ensures c.requires.given in omega (arith, h)
 
 pub loop-i-preserved : goal.loop-i-preserved
 loop-i-preserved c =
     let a = c.args in
     let v = c.loop-i in
-    let f = a.fields.now in
+    let f = a.elements.fields.now in
     let cids = a.cids.now in
     let n = c.cid_count-n.result in
     let is = c.cid_count-n.ensures in
     let l = c.loop-i-test.true in
-    let below : v.i < count_of f = omega (arith, l, c.requires.0) in
-    let inside : v.from + n ≤ length cids = cids_inside f a.count v.i l v.invariant.1.0 is c.requires.1.0 in
-    let stored = element_put 0 f cids v.out v.i v.start v.from n below v.invariant.1.0 is inside c.put_words.ensures c.put_words-in-loop-i.ensures in
-    let next = start_more 0 f cids v.i below v.invariant.1.1.0 in
-    (omega (arith, l), (omega (arith, v.invariant.1.0, is, sum_next (cids_counted f) v.i), (omega (arith, is, next), piece_next (record_of 0 f cids) v.i a.out.now v.invariant.1.1.1 v.invariant.1.1.0 stored)))
-
-pub shape_of-out : goal.shape_of-out
-shape_of-out c = ap length c.loop-i.invariant.1.1.1 ∙ simp length-sets
+    let below : v.i < count_of f = omega (arith, l, c.args.elements.counted) in
+    let inside : v.from + n ≤ length cids = cids_inside f (count_of f) v.i below v.invariant.0 is c.requires.given in
+    let stored = element_put 0 f cids v.out v.i v.start v.from n below v.invariant.0 is inside c.put_words.ensures c.put_words-in-loop-i.ensures in
+    let next = start_more 0 f cids v.i below v.invariant.1 in
+    (omega (arith, v.invariant.0, is, sum_next (cids_counted f) v.i), omega (arith, is, next), piece_next (record_of 0 f cids) v.i a.out.now v.invariant.2 v.invariant.1 stored)
 
 pub returns : goal.returns
 returns c =
     let a = c.args in
-    let p = record_of 0 a.fields.now a.cids.now in
-    c.loop-i.invariant.1.1.1 ∙ (λ t. sets a.out.now (fixed_part (sym c.requires.0 t)) (joined (piece p) (le_antisymm c.loop-i.invariant.0 c.loop-i-test.false t)))
+    let f = a.elements.fields.now in
+    let n : c.loop-i.i ≡ count_of f = le_antisymm c.loop-i.auto.i-end c.loop-i-test.false ∙ a.elements.counted in
+    c.loop-i.invariant.2 ∙ ap (λ (k : ℕ). sets a.out.now (fixed_part (count_of f)) (joined (piece (record_of 0 f a.cids.now)) k)) n

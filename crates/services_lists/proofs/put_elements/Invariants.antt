@@ -1,6 +1,5 @@
--- The invariant: the elements passed are stored, and where the next one and its CIDs start is known.
-use mathlib.Core.Path.{◌≡◌}
-use Prim.Native.Nat.{◌≤◌, ◌-◌}
+-- The elements passed are stored, and where the next one and its CIDs start is known.
+use Rattle.std.proofs.Common.{◌≡◌}
 use lib.Seq.{sets}
 use Rattle.folds.specs.Folds.{joined}
 use Rattle.device_services.specs.DeviceServices.{fixed_part}
@@ -10,7 +9,5 @@ use Rattle.services_lists.proofs.put_elements.Given as goal
 
 abbrev pub invariant-loop-i : goal.invariant-loop-i
 invariant-loop-i l =
-    (l.i ≤ l.count) × ((l.from ≡ cids_before l.fields l.i) × ((l.start ≡ start_of (record_of 0 l.fields l.cids) l.i) × (l.out ≡ sets l.initial.out (fixed_part (count_of l.fields)) (joined (piece (record_of 0 l.fields l.cids)) l.i))))
-
-abbrev pub decreases-loop-i : goal.decreases-loop-i
-decreases-loop-i l = l.count - l.i
+    (l.from ≡ cids_before l.elements.fields.now l.i) × (l.start ≡ start_of (record_of 0 l.elements.fields.now l.cids) l.i)
+    × (l.out ≡ sets l.initial.out (fixed_part (count_of l.elements.fields.now)) (joined (piece (record_of 0 l.elements.fields.now l.cids)) l.i))

@@ -1,13 +1,9 @@
 -- The loop's invariant: i zeros stand in the output.
 use mathlib.Core.Path.{◌≡◌}
 use mathlib.Core.List.{[]}
-use Prim.Native.Nat.{◌≤◌, ◌-◌}
 use lib.Seq.{sets}
 use Rattle.wire.specs.Output.{fitted}
 use Rattle.wire.proofs.put_zeros.Given as goal
 
 abbrev pub invariant-loop-i : goal.invariant-loop-i
-invariant-loop-i l = (l.i ≤ l.n) × (l.out ≡ sets l.initial.out l.at (fitted l.i []))
-
-abbrev pub decreases-loop-i : goal.decreases-loop-i
-decreases-loop-i l = l.n - l.i
+invariant-loop-i l = l.out ≡ sets l.initial.out l.at (fitted l.i [])

@@ -4,4 +4,4 @@ use Rattle.assembler.proofs.Assembly.empty.Goals as goal
 
 pub returns : goal.returns
 unfolding empty
-returns c = rw c.none-progress.ensures
+returns c = rw c.none.ensures

@@ -4,10 +4,6 @@ use Rattle.entry_rows.specs.Services.{services_text}
 use Rattle.rows.proofs.Laws.{put_then}
 use Rattle.entry_rows.proofs.services_rows.put.Goals as goal
 
-pub returns-in-Refused : goal.returns-in-Refused
-unfolding services_text
-returns-in-Refused c = rw (← c.read_with.ensures, c.in-Refused.is) c.put_refused.ensures
-
-pub returns-in-Info : goal.returns-in-Info
+pub returns-in-Ok : goal.returns-in-Ok
 unfolding services_text header
-returns-in-Info c = rw (← c.read_with.ensures, c.in-Info.is) (put_then c.put_text-count.ensures (put_then c.put_row-sessions.ensures (put_then c.put_row-list.ensures c.put_elements.ensures)))
+returns-in-Ok c = rw (← c.read_with.ensures, c.in-Ok.is) (put_then c.put_text-count.ensures (put_then c.put_row-sessions.ensures (put_then c.put_row-list.ensures c.put_elements.ensures)))

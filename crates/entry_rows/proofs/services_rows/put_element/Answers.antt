@@ -1,11 +1,7 @@
 -- The rows of the element, one behind the other, and then those of its CIDs.
-use mathlib.Core.Path.{◌∙◌}
 use Rattle.entry_rows.specs.Services.{element_rows}
 use Rattle.rows.proofs.Laws.{put_then}
 use Rattle.entry_rows.proofs.services_rows.put_element.Goals as goal
-
-pub shape_of-out : goal.shape_of-out
-shape_of-out c = c.put_cids.auto.out ∙ c.put_indexed_row-list.auto.out ∙ c.put_indexed_row-cids.auto.out ∙ c.put_indexed_row-instances.auto.out ∙ c.put_id_row-payloads.auto.out
 
 pub returns : goal.returns
 unfolding element_rows

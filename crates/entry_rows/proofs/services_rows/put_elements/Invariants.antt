@@ -1,11 +1,7 @@
 -- The loop's invariant: the rows of the first i elements stand in the output.
-use Prim.Native.Nat.{◌-◌, ◌≤◌}
 use Rattle.rows.specs.Rows.{Put}
 use Rattle.entry_rows.specs.Services.{elements_rows}
 use Rattle.entry_rows.proofs.services_rows.put_elements.Given as goal
 
 abbrev pub invariant-loop-i : goal.invariant-loop-i
-invariant-loop-i l = (l.i ≤ l.count) × Put l.initial.out l.at (elements_rows l.payload l.i) l.out l.next
-
-abbrev pub decreases-loop-i : goal.decreases-loop-i
-decreases-loop-i l = l.count - l.i
+invariant-loop-i l = Put l.initial.out l.at (elements_rows l.payload l.i) l.out l.next

@@ -1,11 +1,7 @@
 -- Five rows, one behind the other.
-use mathlib.Core.Path.{◌∙◌}
 use Rattle.entry_rows.specs.Signals.{entry_rows}
 use Rattle.rows.proofs.Laws.{put_then}
 use Rattle.entry_rows.proofs.signal_rows.put_entry.Goals as goal
-
-pub shape_of-out : goal.shape_of-out
-shape_of-out c = c.put_indexed_row.auto.out ∙ c.put_indexed_row-system.auto.out ∙ c.put_indexed_row-ratio.auto.out ∙ c.put_indexed_row-strength.auto.out ∙ c.put_indexed_row-snr.auto.out
 
 pub returns : goal.returns
 unfolding entry_rows

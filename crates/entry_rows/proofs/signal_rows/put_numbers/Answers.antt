@@ -1,11 +1,7 @@
 -- Five rows, one behind the other.
-use mathlib.Core.Path.{◌∙◌}
 use Rattle.entry_rows.specs.Signals.{number_rows}
 use Rattle.rows.proofs.Laws.{put_then}
 use Rattle.entry_rows.proofs.signal_rows.put_numbers.Goals as goal
-
-pub shape_of-out : goal.shape_of-out
-shape_of-out c = c.put_row.auto.out ∙ c.put_row-errors.auto.out ∙ c.put_row-rssi.auto.out ∙ c.put_row-interval.auto.out ∙ c.put_row-rate.auto.out
 
 pub returns : goal.returns
 unfolding number_rows

@@ -18,7 +18,7 @@ returns c =
     let p = c.args.progress in
     let s = c.args.piece.now in
     let n = length c.args.out.now in
-    let room = c.requires.0 in
+    let room = c.requires.room in
     let a = assembly_of p (buffer_in m) in
     let f = rw (whole_step p m s n room) at c.feed_lent-fed.ensures in
     let q = c.feed_lent-fed.result.progress in
@@ -27,7 +27,7 @@ returns c =
     let k = left_kind a s q (rw (ap (λ (x : FedInPlace). x.progress) f.value) (left a s n)) in
     record {
       value = ap (λ (x : FedInPlace). x.answer) f.value;
-      memory_after = put_back m b (progress_bytes q) room (search rules) (length_progress q) (c.put_changed.ensures ∙ changed_all m (b ++ drop 4096 (drop 48 m)) p q room c.requires.1 k)
+      memory_after = put_back m b (progress_bytes q) room (search rules) (length_progress q) (c.put_changed.ensures ∙ changed_all m (b ++ drop 4096 (drop 48 m)) p q room c.requires.message_value k)
           ∙ (λ i. over (progress_bytes (f.value i).progress ++ e i) m);
       out_after = f.out_after;
     }

@@ -4,10 +4,6 @@ use Rattle.payload_rows.specs.Packets.{packet_text}
 use Rattle.rows.proofs.Laws.{put_then}
 use Rattle.payload_rows.proofs.packet_rows.put.Goals as goal
 
-pub returns-in-Refused : goal.returns-in-Refused
-unfolding packet_text
-returns-in-Refused c = rw (← c.read.ensures, c.in-Refused.is) c.put_refused.ensures
-
-pub returns-in-Info : goal.returns-in-Info
+pub returns-in-Ok : goal.returns-in-Ok
 unfolding packet_text header
-returns-in-Info c = rw (← c.read.ensures, c.in-Info.is) (put_then c.put_text-error.ensures (put_then c.put_row-state.ensures (put_then c.put_row-class.ensures c.put_rows.ensures)))
+returns-in-Ok c = rw (← c.read.ensures, c.in-Ok.is) (put_then c.put_text-error.ensures (put_then c.put_row-state.ensures (put_then c.put_row-class.ensures c.put_rows.ensures)))

@@ -4,10 +4,6 @@ use Rattle.payload_rows.specs.PinInfos.{pin_info_text}
 use Rattle.rows.proofs.Laws.{put_then}
 use Rattle.payload_rows.proofs.pin_info_rows.put.Goals as goal
 
-pub returns-in-Refused : goal.returns-in-Refused
-unfolding pin_info_text
-returns-in-Refused c = rw (← c.read.ensures, c.in-Refused.is) c.put_refused.ensures
-
-pub returns-in-Info : goal.returns-in-Info
+pub returns-in-Ok : goal.returns-in-Ok
 unfolding pin_info_text header
-returns-in-Info c = rw (← c.read.ensures, c.in-Info.is) (put_then c.put_text-pin_type.ensures (put_then c.put_row-state.ensures (put_then c.put_row-attempts.ensures c.put_row.ensures)))
+returns-in-Ok c = rw (← c.read.ensures, c.in-Ok.is) (put_then c.put_text-pin_type.ensures (put_then c.put_row-state.ensures (put_then c.put_row-attempts.ensures c.put_row.ensures)))

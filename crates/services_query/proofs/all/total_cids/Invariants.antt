@@ -1,12 +1,9 @@
--- The invariant: the sum of the counts passed; no count is over 32 bits.
+-- The sum of the counts passed; no count is over 32 bits.
 use mathlib.Core.Path.{◌≡◌}
-use Prim.Native.Nat.{◌*◌, ◌≤◌, ◌-◌}
+use Prim.Native.Nat.{◌*◌, ◌≤◌}
 use Rattle.folds.specs.Folds.{sum_of}
 use Rattle.services_query.specs.ServicesQuery.{cids_of_element}
 use Rattle.services_query.proofs.all.total_cids.Given as goal
 
 abbrev pub invariant-loop-i : goal.invariant-loop-i
-invariant-loop-i l = (l.i ≤ l.count) × ((l.total ≡ sum_of (cids_of_element l.payload) l.i) × (l.total ≤ l.i * 4294967295))
-
-abbrev pub decreases-loop-i : goal.decreases-loop-i
-decreases-loop-i l = l.count - l.i
+invariant-loop-i l = (l.total ≡ sum_of (cids_of_element l.payload) l.i) × (l.total ≤ l.i * 4294967295)

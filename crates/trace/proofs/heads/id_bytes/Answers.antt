@@ -1,8 +1,6 @@
 -- The words at the front of the room, which they fill.
-use mathlib.Core.Path.{ap, ◌∙◌}
-use mathlib.Core.List.{List, ◌++◌, append-nil}
-use Prim.Native.Nat.{ℕ}
-use native.Mathlib.Omega.{arith}
+use Rattle.std.proofs.Common.{ℕ, List, ◌++◌, replicate, ap, ◌∙◌, arith}
+use mathlib.Core.List.{append-nil}
 use lib.ListN.{length, drop_of_length-le}
 use Rattle.wire.specs.Output.{over}
 use Rattle.wire.proofs.Laws.{sets_over}
@@ -15,5 +13,5 @@ unfolding over
 returns c =
     let id = id_bytes c.args.service in
     let n = length_id c.args.service in
-    let e = c.id_room-bytes.ensures in
-    c.put_id.ensures ∙ sets_over id c.id_room-bytes.result (omega (arith, e, n)) ∙ ap (λ (x : List ℕ). id ++ x) (drop_of_length-le c.id_room-bytes.result {i = length id} (omega (arith, e, n))) ∙ append-nil id
+    let room = replicate 16 0 in
+    c.put_id.ensures ∙ sets_over id room (omega (arith, n)) ∙ ap (λ (x : List ℕ). id ++ x) (drop_of_length-le room {i = length id} (omega (arith, n))) ∙ append-nil id

@@ -1,6 +1,0 @@
--- The answer of the function behind it, in plain members.
-use Rattle.culvertroost.proofs.assembly.cvr_receive.Goals as goal
-
-pub returns : goal.returns
-returns c =
-    rw (← c.receive.ensures.value) (record { value = c.receive_info.ensures; memory_after = c.receive.ensures.memory_after; out_after = c.receive.ensures.out_after })

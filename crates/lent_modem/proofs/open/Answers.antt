@@ -1,6 +1,0 @@
--- A restart.
-use Rattle.lent_modem.proofs.open.Goals as goal
-
-pub returns : goal.returns
-returns c =
-    c.restart.ensures

@@ -1,8 +1,0 @@
--- The room lies within the output.
-use mathlib.Core.Path.{sym}
-use native.Mathlib.Omega.{arith}
-use lib.Seq.{length-take-le}
-use Rattle.message_samples.proofs.hosts.next_command.Goals as goal
-
-pub slice_bounds-cvr_host_next_command-end-2 : goal.slice_bounds-cvr_host_next_command-end-2
-slice_bounds-cvr_host_next_command-end-2 c = sym (length-take-le _ _ (omega (arith, c.least-room.ensures)))

@@ -1,9 +1,0 @@
--- What came has room.
-use Rattle.std.proofs.Common.{◌≤◌, ◌-◌, length}
-use Rattle.payload_samples.proofs.read_full.Given as goal
-
-abbrev pub invariant-loop-done : goal.invariant-loop-done
-invariant-loop-done l = l.done ≤ length l.bytes
-
-abbrev pub decreases-loop-done : goal.decreases-loop-done
-decreases-loop-done l = length l.bytes - l.done

@@ -1,9 +1,0 @@
--- The index grows to the count of CIDs.
-use Prim.Native.Nat.{◌≤◌, ◌-◌}
-use Rattle.payload_samples.proofs.services.cids_at.Given as goal
-
-abbrev pub invariant-loop-i : goal.invariant-loop-i
-invariant-loop-i l = l.i ≤ 128
-
-abbrev pub decreases-loop-i : goal.decreases-loop-i
-decreases-loop-i l = 128 - l.i

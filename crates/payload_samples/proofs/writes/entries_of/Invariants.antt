@@ -1,9 +1,0 @@
--- The index grows to the count of entries.
-use Prim.Native.Nat.{◌≤◌, ◌-◌}
-use Rattle.payload_samples.proofs.writes.entries_of.Given as goal
-
-abbrev pub invariant-loop-i : goal.invariant-loop-i
-invariant-loop-i l = l.i ≤ 16
-
-abbrev pub decreases-loop-i : goal.decreases-loop-i
-decreases-loop-i l = 16 - l.i

@@ -1,7 +1,0 @@
--- Each field at its place.
-use Rattle.pin.specs.SetPin.{record_at}
-use Rattle.pin.proofs.set_pin.record_at.Goals as goal
-
-pub returns : goal.returns
-unfolding record_at
-returns c = rw (c.u32_at.ensures, c.u32_at-2.ensures)
