@@ -76,10 +76,36 @@ impl From<Result<Option<DeviceService>, Refusal>> for ElementInfo {
         ensures { result ≡ element_info answer }
     {
         match answer {
-            Ok(Some(element)) => ElementInfo {
+            // By its numbers: as one struct it would go through memory, and a word of it in two parts, since a
+            // refusal's reason has the same place.
+            Ok(
+                Some(
+                    DeviceService {
+                        device_service_id: ServiceId {
+                            word0,
+                            word1,
+                            word2,
+                            word3,
+                        },
+                        dss_payload,
+                        max_dss_instances,
+                        cid_count,
+                    },
+                ),
+            ) => ElementInfo {
                 refusal: no_refusal(),
                 listed: 1,
-                element,
+                element: DeviceService {
+                    device_service_id: ServiceId {
+                        word0,
+                        word1,
+                        word2,
+                        word3,
+                    },
+                    dss_payload,
+                    max_dss_instances,
+                    cid_count,
+                },
             },
             Ok(None) => ElementInfo {
                 refusal: no_refusal(),

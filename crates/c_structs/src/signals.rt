@@ -35,10 +35,13 @@ impl From<SignalStateShown> for SignalStateAnswer {
         ensures { result ≡ answer_of shown }
     {
         match shown.answer {
-            Ok(fields) => SignalStateAnswer {
-                refusal: no_refusal(),
-                info: info_of(fields, shown.entries),
-            },
+            Ok(fields) => {
+                let info = info_of(fields, shown.entries);
+                SignalStateAnswer {
+                    refusal: no_refusal(),
+                    info,
+                }
+            }
             Err(refusal) => SignalStateAnswer::from(refusal),
         }
     }

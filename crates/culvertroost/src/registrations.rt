@@ -1,29 +1,24 @@
 // REGISTER_STATE, for C. The number of the version is judged before anything else, then that of the
 // reader's choice.
-ghost use Rattle.std.specs.Prelude.{◌≡◌};
-ghost use Rattle.c_structs.specs.Answers.{written_answer};
+ghost use Rattle.std.specs.Prelude.{◌≡◌, Err};
+ghost use Rattle.c_structs.specs.Answers.{at_version, written_answer};
 ghost use Rattle.c_structs.specs.Registrations.{answer_of};
+ghost use Rattle.registration.specs.Registration.{read_with};
 ghost use Rattle.culvertroost.specs.Registrations.{read_at, read_chosen, write_at};
 
 use c_structs::WrittenAnswer;
 use c_structs::choices::reading_at;
 use c_structs::registrations::{RegistrationAnswer, RegistrationInfo, record_of};
 use handshake::version_at;
-use protocol::{Refusal, Written};
-use registration::{Registration, RegistrationTexts, read, read_with};
+use pairs::ZeroSize;
+use protocol::Written;
+use registration::read_with;
 use registration_writer::write;
 
 pub fn cvr_registration_read(version: u16, payload: &[u8]) -> RegistrationAnswer
     ensures { result ≡ answer_of (read_at version payload.now) }
 {
-    RegistrationAnswer::from(read_at(version, payload))
-}
-
-fn read_at(version: u16, payload: &[u8]) -> Result<(Registration, RegistrationTexts), Refusal>
-    ensures { result ≡ read_at version payload.now }
-{
-    let version = version_at(version)?;
-    read(version, payload)
+    answer_by(version, ZeroSize::Absent, payload)
 }
 
 pub fn cvr_registration_read_with(
@@ -33,18 +28,22 @@ pub fn cvr_registration_read_with(
 ) -> RegistrationAnswer
     ensures { result ≡ answer_of (read_chosen version zero_size payload.now) }
 {
-    RegistrationAnswer::from(read_chosen(version, zero_size, payload))
+    match reading_at(version, zero_size) {
+        Ok((_, choice)) => answer_by(version, choice, payload),
+        Err(refusal) => RegistrationAnswer::from(Err(refusal)),
+    }
 }
 
-fn read_chosen(
-    version: u16,
-    zero_size: u32,
-    payload: &[u8],
-) -> Result<(Registration, RegistrationTexts), Refusal>
-    ensures { result ≡ read_chosen version zero_size payload.now }
+// One function for both, which makes C's answer where it reads, so that no answer is copied on its way. It
+// takes the version's number, so that a plain read is this call alone.
+#[tactic(auto, unfolding(c_structs::specs::Registrations::answer_of))]
+fn answer_by(version: u16, choice: ZeroSize, payload: &[u8]) -> RegistrationAnswer
+    ensures { result ≡ answer_of (at_version version Err (λ v. read_with v choice payload.now)) }
 {
-    let (version, choice) = reading_at(version, zero_size)?;
-    read_with(version, choice, payload)
+    match version_at(version) {
+        Ok(version) => RegistrationAnswer::from(read_with(version, choice, payload)),
+        Err(refusal) => RegistrationAnswer::from(Err(refusal)),
+    }
 }
 
 pub fn cvr_registration_write(

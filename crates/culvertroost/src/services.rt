@@ -3,7 +3,7 @@
 ghost use Rattle.std.specs.Prelude.{◌≡◌};
 ghost use Rattle.protocol.specs.Service.{id_at};
 ghost use Rattle.device_services.specs.DeviceServices.{read_of};
-ghost use Rattle.services_query.specs.ServicesQuery.{element_of, cids_of, listed_of, all_of};
+ghost use Rattle.services_query.specs.ServicesQuery.{element_of, element_with, cids_of, cids_with, listed_of, all_of};
 ghost use Rattle.services_ask.specs.ServicesAsk.{position_of};
 ghost use Rattle.services_lists.specs.ServicesLists.{write_all_of};
 ghost use Rattle.services_writer.specs.ServicesWriter.{write_of};
@@ -14,13 +14,14 @@ ghost use Rattle.culvertroost.specs.Services.{read_chosen, element_chosen, cids_
 use c_structs::WrittenAnswer;
 use c_structs::choices::zero_size_at;
 use c_structs::services::{AllInfo, DeviceServicesAnswer, ElementInfo, ListedInfo, PositionInfo};
-use device_services::{DeviceService, DeviceServices, read, read_with};
+use device_services::{DeviceServices, read, read_with};
+use pairs::ZeroSize;
 use protocol::Refusal;
 use protocol::service::{ServiceId, id_at};
 use services_ask::{Position, ask, ask_with};
 use services_lists::write_all;
 use services_query::all::{AllListed, all_elements, all_elements_with};
-use services_query::{cids_of, cids_of_with, element, element_with, is_listed, is_listed_with};
+use services_query::{cids_of_with, element_with, is_listed, is_listed_with};
 use services_writer::{ServiceList, write};
 
 pub fn cvr_device_services_read(payload: &[u8]) -> DeviceServicesAnswer
@@ -40,7 +41,7 @@ pub fn cvr_device_services_element(payload: &[u8], number: u32, cids: &mut [u32]
     ensures value { result ≡ element_info (element_of payload.now number cids.old).answer }
     ensures cids_after { cids.new ≡ (element_of payload.now number cids.old).output }
 {
-    ElementInfo::from(element(payload, number, cids))
+    element_by(ZeroSize::Absent, payload, number, cids)
 }
 
 pub fn cvr_device_services_element_with(
@@ -52,7 +53,10 @@ pub fn cvr_device_services_element_with(
     ensures value { result ≡ element_info (element_chosen zero_size payload.now number cids.old).answer }
     ensures cids_after { cids.new ≡ (element_chosen zero_size payload.now number cids.old).output }
 {
-    ElementInfo::from(element_chosen(zero_size, payload, number, cids))
+    match zero_size_at(zero_size) {
+        Ok(choice) => element_by(choice, payload, number, cids),
+        Err(refusal) => ElementInfo::from(Err(refusal)),
+    }
 }
 
 // The first element of a service; its CIDs go to the front of the list.
@@ -60,7 +64,7 @@ pub fn cvr_device_services_cids(payload: &[u8], service: ServiceId, cids: &mut [
     ensures value { result ≡ element_info (cids_of payload.now service cids.old).answer }
     ensures cids_after { cids.new ≡ (cids_of payload.now service cids.old).output }
 {
-    ElementInfo::from(cids_of(payload, service, cids))
+    cids_by(ZeroSize::Absent, payload, service, cids)
 }
 
 pub fn cvr_device_services_cids_with(
@@ -72,7 +76,10 @@ pub fn cvr_device_services_cids_with(
     ensures value { result ≡ element_info (cids_chosen zero_size payload.now service cids.old).answer }
     ensures cids_after { cids.new ≡ (cids_chosen zero_size payload.now service cids.old).output }
 {
-    ElementInfo::from(cids_chosen(zero_size, payload, service, cids))
+    match zero_size_at(zero_size) {
+        Ok(choice) => cids_by(choice, payload, service, cids),
+        Err(refusal) => ElementInfo::from(Err(refusal)),
+    }
 }
 
 // All elements, each as seven numbers, and all CIDs, element by element, at the fronts of the lists.
@@ -168,30 +175,19 @@ fn read_chosen(zero_size: u32, payload: &[u8]) -> Result<DeviceServices, Refusal
     read_with(choice, payload)
 }
 
-fn element_chosen(
-    zero_size: u32,
-    payload: &[u8],
-    number: u32,
-    cids: &mut [u32],
-) -> Result<Option<DeviceService>, Refusal>
-    ensures value { result ≡ (element_chosen zero_size payload.now number cids.old).answer }
-    ensures cids_after { cids.new ≡ (element_chosen zero_size payload.now number cids.old).output }
+// One function for both, which makes C's answer where it reads, so that no answer is copied on its way.
+fn element_by(choice: ZeroSize, payload: &[u8], number: u32, cids: &mut [u32]) -> ElementInfo
+    ensures value { result ≡ element_info (element_with choice payload.now number cids.old).answer }
+    ensures cids_after { cids.new ≡ (element_with choice payload.now number cids.old).output }
 {
-    let choice = zero_size_at(zero_size)?;
-    element_with(choice, payload, number, cids)
+    ElementInfo::from(element_with(choice, payload, number, cids))
 }
 
-fn cids_chosen(
-    zero_size: u32,
-    payload: &[u8],
-    service: ServiceId,
-    cids: &mut [u32],
-) -> Result<Option<DeviceService>, Refusal>
-    ensures value { result ≡ (cids_chosen zero_size payload.now service cids.old).answer }
-    ensures cids_after { cids.new ≡ (cids_chosen zero_size payload.now service cids.old).output }
+fn cids_by(choice: ZeroSize, payload: &[u8], service: ServiceId, cids: &mut [u32]) -> ElementInfo
+    ensures value { result ≡ element_info (cids_with choice payload.now service cids.old).answer }
+    ensures cids_after { cids.new ≡ (cids_with choice payload.now service cids.old).output }
 {
-    let choice = zero_size_at(zero_size)?;
-    cids_of_with(choice, payload, service, cids)
+    ElementInfo::from(cids_of_with(choice, payload, service, cids))
 }
 
 fn all_chosen(

@@ -1,16 +1,18 @@
 // SIGNAL_STATE, for C. The number of the version is judged before anything else, then that of the
 // reader's choice.
-ghost use Rattle.std.specs.Prelude.{◌≡◌};
+ghost use Rattle.std.specs.Prelude.{◌≡◌, Err};
 ghost use Rattle.c_structs.specs.Answers.{written_answer};
+ghost use Rattle.c_structs.specs.Choices.{by_reading};
 ghost use Rattle.c_structs.specs.Signals.{answer_of};
+ghost use Rattle.signal_state.specs.SignalState.{choice_verdict};
 ghost use Rattle.culvertroost.specs.Signals.{read_at, read_chosen, write_at};
 
 use c_structs::WrittenAnswer;
 use c_structs::choices::reading_at;
 use c_structs::signals::{SignalStateAnswer, SignalStateInfo, record_of};
 use handshake::version_at;
-use protocol::Written;
-use signal_state::{read, read_with};
+use protocol::{Verdict, Written};
+use signal_state::{judge_choice, read};
 use signal_writer::write;
 
 pub fn cvr_signal_state_read(version: u16, payload: &[u8]) -> SignalStateAnswer
@@ -30,14 +32,21 @@ fn answer_at(version: u16, payload: &[u8]) -> SignalStateAnswer
     }
 }
 
-#[tactic(auto, unfolding(c_structs::specs::Signals::answer_by))]
+// Where the choice finds no fault, the answer is the plain one, by the function that makes it.
 pub fn cvr_signal_state_read_with(version: u16, zero_size: u32, payload: &[u8]) -> SignalStateAnswer
     ensures { result ≡ answer_of (read_chosen version zero_size payload.now) }
 {
-    match reading_at(version, zero_size) {
-        Ok((version, choice)) => SignalStateAnswer::from(read_with(version, choice, payload)),
+    match judge_chosen(version, zero_size, payload) {
+        Ok(()) => answer_at(version, payload),
         Err(refusal) => SignalStateAnswer::from(refusal),
     }
+}
+
+fn judge_chosen(version: u16, zero_size: u32, payload: &[u8]) -> Verdict
+    ensures { result ≡ by_reading version zero_size Err (λ v z. choice_verdict v z payload.now) }
+{
+    let (version, choice) = reading_at(version, zero_size)?;
+    judge_choice(version, choice, payload)
 }
 
 pub fn cvr_signal_state_write(info: SignalStateInfo, out: &mut [u8]) -> WrittenAnswer

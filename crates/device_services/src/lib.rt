@@ -178,15 +178,27 @@ pub fn judged_offset(payload: &[u8], number: u32) -> u32
     u32_at(payload, pair_place(number))
 }
 
-// The fields of the element that starts at an offset.
+// The fields of the element that starts at an offset. Inlined, and the id made of its words, so that an
+// answer around it need not go through memory.
 #[tactic(auto, unfolding(crate::specs::DeviceServices::element_at))]
+#[inline(always)]
 pub fn judged_element(payload: &[u8], offset: u32) -> DeviceService
     ensures { result ≡ element_at payload.now offset }
 {
     let at = offset as usize;
-    let device_service_id = id_at(payload, at);
+    let ServiceId {
+        word0,
+        word1,
+        word2,
+        word3,
+    } = id_at(payload, at);
     DeviceService {
-        device_service_id,
+        device_service_id: ServiceId {
+            word0,
+            word1,
+            word2,
+            word3,
+        },
         dss_payload: u32_at(payload, at + DSS_PAYLOAD),
         max_dss_instances: u32_at(payload, at + MAX_DSS_INSTANCES),
         cid_count: judged_cid_count(payload, offset),

@@ -44,12 +44,14 @@ pub fn empty(memory: &mut [u8]) -> Verdict
     Ok(())
 }
 
-// Zeros at the front of memory that has the room for so many.
+// Zeros at the front of memory; without the room for so many it stays as it was.
 pub fn wipe(memory: &mut [u8], size: usize)
-    requires { size ≤ length memory.old }
-    ensures { memory.new ≡ over (replicate size 0) memory.old }
+    ensures filled { size ≤ length memory.old → memory.new ≡ over (replicate size 0) memory.old }
+    ensures kept { length memory.old < size → memory.new ≡ memory.old }
 {
-    clear(&mut memory[..size]);
+    if size <= memory.len() {
+        clear(&mut memory[..size]);
+    }
 }
 
 // The verdict on the room for an assembly.

@@ -18,6 +18,9 @@ pub rest_length : (chunk : List ℕ) (from : ℕ) → through (take (length chun
 unfolding line_length
 rest_length chunk from = ap (λ (x : List ℕ). through x 10) (take_rest from chunk)
 
+pub line_length_lem : (chunk : List ℕ) (from : ℕ) {n : ℕ} → n ≡ through (take (length chunk - from) (drop from chunk)) 10 → n ≡ line_length chunk from
+line_length_lem chunk from e = e ∙ rest_length chunk from
+
 pub line_le : (chunk : List ℕ) (from : ℕ) → from < length chunk → from + line_length chunk from ≤ length chunk
 unfolding line_length
 line_le chunk from h = omega (arith, through_le (drop from chunk) 10, length-drop from chunk)

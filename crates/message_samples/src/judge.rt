@@ -1,9 +1,16 @@
 // Whether the library answers a sample line as it says.
 use crate::ask::{Memory, ask};
+use sample_lines::tally::LineJudge;
 use sample_lines::{UNTOUCHED, UNTOUCHED_WORD, is_answer, read_line};
 
+impl LineJudge for Memory {
+    fn is_right(&mut self, line: &[u8]) -> bool {
+        is_right(line, self)
+    }
+}
+
 // No question here has a list.
-pub fn is_right(line: &[u8], memory: &mut Memory) -> bool {
+fn is_right(line: &[u8], memory: &mut Memory) -> bool {
     let mut question = [0u8; 1];
     let mut arguments = [0u8; 16640];
     let mut input = [0u8; 16640];

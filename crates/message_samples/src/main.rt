@@ -12,11 +12,10 @@ mod pins;
 mod streams;
 
 use ask::Memory;
-use judge::is_right;
 use sample_lines::tally::tally;
 use std::io;
 
 fn main(rt: HostRuntime) -> io::Result<()> {
-    let mut memory = Memory::new();
-    tally(rt, |line| is_right(line, &mut memory))
+    tally(rt, &mut Memory::new())?;
+    Ok(())
 }

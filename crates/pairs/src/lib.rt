@@ -132,6 +132,7 @@ fn if_strict(zero_size: ZeroSize, broken: bool) -> bool
 }
 
 // The pair at a place of a payload: where all of it is there, one test serves.
+#[inline(always)]
 pub fn range_at(payload: &[u8], place: usize) -> Range
     ensures { result ≡ range_at payload.now place }
 {
@@ -154,6 +155,7 @@ pub fn range_at(payload: &[u8], place: usize) -> Range
 }
 
 // The pair at a place as a reader shows it: without a size it has no offset either.
+#[inline(always)]
 pub fn shown_at(payload: &[u8], place: usize) -> Range
     ensures { result ≡ shown_at payload.now place }
 {

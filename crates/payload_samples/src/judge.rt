@@ -1,8 +1,19 @@
 // Whether the library answers a sample line as it says.
 use crate::ask::ask;
+use sample_lines::tally::LineJudge;
 use sample_lines::{UNTOUCHED, UNTOUCHED_WORD, is_answer, read_line};
 
-pub fn is_right(line: &[u8]) -> bool {
+// Nothing stays from line to line.
+#[derive(Clone, Copy)]
+pub struct Payloads;
+
+impl LineJudge for Payloads {
+    fn is_right(&mut self, line: &[u8]) -> bool {
+        is_right(line)
+    }
+}
+
+fn is_right(line: &[u8]) -> bool {
     let mut question = [0u8; 1];
     let mut arguments = [0u8; 16640];
     let mut input = [0u8; 16640];

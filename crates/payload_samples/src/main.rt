@@ -10,10 +10,11 @@ mod reads;
 mod services;
 mod writes;
 
-use judge::is_right;
+use judge::Payloads;
 use sample_lines::tally::tally;
 use std::io;
 
 fn main(rt: HostRuntime) -> io::Result<()> {
-    tally(rt, |line| is_right(line))
+    tally(rt, &mut Payloads)?;
+    Ok(())
 }

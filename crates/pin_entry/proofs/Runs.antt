@@ -12,7 +12,7 @@ use Rattle.pairs.specs.Pair.{part_of}
 use Rattle.pairs.specs.declared.ZeroSize.TheVariants.{Strict}
 use Rattle.pin.specs.SetPin.{read_with, SetPinRead}
 use Rattle.pin_entry.specs.PinTable.{Table, Call, call, Asked, asks, unread, Entry, unsupported, entered, step, table_after, answers_of}
-use Rattle.pin_entry.specs.Meaning.{table_of, asked_by, asked_of, enter_of, no_start, starts_verdict, start_row, start_row_at, started, Making, made_by, made_of}
+use Rattle.pin_entry.specs.Meaning.{table_of, asked_by, asked_of, enter_of, no_start, starts_verdict, start_row, start_row_at, started, made_by, made_of}
 use Rattle.pin_entry.specs.Claims.{Fresh, Run, ends, enters, AsPlain, Within, CallClaims, AskedClaims, EachStep, EveryRun, MadeFresh}
 use Rattle.pin_entry.specs.declared.PinTable.{PinTable}
 use Rattle.pin_entry.specs.declared.PinAnswer.{PinAnswer}
@@ -120,5 +120,5 @@ each_step t (a ∷ rest) = (asked_claims t a, each_step (step t a).table rest)
 -- from a table just made, any sequence of payloads
 pub every_run : EveryRun
 every_run rows p e ss xs q w =
-    let f : Fresh (table_of p) = rw (ap (λ (x : Making). x.table) e) (made_fresh rows) in
+    let f : Fresh (table_of p) = rw e (made_fresh rows) in
     record { plain = as_plain w; steps = each_step (table_of p) (map asked_of ss); within = never_more f w }

@@ -2,7 +2,7 @@
 -- In this order: a table just made; a run of the code; which entries count and which are right; what they change; what an answer tells of secrets; all of it.
 use Rattle.std.specs.Prelude.{ℕ, suc, ◌≤◌, ◌<◌, ◌≡◌, ◌⊎◌, ◌↔◌, true, false, List, [], ◌∷◌, map, Ok, Err, Result}
 use Rattle.pin_entry.specs.PinTable.{Row, Table, put, puk_of, pin_of, is_puk, Call, same_text, enter_operation, Asked, asks, unread, entry, unsupported, expected, unblocked, entered_row, one_less, puk_table, entered, step, table_after, answers_of}
-use Rattle.pin_entry.specs.Meaning.{table_of, entry_of, asked_of, enter_of, making_of, made_of}
+use Rattle.pin_entry.specs.Meaning.{table_of, entry_of, asked_of, enter_of, made_of}
 use Rattle.pin_entry.specs.declared.PinTable.{PinTable}
 use Rattle.pin_entry.specs.declared.PinAnswer.{PinAnswer}
 use Rattle.pin_entry.specs.declared.Entered.{Entered}
@@ -140,6 +140,6 @@ SecretsUnseen = (t u : Table) (c : Call) → ((k : ℕ) → Alike (t k) (u k)) �
 abbrev pub MadeFresh : Type 0
 MadeFresh = (rows : List PinStart) → Fresh (made_of rows).table
 
--- from the table that `make` gives any sequence of payloads answers as the plain table, and what each can change is said above
+-- from the table that `make` gives, and from the one without rows where it refuses, any sequence of payloads answers as the plain table, and what each can change is said above
 abbrev pub EveryRun : Type 0
-EveryRun = (rows : List PinStart) (p : PinTable) → making_of (Ok p) ≡ made_of rows → (ss : List (List ℕ)) (xs : List (Result PinAnswer Refusal)) (q : PinTable) → Run p ss xs q → RunClaims p ss xs q
+EveryRun = (rows : List PinStart) (p : PinTable) → table_of p ≡ (made_of rows).table → (ss : List (List ℕ)) (xs : List (Result PinAnswer Refusal)) (q : PinTable) → Run p ss xs q → RunClaims p ss xs q

@@ -171,6 +171,7 @@ fn form_at(version: Version, s: &[u8]) -> RegistrationForm
 }
 
 #[tactic(auto, unfolding(crate::specs::Registration::texts_at, crate::specs::Registration::pairs_at))]
+#[inline(always)]
 fn texts_at(s: &[u8]) -> RegistrationTexts
     ensures { result ≡ texts_at s.now }
 {

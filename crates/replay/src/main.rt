@@ -2,7 +2,7 @@
 // and writes; every byte of the output is the library's.
 #![tactic(auto)]
 
-ghost use Rattle.std.specs.Prelude.{◌≤◌};
+ghost use Rattle.std.specs.Prelude.{◌≡◌, ◌≤◌, IfOk};
 
 use listing::lines::collect;
 use std::io::{self, Read, Write};
@@ -30,7 +30,9 @@ struct Session {
 const FULL: usize = 262144;
 
 impl Session {
-    fn start() -> Session {
+    fn start() -> Session
+        ensures { (result.have ≡ 0) × (result.at ≡ 0) }
+    {
         Session {
             replay: Replay::start(),
             host: [0; 4096],
@@ -44,8 +46,10 @@ impl Session {
         }
     }
 
-    // The names of the columns.
-    fn write_columns(&mut self, rt: HostRuntime) -> io::Result<()> {
+    // The names of the columns; nothing waits behind them.
+    fn write_columns(&mut self, rt: HostRuntime) -> io::Result<()>
+        ensures { IfOk result (λ written. (self.new.have ≡ self.old.have) × (self.new.at ≡ self.old.at)) }
+    {
         let n = put_columns(&mut self.out[..], 0);
         rt.stdout().write_all(&self.out[..n])
     }
@@ -89,7 +93,9 @@ impl Session {
     }
 
     // Writes what waits.
-    fn write(&mut self, rt: HostRuntime) -> io::Result<()> {
+    fn write(&mut self, rt: HostRuntime) -> io::Result<()>
+        ensures { IfOk result (λ written. (self.new.have ≡ self.old.have) × (self.new.at ≡ 0)) }
+    {
         rt.stdout().write_all(&self.out[..self.at])?;
         self.at = 0;
         Ok(())

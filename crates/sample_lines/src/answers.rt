@@ -1,5 +1,5 @@
 // Numbers of a question, which are the words of its arguments, and those of its answer.
-ghost use Rattle.std.specs.Prelude.{◌≡◌, ◌*◌, min};
+ghost use Rattle.std.specs.Prelude.{◌≡◌, ◌*◌, min, length, take};
 ghost use Rattle.wire.specs.Numbers.{u16_at, u32_at};
 ghost use Rattle.sample_lines.specs.Answers.{as_word, few_numbers, no_answer, plain_answer, written_answer};
 
@@ -35,7 +35,9 @@ pub fn least(a: usize, b: usize) -> usize
 }
 
 // The front of what is lent: as much of it as the size says.
-pub fn lent<T>(memory: &mut [T], size: u32) -> &mut [T] {
+pub fn lent<T>(memory: &mut [T], size: u32) -> &mut [T]
+    ensures { result.now ≡ take (min size (length memory.old)) memory.old }
+{
     let n = least(size as usize, memory.len());
     &mut memory[..n]
 }

@@ -164,9 +164,14 @@ fn put_elements(elements: Elements, cids: &[u32], out: &mut [u8])
     for i in 0..elements.count {
         let first = FIELD_WORDS * i as usize;
         let n = cid_count(elements, i) as usize;
-        put_words(&elements.fields[first..first + FIELD_WORDS], start, out);
+        let numbers = &elements.fields[first..first + FIELD_WORDS];
+        put_words(
+            numbers,
+            0,
+            &mut out[start..start + ELEMENT_FIXED_PART as usize],
+        );
         start += ELEMENT_FIXED_PART as usize;
-        put_words(&cids[from..from + n], start, out);
+        put_words(&cids[from..from + n], 0, &mut out[start..start + 4 * n]);
         start += 4 * n;
         from += n;
     }

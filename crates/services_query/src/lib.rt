@@ -92,6 +92,7 @@ pub fn is_listed_with(
 }
 
 #[tactic(auto, unfolding(crate::specs::ServicesQuery::chosen_shown))]
+#[inline(always)]
 fn show_chosen(
     payload: &[u8],
     number: u32,
@@ -107,6 +108,7 @@ fn show_chosen(
 }
 
 #[tactic(auto, using(crate::proofs::OnePass::cids_over), unfolding(crate::specs::ServicesQuery::element_shown, protocol::specs::Verdict::fault_if))]
+#[inline(always)]
 fn show_element(
     payload: &[u8],
     number: u32,

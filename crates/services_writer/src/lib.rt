@@ -2,7 +2,7 @@
 // large (about 17 KB); a program that only reads needs nothing of this crate.
 #![tactic(auto)]
 
-ghost use Rattle.std.specs.Prelude.{◌≡◌, ◌+◌, ◌*◌, ◌≤◌, ltb, length};
+ghost use Rattle.std.specs.Prelude.{◌≡◌, ◌+◌, ◌*◌, ◌≤◌, ◌<◌, ltb, length};
 ghost use Rattle.std.proofs.lemmas.List.Edits.{sets};
 ghost use Rattle.wire.specs.Numbers.{digits};
 ghost use Rattle.protocol.specs.Refusal.{output_too_small, too_long};
@@ -111,7 +111,7 @@ fn put_listed(out: &mut [u8], number: u32, start: u32, element: &ServiceElement)
     put_range(out, pair_place(number), pair);
     let at = start as usize;
     put_fields(out, at, element.fields);
-    put_words(
+    put_fitting(
         &element.cids[..cids as usize],
         at + ELEMENT_FIXED_PART as usize,
         out,
@@ -130,8 +130,20 @@ fn put_fields(out: &mut [u8], start: usize, fields: DeviceService)
     put_u32(out, start + CID_COUNT, fields.cid_count);
 }
 
-// The words one after another: each has its part of the output, so that no store is tested.
+// The words one after another from a place on; without the room for all of them the output stays as it
+// was.
 pub fn put_words(words: &[u32], at: usize, out: &mut [u8])
+    ensures stored { at + 4 * length words.now ≤ length out.old → out.new ≡ sets out.old at (cid_bytes words.now (length words.now)) }
+    ensures kept { length out.old < at + 4 * length words.now → out.new ≡ out.old }
+{
+    if at.saturating_add(4 * words.len()) <= out.len() {
+        put_fitting(words, at, out);
+    }
+}
+
+// Each word has its part of the output, so that no store is tested.
+#[inline(always)]
+fn put_fitting(words: &[u32], at: usize, out: &mut [u8])
     requires { at + 4 * length words.now ≤ length out.old }
     ensures { out.new ≡ sets out.old at (cid_bytes words.now (length words.now)) }
 {

@@ -14,7 +14,7 @@ use lib.Seq.{sets, set_at}
 use Rattle.wire.specs.Numbers.{digits}
 use Rattle.wire.proofs.Laws.{sets_then}
 use Rattle.protocol.specs.Refusal.{wrong_size, contradiction}
-use Rattle.protocol.specs.Verdict.{judge, first_of, fault_if, open_length, no_fault}
+use Rattle.protocol.specs.Verdict.{judge, first_of, fault_if, open_length, no_fault, Written, Writing, writing}
 use Rattle.protocol.specs.declared.Refusal.{Refusal}
 use Rattle.protocol.specs.declared.Version.TheVariants.{V2}
 use Rattle.protocol.proofs.Verdicts.{left_fits, right_fits, not_broken, open_length_lem}
@@ -31,7 +31,8 @@ use Rattle.pairs.proofs.Laws.{size_said, shown_safe}
 use Rattle.lists.proofs.Behind.{behind_said}
 use Rattle.signal_state.specs.declared.RsrpSnr.{RsrpSnr}
 use Rattle.signal_state.specs.declared.SignalState.{SignalState}
-use Rattle.signal_state.specs.SignalState.{list_form, count_at, entry_place, zero_entry, no_entries, sixteen, number_rules, list_rules, entry_rules, entries_verdict, is_known, any_known, contradicts, body_verdict, head_of, head_verdict, size_of, limit_verdict, listed_verdict, number_bytes, entry_bytes, entries_bytes, list_bytes, listed_bytes, list_place, verdict_at, refused, read_entries, read_with}
+use Rattle.signal_state.specs.declared.SignalForm.{SignalForm}
+use Rattle.signal_state.specs.SignalState.{list_form, count_at, entry_place, zero_entry, no_entries, sixteen, number_rules, list_rules, entry_rules, entries_verdict, is_known, any_known, contradicts, body_verdict, head_of, head_verdict, size_of, limit_verdict, listed_verdict, number_bytes, entry_bytes, entries_bytes, list_bytes, listed_bytes, list_place, verdict_at, refused, read_entries, read_with, entry_in, verdict_in, bytes_in, write_of}
 use Rattle.std.specs.Prelude.{Err}
 
 -- ---- entries one by one
@@ -177,3 +178,12 @@ list_stored (suc n) f s {s₁} p q =
     let start : s₁ ≡ sets s 20 (pair ++ count) = p ∙ ap (λ (l : List ℕ). sets s 20 (pair ++ l)) (some_count (suc n) some) in
     sets_then (pair ++ count) entries 20 12 s refl start q
     ∙ ap (sets s 20) (append_assoc pair count entries ∙ ap (λ (l : List ℕ). pair ++ l) (sym (some_of (suc n) (count ++ entries) some)))
+
+-- by the form of the record
+pub in_form : (p : SignalState) (es : List RsrpSnr) (s : List ℕ) (g : SignalForm) {r : Written} {t : List ℕ} → p.form ≡ g
+    → record { value : r ≡ (writing (verdict_in g p (entry_in es)) (bytes_in g p (entry_in es)) s).answer; out_after : t ≡ (writing (verdict_in g p (entry_in es)) (bytes_in g p (entry_in es)) s).output }
+    → record { value : r ≡ (write_of p es s).answer; out_after : t ≡ (write_of p es s).output }
+unfolding write_of
+in_form p es s g {r} {t} e w =
+    let same : writing (verdict_in g p (entry_in es)) (bytes_in g p (entry_in es)) s ≡ write_of p es s = λ i. writing (verdict_in (sym e i) p (entry_in es)) (bytes_in (sym e i) p (entry_in es)) s in
+    record { value = w.value ∙ ap (λ (x : Writing). x.answer) same; out_after = w.out_after ∙ ap (λ (x : Writing). x.output) same }

@@ -163,9 +163,10 @@ fn read_numbers(s: &[u8]) -> SignalStateShown
 {
     match judge_short(s) {
         Ok(()) => {
+            let entries = no_entries();
             SignalStateShown {
                 answer: Ok(state_at(s, SignalForm::V1)),
-                entries: no_entries(),
+                entries,
             }
         }
         Err(refusal) => refuse(refusal),
@@ -221,9 +222,10 @@ fn read_entries(s: &[u8], offset: u32, count: u32) -> SignalStateShown
 {
     match judge_body_at(s, u32_at(s, RSSI), offset, count) {
         Ok(()) => {
+            let entries = entries_at(s, offset, count);
             SignalStateShown {
                 answer: Ok(state_at(s, SignalForm::V2 { count })),
-                entries: entries_at(s, offset, count),
+                entries,
             }
         }
         Err(refusal) => refuse(refusal),
@@ -233,9 +235,10 @@ fn read_entries(s: &[u8], offset: u32, count: u32) -> SignalStateShown
 fn refuse(refusal: Refusal) -> SignalStateShown
     ensures { result ≡ refused refusal }
 {
+    let entries = no_entries();
     SignalStateShown {
         answer: Err(refusal),
-        entries: no_entries(),
+        entries,
     }
 }
 

@@ -40,6 +40,7 @@ pub fn judge_texts(zero_size: ZeroSize, payload: &[u8], fixed: u16, rows: &[[u32
 
 // The range of a text by its number, in a payload whose pairs were judged before; absent without a
 // size, and past the last row.
+#[inline(always)]
 pub fn judged_text(payload: &[u8], rows: &[[u32; 2]], number: u8) -> Range
     ensures { result ≡ get_or (all_shown (ranges_at payload.now rows.now)) number (range 0 0) }
 {

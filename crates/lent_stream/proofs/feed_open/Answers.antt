@@ -19,9 +19,6 @@ overflow_add-end c = let a = c.args in let T = taken a.memory.now (length a.asse
 pub slice_bounds-receive_judged-end-in-InBuffer : goal.slice_bounds-receive_judged-end-in-InBuffer
 slice_bounds-receive_judged-end-in-InBuffer c = let a = c.args in let T = taken a.memory.now (length a.assembly.now) (length a.out.now) c.requires.judged in buffer_inside a.memory.now a.assembly.now a.chunk.now a.out.now T c.requires.open c.u32_at-held.ensures c.prepare.ensures.value c.prepare.ensures.piece_after c.in-InBuffer.is
 
-pub wipe-requires : goal.wipe-requires
-wipe-requires c = let a = c.args in let T = taken a.memory.now (length a.assembly.now) (length a.out.now) c.requires.judged in buffer_inside a.memory.now a.assembly.now a.chunk.now a.out.now T c.requires.open c.u32_at-held.ensures c.prepare.ensures.value c.prepare.ensures.piece_after c.in-InBuffer.is
-
 pub returns-in-Done : goal.returns-in-Done
 returns-in-Done c =
     let a = c.args in
@@ -46,4 +43,4 @@ returns-in-InBuffer c =
     let a = c.args in
     let T = taken a.memory.now (length a.assembly.now) (length a.out.now) c.requires.judged in
     let f = c.receive_judged-received-in-InBuffer.ensures in
-    buffer_gives a.memory.now a.assembly.now a.chunk.now a.out.now T c.requires.open c.u32_at-held.ensures c.prepare.ensures.value c.prepare.ensures.piece_after c.in-InBuffer.length _ c.in-InBuffer.is f.value f.memory_after f.out_after c.wipe.ensures
+    buffer_gives a.memory.now a.assembly.now a.chunk.now a.out.now T c.requires.open c.u32_at-held.ensures c.prepare.ensures.value c.prepare.ensures.piece_after c.in-InBuffer.length _ c.in-InBuffer.is f.value f.memory_after f.out_after (c.wipe.ensures.filled (buffer_inside a.memory.now a.assembly.now a.chunk.now a.out.now T c.requires.open c.u32_at-held.ensures c.prepare.ensures.value c.prepare.ensures.piece_after c.in-InBuffer.is))

@@ -1,15 +1,17 @@
 -- One element more: its numbers, and its CIDs, which stand behind those before it and have room.
 use mathlib.Core.Path.{◌≡◌, refl, ap, ◌∙◌}
-use Prim.Native.Nat.{ℕ, ◌+◌, ◌*◌, ◌≤◌, ◌<◌}
+use Prim.Native.Nat.{ℕ, ◌+◌, ◌*◌, ◌-◌, ◌≤◌, ◌<◌}
 use native.Mathlib.Nat.{le_antisymm}
 use native.Mathlib.Omega.{arith}
-use lib.ListN.{length}
+use mathlib.Core.List.{List, ◌++◌}
+use lib.ListN.{length, take, drop}
 use lib.Seq.{sets, length-sets}
 use Rattle.folds.specs.Folds.{joined, sum_of}
 use Rattle.folds.proofs.Laws.{sum_next}
 use Rattle.device_services.specs.DeviceServices.{fixed_part}
-use Rattle.services_writer.specs.ServicesWriter.{start_of, piece}
-use Rattle.services_writer.proofs.Laws.{piece_next}
+use Rattle.wire.proofs.Laws.{part_filled}
+use Rattle.services_writer.specs.ServicesWriter.{start_of, cid_bytes, piece}
+use Rattle.services_writer.proofs.Laws.{piece_next, length_cids}
 use Rattle.services_lists.specs.ServicesLists.{count_of, cids_counted, record_of}
 use Rattle.services_lists.proofs.Laws.{start_more, element_inside, cids_inside, element_put, part_length}
 use Rattle.services_lists.proofs.put_elements.Goals as goal
@@ -22,13 +24,21 @@ pub cid_count-n-requires : goal.cid_count-n-requires
 cid_count-n-requires c = omega (arith, c.loop-i-test.true, c.args.elements.counted)
 
 pub slice_bounds-put_words-end : goal.slice_bounds-put_words-end
-slice_bounds-put_words-end c = omega (arith, c.loop-i-test.true, c.args.elements.counted)
+slice_bounds-put_words-end c =
+    let v = c.loop-i in
+    let whole = element_inside c.args.elements.fields.now c.args.cids.now v.i (omega (arith, c.loop-i-test.true, c.args.elements.counted)) v.invariant.1 c.cid_count-n.ensures c.requires.room in
+    omega (arith, whole, simp length-sets at (ap length v.invariant.2))
 
-pub put_words-requires : goal.put_words-requires
-put_words-requires c =
+pub slice_bounds-put_words-end-in-loop-i-2 : goal.slice_bounds-put_words-end-in-loop-i-2
+slice_bounds-put_words-end-in-loop-i-2 c =
     let v = c.loop-i in
     let f = c.args.elements.fields.now in
-    omega (arith, element_inside c.args.elements.fields.now c.args.cids.now c.loop-i.i (omega (arith, c.loop-i-test.true, c.args.elements.counted)) c.loop-i.invariant.1 c.cid_count-n.ensures c.requires.room, simp length-sets at (ap length v.invariant.2), part_length f (7 * v.i) 7 (omega (arith, c.loop-i-test.true, c.args.elements.counted)))
+    let whole = element_inside f c.args.cids.now v.i (omega (arith, c.loop-i-test.true, c.args.elements.counted)) v.invariant.1 c.cid_count-n.ensures c.requires.room in
+    let same = simp length-sets at (ap length v.invariant.2) in
+    let numbers = part_length f (7 * v.i) 7 (omega (arith, c.loop-i-test.true, c.args.elements.counted)) in
+    let fields = part_filled (cid_bytes _ _) v.out v.start (v.start + 28 - v.start) (length_cids _ _ ∙ omega (arith, numbers)) (omega (arith, whole, same))
+    (c.put_words.ensures.stored (omega (arith, numbers, part_length v.out v.start 28 (omega (arith, whole, same))))) in
+    omega (arith, whole, (simp length-sets at (ap length fields)) ∙ same)
 
 pub overflow_add-start : goal.overflow_add-start
 overflow_add-start c = let h = element_inside c.args.elements.fields.now c.args.cids.now c.loop-i.i (omega (arith, c.loop-i-test.true, c.args.elements.counted)) c.loop-i.invariant.1 c.cid_count-n.ensures c.requires.room in omega (arith, h)
@@ -41,13 +51,6 @@ offset_bounds-cids-from c = let h = cids_inside c.args.elements.fields.now (coun
 
 pub slice_bounds-put_words-end-in-loop-i : goal.slice_bounds-put_words-end-in-loop-i
 slice_bounds-put_words-end-in-loop-i c = cids_inside c.args.elements.fields.now (count_of c.args.elements.fields.now) c.loop-i.i (omega (arith, c.loop-i-test.true, c.args.elements.counted)) c.loop-i.invariant.0 c.cid_count-n.ensures c.requires.given
-
-pub put_words-requires-in-loop-i : goal.put_words-requires-in-loop-i
-put_words-requires-in-loop-i c =
-    let v = c.loop-i in
-    let n = c.cid_count-n.result in
-    let inside = part_length c.args.cids.now v.from n (cids_inside c.args.elements.fields.now (count_of c.args.elements.fields.now) c.loop-i.i (omega (arith, c.loop-i-test.true, c.args.elements.counted)) c.loop-i.invariant.0 c.cid_count-n.ensures c.requires.given) in
-    omega (arith, element_inside c.args.elements.fields.now c.args.cids.now c.loop-i.i (omega (arith, c.loop-i-test.true, c.args.elements.counted)) c.loop-i.invariant.1 c.cid_count-n.ensures c.requires.room, inside, simp length-sets at (ap length v.invariant.2), simp length-sets at (ap length c.put_words.ensures))
 
 pub overflow_mul-start : goal.overflow_mul-start
 overflow_mul-start c = let h = element_inside c.args.elements.fields.now c.args.cids.now c.loop-i.i (omega (arith, c.loop-i-test.true, c.args.elements.counted)) c.loop-i.invariant.1 c.cid_count-n.ensures c.requires.room in omega (arith, h)
@@ -69,7 +72,16 @@ loop-i-preserved c =
     let l = c.loop-i-test.true in
     let below : v.i < count_of f = omega (arith, l, c.args.elements.counted) in
     let inside : v.from + n ≤ length cids = cids_inside f (count_of f) v.i below v.invariant.0 is c.requires.given in
-    let stored = element_put 0 f cids v.out v.i v.start v.from n below v.invariant.0 is inside c.put_words.ensures c.put_words-in-loop-i.ensures in
+    let whole = element_inside f cids v.i below v.invariant.1 is c.requires.room in
+    let same = simp length-sets at (ap length v.invariant.2) in
+    let numbers = part_length f (7 * v.i) 7 (omega (arith, l, c.args.elements.counted)) in
+    let fields = part_filled (cid_bytes _ _) v.out v.start (v.start + 28 - v.start) (length_cids _ _ ∙ omega (arith, numbers)) (omega (arith, whole, same))
+    (c.put_words.ensures.stored (omega (arith, numbers, part_length v.out v.start 28 (omega (arith, whole, same))))) in
+    let same₁ = (simp length-sets at (ap length fields)) ∙ same in
+    let mid : List ℕ = take v.start v.out ++ (c.put_words.new.out ++ drop (v.start + 28 - v.start) (drop v.start v.out)) in
+    let behind = part_filled (cid_bytes _ _) mid (v.start + 28) (v.start + 28 + 4 * n - (v.start + 28)) (length_cids _ _ ∙ omega (arith, part_length cids v.from n inside)) (omega (arith, whole, same₁))
+    (c.put_words-in-loop-i.ensures.stored (omega (arith, part_length cids v.from n inside, part_length mid (v.start + 28) (4 * n) (omega (arith, whole, same₁))))) in
+    let stored = element_put 0 f cids v.out v.i v.start v.from n below v.invariant.0 is inside fields behind in
     let next = start_more 0 f cids v.i below v.invariant.1 in
     (omega (arith, v.invariant.0, is, sum_next (cids_counted f) v.i), omega (arith, is, next), piece_next (record_of 0 f cids) v.i a.out.now v.invariant.2 v.invariant.1 stored)
 

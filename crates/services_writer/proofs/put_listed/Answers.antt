@@ -7,5 +7,5 @@ use Rattle.services_writer.proofs.put_listed.Goals as goal
 
 pub returns-clause-out_after : goal.returns-clause-out_after
 returns-clause-out_after c =
-    element_put c.args.element.now c.put_range.new.out c.args.start (omega arith) c.put_fields.ensures c.put_words.ensures
+    element_put c.args.element.now c.put_range.new.out c.args.start (omega arith) c.put_fields.ensures c.put_fitting.ensures
     ∙ ap (λ (l : List ℕ). sets l c.args.start (element_bytes c.args.element.now)) (rw c.pair_place.ensures at c.put_range.ensures)

@@ -1,9 +1,9 @@
 -- Each line moves on, and is counted once.
 use Rattle.std.proofs.Common.{◌+◌, ◌<◌, ◌≤◌, ◌^◌, length}
-use Rattle.sample_lines.proofs.tally.tally.Given as goal
+use Rattle.sample_lines.proofs.tally.tally_lines.Given as goal
 
 abbrev pub invariant-loop-rest : goal.invariant-loop-rest
-invariant-loop-rest g l = goal.F-IsAlwaysCallable g l.is_right × (l.lines + length l.rest < 2 ^ 63) × (l.differing ≤ l.lines)
+invariant-loop-rest g l = (l.lines + length l.rest < 2 ^ 63) × (l.differing ≤ l.lines)
 
 abbrev pub decreases-loop-rest : goal.decreases-loop-rest
 decreases-loop-rest g l = length l.rest

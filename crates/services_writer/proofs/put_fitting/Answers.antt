@@ -4,7 +4,7 @@ use Rattle.wire.specs.Numbers.{digits}
 use Rattle.wire.proofs.Laws.{part_filled}
 use Rattle.folds.specs.Folds.{joined}
 use Rattle.services_writer.proofs.Laws.{cid_next}
-use Rattle.services_writer.proofs.put_words.Goals as goal
+use Rattle.services_writer.proofs.put_fitting.Goals as goal
 
 pub loop-i-init : goal.loop-i-init
 unfolding joined
