@@ -36,6 +36,10 @@ no_element = record {
   cid_count = 0;
 }
 
+-- no element, with a refusal or without
+abbrev pub unlisted : RefusalInfo → ElementInfo
+unlisted r = record { refusal = r; listed = 0; element = no_element }
+
 unfoldable pub element_info : ElementAnswer → ElementInfo
 element_info (Ok (Some e)) = record { refusal = no_refusal; listed = 1; element = e }
 element_info (Ok None) = record { refusal = no_refusal; listed = 0; element = no_element }

@@ -1,6 +1,6 @@
 // The DEVICE_SERVICES payload's answers in C's layout.
 ghost use Rattle.std.specs.Prelude.{◌≡◌};
-ghost use Rattle.c_structs.specs.Services.{no_info, no_element, not_listed, answer_of, element_info, listed_info, position_info, all_info};
+ghost use Rattle.c_structs.specs.Services.{no_info, no_element, not_listed, answer_of, element_info, unlisted, listed_info, position_info, all_info};
 
 use crate::{RefusalInfo, no_refusal};
 use device_services::{DeviceService, DeviceServices};
@@ -107,17 +107,20 @@ impl From<Result<Option<DeviceService>, Refusal>> for ElementInfo {
                     cid_count,
                 },
             },
-            Ok(None) => ElementInfo {
-                refusal: no_refusal(),
-                listed: 0,
-                element: no_element(),
-            },
-            Err(refusal) => ElementInfo {
-                refusal: RefusalInfo::from(refusal),
-                listed: 0,
-                element: no_element(),
-            },
+            Ok(None) => unlisted(no_refusal()),
+            Err(refusal) => unlisted(RefusalInfo::from(refusal)),
         }
+    }
+}
+
+// No element, with a refusal or without.
+fn unlisted(refusal: RefusalInfo) -> ElementInfo
+    ensures { result ≡ unlisted refusal }
+{
+    ElementInfo {
+        refusal,
+        listed: 0,
+        element: no_element(),
     }
 }
 

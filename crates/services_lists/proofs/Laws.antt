@@ -2,7 +2,7 @@
 -- Assumes nothing.
 use mathlib.Core.Path.{◌≡◌, refl, sym, ap, ◌∙◌}
 use mathlib.Core.Bool.{Bool, true, false, not}
-use mathlib.Core.List.{List, [], append-nil}
+use mathlib.Core.List.{List, [], ◌++◌, append-nil}
 use Prim.Native.Nat.{ℕ, zero, suc, ◌+◌, ◌*◌, ◌/◌, ◌%◌, ◌-◌, ◌≤◌, ◌<◌}
 use native.Mathlib.Omega.{arith}
 use borrow.Author.Tests.{ltb-false, lt-ltb, le-ltb, eqb-true}
@@ -10,7 +10,7 @@ use lib.Dec.{ltb, eqb}
 use lib.ListN.{length, get_or, take, drop, length-drop}
 use lib.Seq.{sets, get_or-take, get_or-drop, length-take-le}
 use Rattle.wire.specs.Numbers.{digits}
-use Rattle.wire.proofs.Laws.{sets_then}
+use Rattle.wire.proofs.Laws.{part_filled, sets_then}
 use Rattle.protocol.specs.Refusal.{refusal, wrong_size, wrong_count, contradiction}
 use Rattle.protocol.specs.Service.{id_bytes}
 use Rattle.protocol.specs.Verdict.{fault_if, first_of, no_fault, Verdict}
@@ -23,7 +23,7 @@ use Rattle.pairs.specs.Pair.{range, range_bytes}
 use Rattle.device_services.specs.DeviceServices.{pair_place, fixed_part}
 use Rattle.services_writer.specs.declared.ServiceElement.{ServiceElement}
 use Rattle.services_writer.specs.ServicesWriter.{element_of, size_of, start_of, length_of, size_verdict, written_verdict, field_bytes, cid_piece, cid_bytes, element_bytes, pair_bytes, piece, bytes_of}
-use Rattle.services_writer.proofs.Laws.{length_fields, length_bytes, fitting, size_within, start_next, start_within, pair_next}
+use Rattle.services_writer.proofs.Laws.{length_fields, length_cids, length_bytes, fitting, size_within, start_next, start_within, pair_next}
 use Rattle.services_lists.specs.ServicesLists.{count_of, word_of, cids_counted, cids_before, element_said, record_of, bare_of, totalled, rest_verdict, lists_verdict, Totalled}
 use Rattle.std.specs.Prelude.{Ok, Err}
 
@@ -43,6 +43,14 @@ part_words : (s : List ℕ) (at n : ℕ) → at + n ≤ length s
     → cid_bytes (take (at + n - at) (drop at s)) (length (take (at + n - at) (drop at s))) ≡ cid_bytes (drop at s) n
 part_words s at n h =
     ap (cid_bytes (take (at + n - at) (drop at s))) (part_length s at n h) ∙ words_in (at + n - at) n (drop at s) (omega arith)
+
+-- words put at the front of their part of an output stand in the output from its place on
+pub words_put : (words out : List ℕ) (at k : ℕ) {t : List ℕ} → 4 * length words ≡ k → at + k ≤ length out
+    → (0 + 4 * length words ≤ length (take (at + k - at) (drop at out)) → t ≡ sets (take (at + k - at) (drop at out)) 0 (cid_bytes words (length words)))
+    → take at out ++ (t ++ drop (at + k - at) (drop at out)) ≡ sets out at (cid_bytes words (length words))
+words_put words out at k e room stored =
+    part_filled (cid_bytes words (length words)) out at (at + k - at) (length_cids words (length words) ∙ omega (arith, e)) (omega (arith, room))
+    (stored (omega (arith, e, part_length out at k room)))
 
 -- ---- a total and the verdict that it came from
 

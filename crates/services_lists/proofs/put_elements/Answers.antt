@@ -9,11 +9,10 @@ use lib.Seq.{sets, length-sets}
 use Rattle.folds.specs.Folds.{joined, sum_of}
 use Rattle.folds.proofs.Laws.{sum_next}
 use Rattle.device_services.specs.DeviceServices.{fixed_part}
-use Rattle.wire.proofs.Laws.{part_filled}
-use Rattle.services_writer.specs.ServicesWriter.{start_of, cid_bytes, piece}
-use Rattle.services_writer.proofs.Laws.{piece_next, length_cids}
+use Rattle.services_writer.specs.ServicesWriter.{start_of, piece}
+use Rattle.services_writer.proofs.Laws.{piece_next}
 use Rattle.services_lists.specs.ServicesLists.{count_of, cids_counted, record_of}
-use Rattle.services_lists.proofs.Laws.{start_more, element_inside, cids_inside, element_put, part_length}
+use Rattle.services_lists.proofs.Laws.{start_more, element_inside, cids_inside, element_put, part_length, words_put}
 use Rattle.services_lists.proofs.put_elements.Goals as goal
 
 pub loop-i-init : goal.loop-i-init
@@ -36,8 +35,7 @@ slice_bounds-put_words-end-in-loop-i-2 c =
     let whole = element_inside f c.args.cids.now v.i (omega (arith, c.loop-i-test.true, c.args.elements.counted)) v.invariant.1 c.cid_count-n.ensures c.requires.room in
     let same = simp length-sets at (ap length v.invariant.2) in
     let numbers = part_length f (7 * v.i) 7 (omega (arith, c.loop-i-test.true, c.args.elements.counted)) in
-    let fields = part_filled (cid_bytes _ _) v.out v.start (v.start + 28 - v.start) (length_cids _ _ ∙ omega (arith, numbers)) (omega (arith, whole, same))
-    (c.put_words.ensures.stored (omega (arith, numbers, part_length v.out v.start 28 (omega (arith, whole, same))))) in
+    let fields = words_put _ v.out v.start 28 (omega (arith, numbers)) (omega (arith, whole, same)) c.put_words.ensures.stored in
     omega (arith, whole, (simp length-sets at (ap length fields)) ∙ same)
 
 pub overflow_add-start : goal.overflow_add-start
@@ -75,12 +73,10 @@ loop-i-preserved c =
     let whole = element_inside f cids v.i below v.invariant.1 is c.requires.room in
     let same = simp length-sets at (ap length v.invariant.2) in
     let numbers = part_length f (7 * v.i) 7 (omega (arith, l, c.args.elements.counted)) in
-    let fields = part_filled (cid_bytes _ _) v.out v.start (v.start + 28 - v.start) (length_cids _ _ ∙ omega (arith, numbers)) (omega (arith, whole, same))
-    (c.put_words.ensures.stored (omega (arith, numbers, part_length v.out v.start 28 (omega (arith, whole, same))))) in
+    let fields = words_put _ v.out v.start 28 (omega (arith, numbers)) (omega (arith, whole, same)) c.put_words.ensures.stored in
     let same₁ = (simp length-sets at (ap length fields)) ∙ same in
     let mid : List ℕ = take v.start v.out ++ (c.put_words.new.out ++ drop (v.start + 28 - v.start) (drop v.start v.out)) in
-    let behind = part_filled (cid_bytes _ _) mid (v.start + 28) (v.start + 28 + 4 * n - (v.start + 28)) (length_cids _ _ ∙ omega (arith, part_length cids v.from n inside)) (omega (arith, whole, same₁))
-    (c.put_words-in-loop-i.ensures.stored (omega (arith, part_length cids v.from n inside, part_length mid (v.start + 28) (4 * n) (omega (arith, whole, same₁))))) in
+    let behind = words_put _ mid (v.start + 28) (4 * n) (omega (arith, part_length cids v.from n inside)) (omega (arith, whole, same₁)) c.put_words-in-loop-i.ensures.stored in
     let stored = element_put 0 f cids v.out v.i v.start v.from n below v.invariant.0 is inside fields behind in
     let next = start_more 0 f cids v.i below v.invariant.1 in
     (omega (arith, v.invariant.0, is, sum_next (cids_counted f) v.i), omega (arith, is, next), piece_next (record_of 0 f cids) v.i a.out.now v.invariant.2 v.invariant.1 stored)
